@@ -30,7 +30,7 @@ PARTS = [
 ]
 # The files with which the claims of docs/READING.md can be judged, all other names taken on trust.
 CLAIMS = [
-    ("What is answered is what the office answers", [RUN, "fx_cli/specs/Held", "office/specs/Answers", "app_wire/specs/Framing", "office/specs/Step"]),
+    ("What is answered is what the office answers", [RUN, "fx_cli/specs/Conversations", "office/specs/Answers", "app_wire/specs/Framing", "office/specs/Step"]),
     ("A value that is shown is its formula's, evaluated afresh", ["session_views/specs/Views", "app_semantics/specs/Needed", "app_semantics/specs/Fresh", "fx_semantics/specs/Fresh"]),
     ("A request acts once", ["numbered_requests/specs/Checks", "session_state/specs/Once"]),
     ("What acts does so whole", ["session_requests/specs/Posting", "session_requests/specs/Targets", "session_requests/specs/Running", "fx_behave/specs/Perform", "row_requests/specs/DeskRows", "row_requests/specs/Changes", "row_keeper/specs/Changes"]),
@@ -49,7 +49,7 @@ STEPS = [
     ("App files", ["app_file"], "The form of an app file, its limits, and what is read of it. Hold `FormOfApp` against `docs/APP_FILE.md`."),
     ("Formulas of an app", ["app_cells", "app_texts", "app_names", "depend_graph", "app_edits", "app_loader", "app_plans", "app_reports"], "From what a file holds to an app or to what is broken, stage by stage: `Judged` of `app_loader` goes through them in their order; the app in which one formula is replaced; and what is told of where formulas take rows and of what each reads."),
     ("What the formulas of an app are worth", ["session_state", "app_semantics", "recalc", "session_views"], "What a session keeps, and the values of an app's formulas over it, whatever their order."),
-    ("What formulas do that act", ["fx_places", "fx_deeds", "fx_behave", "session_requests/specs/Performing", "session_requests/specs/Grounds", "session_requests/specs/Opening", "session_requests/specs/Requests", "session_requests/specs/Running", "session_requests/specs/Scenes", "session_requests/specs/Triggers", "session_requests/src/trigger", "session_requests/specs/Whole", "session_requests/specs/Writable"], "What each function that acts makes of tables and a session, what a formula does by recursion on its tree, and what runs in one request."),
+    ("What formulas do that act", ["fx_places", "fx_deeds", "fx_behave", "session_requests/specs/Performing", "session_requests/specs/WorldContext", "session_requests/specs/Opening", "session_requests/specs/Requests", "session_requests/specs/Running", "session_requests/specs/Scenes", "session_requests/specs/Triggers", "session_requests/src/trigger", "session_requests/specs/WrittenWhole", "session_requests/specs/Writable"], "What each function that acts makes of tables and a session, what a formula does by recursion on its tree, and what runs in one request."),
     ("Requests and replies", ["app_wire", "view_text", "numbered_requests"], "From bytes to requests, from requests to routes, from replies to bytes, and the checks of numbered requests."),
     ("Requests of rows and of sessions", ["row_requests", "session_requests", "office/specs/DeskEdits"], "The bodies of posted requests, what a desk's changes do to tables and its edits to the app, pages of rows, and what a session's inputs and events do."),
     ("The office", ["office"], "What one request does, and what a whole conversation is."),

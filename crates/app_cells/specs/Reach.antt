@@ -1,6 +1,6 @@
 -- What a formula stands on: the sources that it names, and those that the formulas name to which paths of leaning lead from it.
 use Rattle.std.specs.Prelude.{◌≡◌, ◌↔◌, ℕ, List, Bool, true, false, Some, slice_get}
-use Rattle.fx_core.specs.Reads.{AreRising, IsAmong}
+use Rattle.fx_core.specs.Reads.{AreSourcesRising, IsAmong}
 use Rattle.fx_core.specs.declared.sources.Source.{Source}
 use Rattle.fx_core.specs.declared.sources.Source.TheVariants as source
 use Rattle.app_cells.specs.Leaning.{LeansOn}
@@ -19,5 +19,5 @@ is_cell s = false
 
 -- THE SUPPORT of the cell of this number: the sources, cells aside, that it reaches, each once
 pub record IsSupport (a : App) (k : ℕ) (support : List Source) : Type 0 where
-  pub once : AreRising support
+  pub once : AreSourcesRising support
   pub exact : (s : Source) → IsAmong s support ↔ ((is_cell s ≡ false) × Reaches a k s)

@@ -20,12 +20,12 @@ use Rattle.app_cells.specs.declared.frame.Frame.{Frame}
 abbrev pub screen_name : Frame → ℕ → List ℕ
 screen_name f s = unwrap_or (slice_get f.screens s) []
 
-abbrev pub name_in : Option ControlName → List ℕ
-name_in (Some c) = c.name
-name_in None = []
+abbrev pub name_of_control : Option ControlName → List ℕ
+name_of_control (Some c) = c.name
+name_of_control None = []
 
 abbrev pub control_name : Frame → ℕ → List ℕ
-control_name f k = name_in (slice_get f.controls k)
+control_name f k = name_of_control (slice_get f.controls k)
 
 -- a name and what of it is meant
 abbrev pub address_of_screen : Frame → ℕ → List ℕ
@@ -62,20 +62,20 @@ item_in k p (Some c) = item_or c.gallery (acts_for_gallery c.kind (encode_utf8_a
 item_in k p None = None
 
 -- the gallery whose item it sees
-abbrev pub item_of : Frame → Spot → Option ℕ
-item_of f (spot.Property k p) = item_in k p (slice_get f.controls k)
-item_of f s = None
+abbrev pub gallery_seen : Frame → Spot → Option ℕ
+gallery_seen f (spot.Property k p) = item_in k p (slice_get f.controls k)
+gallery_seen f s = None
 
 abbrev pub acts_in : List ℕ → Option ControlName → Bool
 acts_in p (Some c) = is_behaviour c.kind (encode_utf8_all p)
 acts_in p None = false
 
 -- whether it may act
-abbrev pub acts : Frame → Spot → Bool
-acts f (spot.Formula x) = false
-acts f spot.OnStart = true
-acts f (spot.OnVisible s) = true
-acts f (spot.Property k p) = acts_in p (slice_get f.controls k)
+abbrev pub can_act : Frame → Spot → Bool
+can_act f (spot.Formula x) = false
+can_act f spot.OnStart = true
+can_act f (spot.OnVisible s) = true
+can_act f (spot.Property k p) = acts_in p (slice_get f.controls k)
 
 -- the type that is wanted of a property: of a gallery's rows every table type
 abbrev pub wanted_by : Control → List ℕ → Option Shape
@@ -85,9 +85,9 @@ abbrev pub wanted_in : List ℕ → Option ControlName → Option Shape
 wanted_in p (Some c) = wanted_by c.kind (encode_utf8_all p)
 wanted_in p None = None
 
-abbrev pub wanted : Frame → Spot → Option Shape
-wanted f (spot.Property k p) = wanted_in p (slice_get f.controls k)
-wanted f s = None
+abbrev pub wanted_shape : Frame → Spot → Option Shape
+wanted_shape f (spot.Property k p) = wanted_in p (slice_get f.controls k)
+wanted_shape f s = None
 
 -- there is such a place: the screen, or the control, whose kind has the property
 abbrev pub IsSpot : Frame → Spot → Type 0
@@ -100,9 +100,9 @@ pub record IsPlaced (f : Frame) (c : Cell) : Type 0 where
   pub spot : IsSpot f c.spot
   pub name : c.name ≡ address f c.spot
   pub screen : c.screen ≡ screen_of f c.spot
-  pub item : c.item ≡ item_of f c.spot
-  pub acts : c.acts ≡ acts f c.spot
-  pub wanted : option_map shape c.wanted ≡ wanted f c.spot
+  pub item : c.item ≡ gallery_seen f c.spot
+  pub acts : c.acts ≡ can_act f c.spot
+  pub wanted : option_map shape c.wanted ≡ wanted_shape f c.spot
 
 -- The formula of a place, with this text and this tree, in which positions are told from this byte on.
 pub record IsCell (f : Frame) (s : Spot) (from : ℕ) (words : List ℕ) (e : Tree) (c : Cell) : Type 0 where
@@ -113,8 +113,8 @@ pub record IsCell (f : Frame) (s : Spot) (from : ℕ) (words : List ℕ) (e : Tr
   pub expr : c.expr ≡ e
 
 -- at most 63 columns, of types that columns may have
-abbrev pub IsTable : TableShape → Type 0
-IsTable t = (length t.columns ≤ 63) × All (λ (c : Column). IsColumnType c.ty) t.columns
+abbrev pub IsTableInLimits : TableShape → Type 0
+IsTableInLimits t = (length t.columns ≤ 63) × All (λ (c : Column). IsColumnType c.ty) t.columns
 
 abbrev pub IsControl : Frame → ControlName → Type 0
 IsControl f c = (c.screen < length f.screens) × IsLawfulGallery f.controls c.gallery
@@ -123,7 +123,7 @@ IsControl f c = (c.screen < length f.screens) × IsLawfulGallery f.controls c.ga
 -- stand on screens, and in galleries where they stand in something.
 pub record IsFrame (f : Frame) : Type 0 where
   pub few_tables : length f.schema.tables ≤ 32
-  pub tables : All IsTable f.schema.tables
+  pub tables : All IsTableInLimits f.schema.tables
   pub few_screens : length f.screens ≤ 64
   pub few_controls : length f.controls ≤ 500
   pub controls : All (IsControl f) f.controls

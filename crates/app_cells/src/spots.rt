@@ -118,7 +118,7 @@ fn item_in(number: u32, control: &ControlName, property: &Words) -> Option<u32>
 
 // The gallery whose item the formula at a place sees.
 fn item_of(frame: &Frame, spot: &Spot) -> Option<u32>
-    ensures { result ≡ spots.item_of frame.now spot.now }
+    ensures { result ≡ spots.gallery_seen frame.now spot.now }
 {
     match spot {
         Spot::Formula(_) | Spot::OnStart | Spot::OnVisible(_) => None,
@@ -131,7 +131,7 @@ fn item_of(frame: &Frame, spot: &Spot) -> Option<u32>
 
 // Whether the formula at a place may act.
 fn acts(frame: &Frame, spot: &Spot) -> bool
-    ensures { result ≡ spots.acts frame.now spot.now }
+    ensures { result ≡ spots.can_act frame.now spot.now }
 {
     match spot {
         Spot::Formula(_) => false,
@@ -156,7 +156,7 @@ fn wanted_by(alloc: Global, kind: Control, property: &Words) -> Option<Ty>
 
 // The type that is wanted of the formula at a place.
 fn due_type(alloc: Global, frame: &Frame, spot: &Spot) -> Option<Ty>
-    ensures { option_map shape result ≡ spots.wanted frame.now spot.now }
+    ensures { option_map shape result ≡ spots.wanted_shape frame.now spot.now }
 {
     match spot {
         Spot::Formula(_) | Spot::OnStart | Spot::OnVisible(_) => None,

@@ -18,36 +18,36 @@ use Rattle.app_file.specs.declared.steps.Step.TheVariants.{Member}
 use Rattle.app_file.specs.Contents.{words}
 use Rattle.app_file.specs.FormOfApp.{app_fields, column_fields, control_fields, property_names, screen_fields, table_fields, texts_at}
 use Rattle.app_file.specs.Forms.{HasKey, HasKeyIn, is_key}
-use Rattle.app_file.specs.Keys.{is_one_of, keys_of}
-use Rattle.app_file.specs.Readings.{HasOnlyKeys, HaveOnlyKeys, IsBadObject, IsBelow, TellsPath, none, other}
+use Rattle.app_file.specs.Keys.{is_known_key, keys_of}
+use Rattle.app_file.specs.Readings.{HasOnlyKeys, HaveOnlyKeys, IsBadObject, IsUnderStep, TellsPath, none, other}
 
 -- ---- the keys of each
-pub keys_of_app : (k : List ℕ) → is_key k app_fields ≡ is_one_of (keys_of object.App) k
+pub keys_of_app : (k : List ℕ) → is_key k app_fields ≡ is_known_key (keys_of object.App) k
 keys_of_app k = refl
 
-pub keys_of_table : (k : List ℕ) → is_key k table_fields ≡ is_one_of (keys_of object.Table) k
+pub keys_of_table : (k : List ℕ) → is_key k table_fields ≡ is_known_key (keys_of object.Table) k
 keys_of_table k = refl
 
-pub keys_of_column : (k : List ℕ) → is_key k column_fields ≡ is_one_of (keys_of object.Column) k
+pub keys_of_column : (k : List ℕ) → is_key k column_fields ≡ is_known_key (keys_of object.Column) k
 keys_of_column k = refl
 
-pub keys_of_screen : (k : List ℕ) → is_key k screen_fields ≡ is_one_of (keys_of object.Screen) k
+pub keys_of_screen : (k : List ℕ) → is_key k screen_fields ≡ is_known_key (keys_of object.Screen) k
 keys_of_screen k = refl
 
-pub keys_of_control : (before : List Data) (kind : Option Control) (k : List ℕ) → is_key k (control_fields before kind) ≡ is_one_of (keys_of object.Control) k
+pub keys_of_control : (before : List Data) (kind : Option Control) (k : List ℕ) → is_key k (control_fields before kind) ≡ is_known_key (keys_of object.Control) k
 keys_of_control before (Some kind) k = refl
 keys_of_control before None k = refl
 
-keys_of_texts : (names : List (List ℕ)) (k : List ℕ) → is_key k (texts_at names) ≡ is_one_of names k
+keys_of_texts : (names : List (List ℕ)) (k : List ℕ) → is_key k (texts_at names) ≡ is_known_key names k
 keys_of_texts [] k = refl
 keys_of_texts (n ∷ ns) k = ap (λ b. bytes_eq k n || b) (keys_of_texts ns k)
 
-pub keys_of_properties : (kind : Control) (k : List ℕ) → is_key k (texts_at (property_names kind)) ≡ is_one_of (keys_of (object.Properties kind)) k
+pub keys_of_properties : (kind : Control) (k : List ℕ) → is_key k (texts_at (property_names kind)) ≡ is_known_key (keys_of (object.Properties kind)) k
 keys_of_properties kind = keys_of_texts (property_names kind)
 
 -- ---- which keys are none of these
 abbrev other_in : List (List ℕ) → List ℕ → Bool
-other_in keys k = not (is_one_of keys k)
+other_in keys k = not (is_known_key keys k)
 
 abbrev keys_view : List (String Global × Value) → List (List ℕ)
 keys_view ms = map string_bytes (map (λ m. m.0) ms)
@@ -67,15 +67,15 @@ first_found false x k more e = let one : Some k ≡ Some x = e in inl (cc, refl)
 pub none_other : (keys : List (List ℕ)) (ms : List (String Global × Value)) → None ≡ find (other_in keys) (keys_view ms) → HaveOnlyKeys keys (members_view ms)
 none_other keys [] e = tt
 none_other keys (m ∷ ms) e =
-    let h = first_kept (is_one_of keys (string_bytes m.0)) (string_bytes m.0) (find (other_in keys) (keys_view ms)) e in
+    let h = first_kept (is_known_key keys (string_bytes m.0)) (string_bytes m.0) (find (other_in keys) (keys_view ms)) e in
     (h.0, none_other keys ms h.1)
 
 pub some_other : (keys : List (List ℕ)) (ms : List (String Global × Value)) (k : List ℕ) → Some k ≡ find (other_in keys) (keys_view ms)
-    → HasKeyIn k (members_view ms) × (is_one_of keys k ≡ false)
+    → HasKeyIn k (members_view ms) × (is_known_key keys k ≡ false)
 some_other keys [] k e = absurd cc
 some_other keys (m ∷ ms) k e =
-    elim (first_found (is_one_of keys (string_bytes m.0)) (string_bytes m.0) k (find (other_in keys) (keys_view ms)) e) [
-      | inl h ↦ (inl h.0, subst (λ x. is_one_of keys x ≡ false) h.0 h.1)
+    elim (first_found (is_known_key keys (string_bytes m.0)) (string_bytes m.0) k (find (other_in keys) (keys_view ms)) e) [
+      | inl h ↦ (inl h.0, subst (λ x. is_known_key keys x ≡ false) h.0 h.1)
       | inr h ↦ (let more = some_other keys ms k h in (inr more.0, more.1))
     ]
 
@@ -83,11 +83,11 @@ pub told_none : (keys : List (List ℕ)) (d : Data) → None ≡ as_object d →
 told_none keys d n e is = subst (TellsPath (IsBadObject keys d)) (sym is) (none keys d (sym n))
 
 pub told_other : (keys these : List (List ℕ)) (d : Data) (ms : List (String Global × Value)) (k : List ℕ) → these ≡ keys → Some (members_view ms) ≡ as_object d
-    → Some k ≡ find (other_in these) (keys_view ms) → (e r : OrMemory (List Step)) → e ≡ Refused [] → IsBelow (Member (scalars_of k)) e r → TellsPath (IsBadObject keys d) r
+    → Some k ≡ find (other_in these) (keys_view ms) → (e r : OrMemory (List Step)) → e ≡ Refused [] → IsUnderStep (Member (scalars_of k)) e r → TellsPath (IsBadObject keys d) r
 told_other keys these d ms k same is e _ Memory here b = tt
 told_other keys these d ms k same is e end (Refused path) here b =
     let found = some_other keys ms k (subst (λ ks. Some k ≡ find (other_in ks) (keys_view ms)) same e) in
-    let down : path ≡ Member (scalars_of k) ∷ [] = subst (λ x. IsBelow (Member (scalars_of k)) x (Refused path)) here b in
+    let down : path ≡ Member (scalars_of k) ∷ [] = subst (λ x. IsUnderStep (Member (scalars_of k)) x (Refused path)) here b in
     subst (IsBadObject keys d) (sym down) (other keys d k (subst (HasKey k) is found.0) found.1)
 
 pub only_these : (keys these : List (List ℕ)) (d : Data) (ms : List (String Global × Value)) → these ≡ keys → Some (members_view ms) ≡ as_object d

@@ -17,37 +17,37 @@ use Rattle.app_file.specs.declared.limits.Limit.TheVariants as limit
 use Rattle.app_file.specs.declared.steps.Step.{Step}
 use Rattle.app_file.specs.Contents.{app_of}
 use Rattle.app_file.specs.FormOfApp.{app_form}
-use Rattle.app_file.specs.Forms.{IsBad, IsFine}
+use Rattle.app_file.specs.Forms.{BreaksForm, IsFine}
 use Rattle.app_file.specs.Limits.{first_passed, limits}
 use Rattle.app_file.specs.Paths.{path_text}
 
 -- the most bytes of an app file
-abbrev pub most_bytes : ℕ
-most_bytes = 4194304
+abbrev pub most_file_bytes : ℕ
+most_file_bytes = 4194304
 
 -- The file isn't too long, and is this JSON. Of two members with one key the last one counts.
 pub record HasJson (file : List ℕ) (root : Data) : Type 0 where
-  pub short : length file ≤ most_bytes
+  pub short : length file ≤ most_file_bytes
   pub utf8 : IsUtf8 file
   pub json : read file ≡ Some root
 
 -- What is read of JSON: a part of it breaks the form, and of several such parts any is told; it passes a limit; or it holds
 -- an app.
 pub data IsReadOf : Data → Result AppFile FileBreak → Type 0 where
-  bad_part : (root : Data) (path : List Step) → IsBad app_form root path → IsReadOf root (Err (broken.BadPart (path_text path)))
+  bad_part : (root : Data) (path : List Step) → BreaksForm app_form root path → IsReadOf root (Err (broken.BadPart (path_text path)))
   passed : (root : Data) (l : Limit) (count : ℕ) → IsFine app_form root → first_passed limits (app_of root) ≡ Some (l, count) → IsReadOf root (Err (broken.Passed l count))
   app : (root : Data) → IsFine app_form root → first_passed limits (app_of root) ≡ None → IsReadOf root (Ok (app_of root))
 
 -- WHAT IS READ OF A FILE: it is too long, or it is no JSON, or this is read of its JSON.
 pub data IsRead : List ℕ → Result AppFile FileBreak → Type 0 where
-  too_long : (file : List ℕ) → most_bytes < length file → IsRead file (Err broken.TooLong)
-  no_json : (file : List ℕ) → length file ≤ most_bytes → ((root : Data) → HasJson file root → ⊥) → IsRead file (Err broken.NoJson)
+  too_long : (file : List ℕ) → most_file_bytes < length file → IsRead file (Err broken.TooLong)
+  no_json : (file : List ℕ) → length file ≤ most_file_bytes → ((root : Data) → HasJson file root → ⊥) → IsRead file (Err broken.NoJson)
   json : (file : List ℕ) (root : Data) (v : Result AppFile FileBreak) → HasJson file root → IsReadOf root v → IsRead file v
 
 -- an end tells of a break of which this holds; of want of memory nothing is said
-abbrev pub TellsBreak : (FileBreak → Type 0) → OrMemory FileBreak → Type 0
-TellsBreak P (end.Refused b) = P b
-TellsBreak P end.Memory = Unit {0}
+abbrev pub TellsFileBreak : (FileBreak → Type 0) → OrMemory FileBreak → Type 0
+TellsFileBreak P (end.Refused b) = P b
+TellsFileBreak P end.Memory = Unit {0}
 
 -- the limits by their names
 abbrev pub limit_name : Limit → List ℕ

@@ -29,19 +29,19 @@ abbrev pub anything : Form
 anything = such (λ d. true)
 
 -- a text, and one that isn't empty
-abbrev pub filled : List ℕ → Option (List ℕ)
-filled [] = None
-filled (c ∷ text) = Some (c ∷ text)
+abbrev pub nonempty : List ℕ → Option (List ℕ)
+nonempty [] = None
+nonempty (c ∷ text) = Some (c ∷ text)
 
 abbrev pub filled_text : Data → Option (List ℕ)
-filled_text d = option_and_then filled (as_str d)
+filled_text d = option_and_then nonempty (as_str d)
 
 -- the one format
 abbrev pub format_named : List ℕ → Option Format
 format_named t = if bytes_eq t (codes "pfx-1") then Some First else None
 
-abbrev pub format_of : Data → Option Format
-format_of d = option_and_then format_named (as_str d)
+abbrev pub format_member : Data → Option Format
+format_member d = option_and_then format_named (as_str d)
 
 -- a whole number from 1 to 2,000
 abbrev pub row_limit_of_number : ℕ → Option ℕ
@@ -72,8 +72,8 @@ kind_named t =
     else (if bytes_eq t (codes "DatePicker") then Some control.DatePicker
     else (if bytes_eq t (codes "Gallery") then Some control.Gallery else None))))))
 
-abbrev pub kind_of : Data → Option Control
-kind_of d = option_and_then kind_named (as_str d)
+abbrev pub control_kind : Data → Option Control
+control_kind d = option_and_then kind_named (as_str d)
 
 abbrev pub text : Form
 text = leaf as_str
@@ -123,30 +123,30 @@ abbrev pub is_text_at : List ℕ → List ℕ → Data → Bool
 is_text_at key t d = is_this t (option_and_then as_str (get key d))
 
 -- a control is a gallery of this name
-abbrev pub is_gallery : List ℕ → Data → Bool
-is_gallery x d = is_text_at (codes "name") x d && is_text_at (codes "kind") (codes "Gallery") d
+abbrev pub is_gallery_shape : List ℕ → Data → Bool
+is_gallery_shape x d = is_text_at (codes "name") x d && is_text_at (codes "kind") (codes "Gallery") d
 
 -- the place of the first gallery of this name among these controls
 abbrev pub gallery_place : List Data → List ℕ → Option ℕ
-gallery_place before x = position_from (is_gallery x) 0 before
+gallery_place before x = position_from (is_gallery_shape x) 0 before
 
 -- the place of the gallery that is named, before a control of this kind, which may stand in it
-abbrev pub gallery_of : List Data → Control → Data → Option ℕ
-gallery_of before kind d = if may_stand_in_gallery kind then option_and_then (gallery_place before) (as_str d) else None
+abbrev pub gallery_before : List Data → Control → Data → Option ℕ
+gallery_before before kind d = if may_stand_in_gallery kind then option_and_then (gallery_place before) (as_str d) else None
 
 -- what a kind asks of its control
 abbrev pub control_fields : List Data → Option Control → Fields
 control_fields before (Some kind) =
-    must (codes "name") name (must (codes "kind") (leaf kind_of) (may (codes "in") (leaf (gallery_of before kind)) (may (codes "properties") (properties_form kind) no_more)))
+    must (codes "name") name (must (codes "kind") (leaf control_kind) (may (codes "in") (leaf (gallery_before before kind)) (may (codes "properties") (properties_form kind) no_more)))
 control_fields before None =
-    must (codes "name") name (must (codes "kind") (leaf kind_of) (may (codes "in") anything (may (codes "properties") anything no_more)))
+    must (codes "name") name (must (codes "kind") (leaf control_kind) (may (codes "in") anything (may (codes "properties") anything no_more)))
 
-abbrev pub kind_in : Data → Option Control
-kind_in d = option_and_then kind_of (get (codes "kind") d)
+abbrev pub kind_member : Data → Option Control
+kind_member d = option_and_then control_kind (get (codes "kind") d)
 
 -- a control behind these of its screen
 abbrev pub control_form : List Data → Form
-control_form before = by_itself (λ d. members (control_fields before (kind_in d)))
+control_form before = by_itself (λ d. members (control_fields before (kind_member d)))
 
 abbrev pub screen_fields : Fields
 screen_fields = must (codes "name") name (may (codes "onVisible") text (must (codes "controls") (in_turn control_form) no_more))
@@ -167,7 +167,7 @@ screens_form = by_itself (λ d. screens_form_of (is_empty_list (elements d)))
 -- THE FORM OF AN APP FILE
 abbrev pub app_fields : Fields
 app_fields =
-    must (codes "format") (leaf format_of) (may (codes "rowLimit") (leaf row_limit_of) (may (codes "tables") (each (members table_fields))
+    must (codes "format") (leaf format_member) (may (codes "rowLimit") (leaf row_limit_of) (may (codes "tables") (each (members table_fields))
     (may (codes "formulas") text (may (codes "onStart") text (must (codes "screens") screens_form no_more)))))
 
 abbrev pub app_form : Form

@@ -32,12 +32,12 @@ is_key k no_more = false
 is_key k (field needed key f fs) = bytes_eq k key || is_key k fs
 
 -- the elements of a list
-abbrev pub list_of : Items → List Data
-list_of no_items = []
-list_of (item d ds) = d ∷ list_of ds
+abbrev pub elements_of : Items → List Data
+elements_of no_items = []
+elements_of (item d ds) = d ∷ elements_of ds
 
 abbrev pub elements : Data → Option (List Data)
-elements d = option_map list_of (as_array d)
+elements d = option_map elements_of (as_array d)
 
 -- an object has this key
 abbrev pub HasKeyIn : List ℕ → Members → Type 0
@@ -49,19 +49,19 @@ HasKey key None = ⊥
 HasKey key (Some ms) = HasKeyIn key ms
 
 -- THE PARTS THAT BREAK A FORM: in data that is to have this form, the part that lies down these steps does.
-pub data IsBad : Form → Data → List Step → Type 0 where
-  not_such : (p : Data → Bool) (d : Data) → p d ≡ false → IsBad (such p) d []
-  no_list : (f : List Data → Form) (d : Data) → as_array d ≡ None → IsBad (in_turn f) d []
+pub data BreaksForm : Form → Data → List Step → Type 0 where
+  not_such : (p : Data → Bool) (d : Data) → p d ≡ false → BreaksForm (such p) d []
+  no_list : (f : List Data → Form) (d : Data) → as_array d ≡ None → BreaksForm (in_turn f) d []
   bad_element : (f : List Data → Form) (d x : Data) (ds : List Data) (k : ℕ) (path : List Step) → elements d ≡ Some ds → slice_get ds k ≡ Some x
-      → IsBad (f (take k ds)) x path → IsBad (in_turn f) d (Element k ∷ path)
-  no_object : (fs : Fields) (d : Data) → as_object d ≡ None → IsBad (members fs) d []
-  other_member : (fs : Fields) (d : Data) (key : List ℕ) → HasKey key (as_object d) → is_key key fs ≡ false → IsBad (members fs) d (Member (scalars_of key) ∷ [])
+      → BreaksForm (f (take k ds)) x path → BreaksForm (in_turn f) d (Element k ∷ path)
+  no_object : (fs : Fields) (d : Data) → as_object d ≡ None → BreaksForm (members fs) d []
+  other_member : (fs : Fields) (d : Data) (key : List ℕ) → HasKey key (as_object d) → is_key key fs ≡ false → BreaksForm (members fs) d (Member (scalars_of key) ∷ [])
   no_member : (fs : Fields) (d : Data) (key : List ℕ) (f : Form) → is_some (as_object d) ≡ true → IsField true key f fs → get key d ≡ None
-      → IsBad (members fs) d (Member (scalars_of key) ∷ [])
+      → BreaksForm (members fs) d (Member (scalars_of key) ∷ [])
   bad_member : (fs : Fields) (d x : Data) (needed : Bool) (key : List ℕ) (f : Form) (path : List Step) → IsField needed key f fs → get key d ≡ Some x
-      → IsBad f x path → IsBad (members fs) d (Member (scalars_of key) ∷ path)
-  bad_by_itself : (f : Data → Form) (d : Data) (path : List Step) → IsBad (f d) d path → IsBad (by_itself f) d path
+      → BreaksForm f x path → BreaksForm (members fs) d (Member (scalars_of key) ∷ path)
+  bad_by_itself : (f : Data → Form) (d : Data) (path : List Step) → BreaksForm (f d) d path → BreaksForm (by_itself f) d path
 
 -- data has the form: no part breaks it
 abbrev pub IsFine : Form → Data → Type 0
-IsFine f d = (path : List Step) → IsBad f d path → ⊥
+IsFine f d = (path : List Step) → BreaksForm f d path → ⊥

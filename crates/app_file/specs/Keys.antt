@@ -14,5 +14,5 @@ keys_of object.Control = codes "name" ∷ codes "kind" ∷ codes "in" ∷ codes 
 keys_of (object.Properties kind) = property_names kind
 
 -- a key is one of these
-abbrev pub is_one_of : List (List ℕ) → List ℕ → Bool
-is_one_of keys key = list_any (bytes_eq key) keys
+abbrev pub is_known_key : List (List ℕ) → List ℕ → Bool
+is_known_key keys key = list_any (bytes_eq key) keys

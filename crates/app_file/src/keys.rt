@@ -3,7 +3,7 @@ ghost use Rattle.std.specs.Prelude.{◌≡◌, IfErr, OnOk, find, map, not, opti
 ghost use Rattle.std.specs.BTreeMap.{keys as keys_in};
 ghost use Rattle.serde_json.specs.Find.{as_object};
 ghost use Rattle.serde_json.specs.View.{view};
-ghost use Rattle.app_file.specs.Keys.{is_one_of, keys_of};
+ghost use Rattle.app_file.specs.Keys.{is_known_key, keys_of};
 ghost use Rattle.app_file.specs.Readings.{HasOnlyKeys, IsBadObject, TellsPath};
 
 use crate::paths::{Unread, in_member, unreadable};
@@ -68,7 +68,7 @@ pub fn keys_of(object: Object) -> &'static [&'static str]
 
 // Whether a key is one of these.
 fn is_one_of(key: &str, keys: &[&str]) -> bool
-    ensures { result ≡ is_one_of (map (λ k. k.now) keys.now) key.now }
+    ensures { result ≡ is_known_key (map (λ k. k.now) keys.now) key.now }
 {
     for other in keys {
         if key == *other {
@@ -81,7 +81,7 @@ fn is_one_of(key: &str, keys: &[&str]) -> bool
 // The first key that is none of these.
 fn other_key<'a>(members: &'a Map<String, Json>, keys: &[&str]) -> Option<&'a str>
     ensures { option_map (λ k. k.now) result
-        ≡ find (λ k. not (is_one_of (map (λ x. x.now) keys.now) k)) (map string_bytes (keys_in members.now)) }
+        ≡ find (λ k. not (is_known_key (map (λ x. x.now) keys.now) k)) (map string_bytes (keys_in members.now)) }
 {
     for key in members.keys() {
         if !is_one_of(key.as_str(), keys) {

@@ -53,7 +53,7 @@ fn filled_text(part: &Json) -> Option<&str>
 }
 
 fn unless_empty(text: &str) -> Option<&str>
-    ensures { option_map (λ s. s.now) result ≡ form_of_app.filled text.now }
+    ensures { option_map (λ s. s.now) result ≡ form_of_app.nonempty text.now }
 {
     if text.is_empty() { None } else { Some(text) }
 }
@@ -126,7 +126,7 @@ impl Part for RowLimit {
 }
 
 fn format_of(part: &Json) -> Option<Format>
-    ensures { result ≡ form_of_app.format_of (view part.now) }
+    ensures { result ≡ form_of_app.format_member (view part.now) }
 {
     match part.as_str() {
         Some(name) => format_named(name),
@@ -146,12 +146,12 @@ fn format_named(name: &str) -> Option<Format>
 
 impl Part for Format {
     ghost use Rattle.std.specs.Prelude.{unwrap_or};
-    ghost use Rattle.app_file.specs.FormOfApp.{leaf, format_of};
+    ghost use Rattle.app_file.specs.FormOfApp.{leaf, format_member};
     ghost use Rattle.app_file.specs.declared.leaves.Format.TheVariants as formats;
 
-    ghost form = { leaf format_of };
+    ghost form = { leaf format_member };
 
-    ghost held = { λ d. unwrap_or (format_of d) formats.First };
+    ghost held = { λ d. unwrap_or (format_member d) formats.First };
 
     fn read(alloc: Global, part: &Json) -> Result<Format, Unread> {
         match format_of(part) {
@@ -187,12 +187,12 @@ fn type_named(name: &str) -> Option<Ty>
 }
 
 impl Part for Ty {
-    ghost use Rattle.app_file.specs.Contents.{column_type};
+    ghost use Rattle.app_file.specs.Contents.{column_ty};
     ghost use Rattle.app_file.specs.FormOfApp.{column_type_of, leaf};
 
     ghost form = { leaf column_type_of };
 
-    ghost held = { column_type };
+    ghost held = { column_ty };
 
     fn read(alloc: Global, part: &Json) -> Result<Ty, Unread> {
         match column_type_of(part) {
@@ -203,7 +203,7 @@ impl Part for Ty {
 }
 
 fn kind_of(part: &Json) -> Option<Control>
-    ensures { result ≡ form_of_app.kind_of (view part.now) }
+    ensures { result ≡ form_of_app.control_kind (view part.now) }
 {
     match part.as_str() {
         Some(name) => kind_named(name),
@@ -235,9 +235,9 @@ fn kind_named(name: &str) -> Option<Control>
 
 impl Part for Control {
     ghost use Rattle.app_file.specs.Contents.{kind};
-    ghost use Rattle.app_file.specs.FormOfApp.{kind_of, leaf};
+    ghost use Rattle.app_file.specs.FormOfApp.{control_kind, leaf};
 
-    ghost form = { leaf kind_of };
+    ghost form = { leaf control_kind };
 
     ghost held = { kind };
 

@@ -39,7 +39,7 @@ static LIMITS: [Limit; 7] = [
 impl Limit {
     /// The most that there may be.
     pub fn most(self) -> usize
-        ensures { result ≡ table.most_of self }
+        ensures { result ≡ table.most_allowed self }
     {
         match self {
             Limit::Formula => 8_192,
@@ -60,13 +60,13 @@ fn length_of(name: &Words) -> usize
 }
 
 fn bytes_of(text: &Words) -> usize
-    ensures { result ≡ table.bytes_of text.now }
+    ensures { result ≡ table.utf8_length text.now }
 {
     text.as_str().len()
 }
 
 fn put_control_texts(control: &ControlShape, counts: &mut Vec<usize>) -> Result<(), Memory>
-    ensures { OnOk result (counts.new.items ≡ counts.old.items ++ map table.bytes_of (table.control_texts control.now)) }
+    ensures { OnOk result (counts.new.items ≡ counts.old.items ++ map table.utf8_length (table.control_texts control.now)) }
 {
     for property in control.properties.as_slice() {
         counts.push(bytes_of(&property.text))?;
@@ -75,7 +75,7 @@ fn put_control_texts(control: &ControlShape, counts: &mut Vec<usize>) -> Result<
 }
 
 fn put_screen_texts(screen: &ScreenShape, counts: &mut Vec<usize>) -> Result<(), Memory>
-    ensures { OnOk result (counts.new.items ≡ counts.old.items ++ map table.bytes_of (table.screen_texts screen.now)) }
+    ensures { OnOk result (counts.new.items ≡ counts.old.items ++ map table.utf8_length (table.screen_texts screen.now)) }
 {
     counts.push(bytes_of(&screen.on_visible))?;
     for control in screen.controls.as_slice() {
@@ -86,7 +86,7 @@ fn put_screen_texts(screen: &ScreenShape, counts: &mut Vec<usize>) -> Result<(),
 
 // The bytes of the formulas that stand by themselves.
 fn text_counts(alloc: Global, app: &AppFile) -> Result<Vec<usize>, Memory>
-    ensures { IfOk result (λ v. v.items ≡ map table.bytes_of (table.texts_of app.now)) }
+    ensures { IfOk result (λ v. v.items ≡ map table.utf8_length (table.texts_of app.now)) }
 {
     let mut counts = Vec::new(alloc);
     counts.push(bytes_of(&app.on_start))?;
@@ -97,7 +97,7 @@ fn text_counts(alloc: Global, app: &AppFile) -> Result<Vec<usize>, Memory>
 }
 
 fn put_table_names(shape: &TableShape, counts: &mut Vec<usize>) -> Result<(), Memory>
-    ensures { OnOk result (counts.new.items ≡ counts.old.items ++ map length (table.table_names shape.now)) }
+    ensures { OnOk result (counts.new.items ≡ counts.old.items ++ map length (table.names_of_table shape.now)) }
 {
     counts.push(length_of(&shape.name))?;
     for column in shape.columns.as_slice() {
@@ -107,7 +107,7 @@ fn put_table_names(shape: &TableShape, counts: &mut Vec<usize>) -> Result<(), Me
 }
 
 fn put_control_names(screen: &ScreenShape, counts: &mut Vec<usize>) -> Result<(), Memory>
-    ensures { OnOk result (counts.new.items ≡ counts.old.items ++ map length (table.control_names screen.now)) }
+    ensures { OnOk result (counts.new.items ≡ counts.old.items ++ map length (table.names_of_controls screen.now)) }
 {
     for control in screen.controls.as_slice() {
         counts.push(length_of(&control.name))?;
@@ -116,7 +116,7 @@ fn put_control_names(screen: &ScreenShape, counts: &mut Vec<usize>) -> Result<()
 }
 
 fn put_screen_names(screen: &ScreenShape, counts: &mut Vec<usize>) -> Result<(), Memory>
-    ensures { OnOk result (counts.new.items ≡ counts.old.items ++ map length (table.screen_names screen.now)) }
+    ensures { OnOk result (counts.new.items ≡ counts.old.items ++ map length (table.names_of_screen screen.now)) }
 {
     counts.push(length_of(&screen.name))?;
     put_control_names(screen, counts)
@@ -124,7 +124,7 @@ fn put_screen_names(screen: &ScreenShape, counts: &mut Vec<usize>) -> Result<(),
 
 // The characters of all names.
 fn name_counts(alloc: Global, app: &AppFile) -> Result<Vec<usize>, Memory>
-    ensures { IfOk result (λ v. v.items ≡ map length (table.names_of app.now)) }
+    ensures { IfOk result (λ v. v.items ≡ map length (table.names_of_app app.now)) }
 {
     let mut counts = Vec::new(alloc);
     for shape in app.schema.tables.as_slice() {

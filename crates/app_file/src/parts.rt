@@ -3,9 +3,9 @@ ghost use Rattle.std.specs.Prelude.{◌≡◌, List, [], Some, IfErr, IfOk, fals
 ghost use Rattle.serde_json.specs.Data.{Data};
 ghost use Rattle.serde_json.specs.Find.{as_object, get};
 ghost use Rattle.serde_json.specs.View.{view};
-ghost use Rattle.app_file.specs.Contents.{all_behind, at};
-ghost use Rattle.app_file.specs.Forms.{Form, IsBad, IsFine};
-ghost use Rattle.app_file.specs.Readings.{AreFine, IsBadAmong, IsBadMember, IsFineMember, TellsPath};
+ghost use Rattle.app_file.specs.Contents.{all_behind, member_at};
+ghost use Rattle.app_file.specs.Forms.{Form, BreaksForm, IsFine};
+ghost use Rattle.app_file.specs.Readings.{AreWellFormed, IsBadAmong, IsBadMember, IsFineMember, TellsPath};
 
 use crate::paths::{Unread, in_element, in_member, unread_member, unreadable};
 use fx_base::InOrder;
@@ -21,7 +21,7 @@ pub trait Part: Sized {
     /// The part that the JSON is.
     fn read(alloc: Global, part: &Json) -> Result<Self, Unread>
         ensures ok { IfOk result (λ a. IsFine form (view part.now) × (a ≡ held (view part.now))) }
-        ensures bad { IfErr result (TellsPath (IsBad form (view part.now))) };
+        ensures bad { IfErr result (TellsPath (BreaksForm form (view part.now))) };
 }
 
 /// What is read of an element of a list, whose form may ask for those before it.
@@ -34,7 +34,7 @@ pub trait Element: Sized {
     fn read_behind(alloc: Global, before: &[Json], part: &Json) -> Result<Self, Unread>
         ensures ok { IfOk result (λ a. IsFine (element_form (map view before.now)) (view part.now)
             × (a ≡ element_held (map view before.now) (view part.now))) }
-        ensures bad { IfErr result (TellsPath (IsBad (element_form (map view before.now)) (view part.now))) };
+        ensures bad { IfErr result (TellsPath (BreaksForm (element_form (map view before.now)) (view part.now))) };
 }
 
 /// A member that must stand.
@@ -61,7 +61,7 @@ pub fn read_member_or<T: Part + Drop>(
     default: T,
 ) -> Result<T, Unread>
     ensures ok { IfOk result (λ a. IsFineMember false T.form (get key.now (view part.now))
-        × (a ≡ at T.held key.now default (view part.now))) }
+        × (a ≡ member_at T.held key.now default (view part.now))) }
     ensures bad { IfErr result (TellsPath (IsBadMember false key.now T.form (view part.now))) }
 {
     match part.get(key) {
@@ -75,7 +75,7 @@ pub fn read_member_or<T: Part + Drop>(
 
 // The elements of a list.
 fn read_all<T: Element + Drop>(alloc: Global, items: &[Json]) -> Result<InOrder<T>, Unread>
-    ensures ok { IfOk result (λ a. AreFine T.element_form (map view items.now)
+    ensures ok { IfOk result (λ a. AreWellFormed T.element_form (map view items.now)
         × (a ≡ all_behind T.element_held [] (map view items.now))) }
     ensures bad { IfErr result (TellsPath (IsBadAmong T.element_form (map view items.now))) }
 {
@@ -90,12 +90,12 @@ fn read_all<T: Element + Drop>(alloc: Global, items: &[Json]) -> Result<InOrder<
 }
 
 impl<T: Element + Drop> Part for InOrder<T> {
-    ghost use Rattle.app_file.specs.Contents.{all};
+    ghost use Rattle.app_file.specs.Contents.{all_elements};
     ghost use Rattle.app_file.specs.Forms.{in_turn};
 
     ghost form = { in_turn T.element_form };
 
-    ghost held = { all T.element_held };
+    ghost held = { all_elements T.element_held };
 
     fn read(alloc: Global, part: &Json) -> Result<InOrder<T>, Unread> {
         match part.as_array() {

@@ -4,7 +4,7 @@ ghost use Rattle.fx_base.specs.declared.or_memory.OrMemory.TheVariants as end;
 ghost use Rattle.fx_types.specs.Words.{scalars_of};
 ghost use Rattle.app_file.specs.declared.steps.Step.TheVariants as step;
 ghost use Rattle.app_file.specs.Paths.{path_text, step_text};
-ghost use Rattle.app_file.specs.Readings.{IsBelow, TellsPath};
+ghost use Rattle.app_file.specs.Readings.{IsUnderStep, TellsPath};
 
 use crate::steps::Step;
 use fx_base::{Memory, OrMemory};
@@ -84,7 +84,7 @@ pub fn unreadable(alloc: Global) -> Unread
 
 // The end of a part, told from above a step.
 fn above(step: Step, end: Unread) -> Unread
-    ensures { IsBelow step end result }
+    ensures { IsUnderStep step end result }
 {
     match end {
         OrMemory::Refused(mut path) => match path.put_first(step) {
@@ -97,7 +97,7 @@ fn above(step: Step, end: Unread) -> Unread
 
 /// The end of a member, told of its object.
 pub fn in_member(alloc: Global, key: &str, end: Unread) -> Unread
-    ensures { IsBelow (step.Member (scalars_of key.now)) end result }
+    ensures { IsUnderStep (step.Member (scalars_of key.now)) end result }
 {
     match Words::of(alloc, key) {
         Ok(key) => above(Step::Member(key), end),
@@ -107,7 +107,7 @@ pub fn in_member(alloc: Global, key: &str, end: Unread) -> Unread
 
 /// The end of an element, told of its list.
 pub fn in_element(place: usize, end: Unread) -> Unread
-    ensures { IsBelow (step.Element place) end result }
+    ensures { IsUnderStep (step.Element place) end result }
 {
     above(Step::Element(place), end)
 }

@@ -2,9 +2,9 @@
 ghost use Rattle.std.specs.Prelude.{◌≡◌, Err, IfErr, IfOk, Ok};
 ghost use Rattle.serde_json.specs.View.{view};
 ghost use Rattle.app_file.specs.Contents.{app_of};
-ghost use Rattle.app_file.specs.Files.{IsBadPartOf, IsRead, IsReadOf, TellsBreak};
+ghost use Rattle.app_file.specs.Files.{IsBadPartOf, IsRead, IsReadOf, TellsFileBreak};
 ghost use Rattle.app_file.specs.FormOfApp.{app_form};
-ghost use Rattle.app_file.specs.Forms.{IsBad, IsFine};
+ghost use Rattle.app_file.specs.Forms.{BreaksForm, IsFine};
 ghost use Rattle.app_file.specs.Readings.{TellsPath};
 
 use crate::breaks::FileBreak;
@@ -32,7 +32,7 @@ const ROW_LIMIT: RowLimit = RowLimit(500);
 /// the texts of formulas are.
 pub fn read(alloc: Global, bytes: &[u8]) -> Result<AppFile, OrMemory<FileBreak>>
     ensures app { IfOk result (λ a. IsRead bytes.now (Ok a)) }
-    ensures refused { IfErr result (TellsBreak (λ b. IsRead bytes.now (Err b))) }
+    ensures refused { IfErr result (TellsFileBreak (λ b. IsRead bytes.now (Err b))) }
 {
     if bytes.len() > MOST_BYTES {
         return Err(OrMemory::Refused(FileBreak::TooLong));
@@ -50,7 +50,7 @@ pub fn read(alloc: Global, bytes: &[u8]) -> Result<AppFile, OrMemory<FileBreak>>
 // The app that a file's JSON holds.
 fn app_in(alloc: Global, root: &Json) -> Result<AppFile, OrMemory<FileBreak>>
     ensures app { IfOk result (λ a. IsReadOf (view root.now) (Ok a)) }
-    ensures refused { IfErr result (TellsBreak (λ b. IsReadOf (view root.now) (Err b))) }
+    ensures refused { IfErr result (TellsFileBreak (λ b. IsReadOf (view root.now) (Err b))) }
 {
     let app = match read_app(alloc, root) {
         Ok(app) => app,
@@ -78,7 +78,7 @@ fn bad_part(alloc: Global, end: Unread) -> OrMemory<FileBreak>
 // The app that JSON of the form is.
 fn read_app(alloc: Global, root: &Json) -> Result<AppFile, Unread>
     ensures app { IfOk result (λ a. IsFine app_form (view root.now) × (a ≡ app_of (view root.now))) }
-    ensures bad { IfErr result (TellsPath (IsBad app_form (view root.now))) }
+    ensures bad { IfErr result (TellsPath (BreaksForm app_form (view root.now))) }
 {
     check_keys(alloc, root, Object::App)?;
     let _format: Format = read_member(alloc, root, "format")?;

@@ -3,10 +3,10 @@ ghost use Rattle.std.specs.Prelude.{◌≡◌, ◌++◌, ◌∷◌, [], IfErr, I
 ghost use Rattle.serde_json.specs.Find.{get};
 ghost use Rattle.serde_json.specs.View.{view};
 ghost use Rattle.app_file.specs.Contents as held;
-ghost use Rattle.app_file.specs.Contents.{at};
+ghost use Rattle.app_file.specs.Contents.{member_at};
 ghost use Rattle.app_file.specs.FormOfApp as form_of_app;
 ghost use Rattle.app_file.specs.FormOfApp.{leaf, properties_form};
-ghost use Rattle.app_file.specs.Forms.{IsBad, IsFine, elements};
+ghost use Rattle.app_file.specs.Forms.{BreaksForm, IsFine, elements};
 ghost use Rattle.app_file.specs.Readings.{IsBadMember, IsFineMember, TellsPath};
 
 use crate::file::{ControlShape, PropertyText, ScreenShape};
@@ -37,7 +37,7 @@ fn is_text_at(key: &str, text: &str, part: &Json) -> bool
 }
 
 fn is_gallery(name: &str, control: &Json) -> bool
-    ensures { result ≡ form_of_app.is_gallery name.now (view control.now) }
+    ensures { result ≡ form_of_app.is_gallery_shape name.now (view control.now) }
 {
     is_text_at("name", name, control) && is_text_at("kind", "Gallery", control)
 }
@@ -56,7 +56,7 @@ fn gallery_place(before: &[Json], name: &str) -> Option<usize>
 
 // The place of the gallery that is named, before a control of this kind, which may stand in it.
 fn gallery_of(before: &[Json], kind: Control, part: &Json) -> Option<usize>
-    ensures { result ≡ form_of_app.gallery_of (map view before.now) kind (view part.now) }
+    ensures { result ≡ form_of_app.gallery_before (map view before.now) kind (view part.now) }
 {
     if !may_stand_in_gallery(kind) {
         return None;
@@ -74,9 +74,9 @@ fn read_gallery(
     kind: Control,
     part: &Json,
 ) -> Result<Option<usize>, Unread>
-    ensures ok { IfOk result (λ g. IsFineMember false (leaf (form_of_app.gallery_of (map view before.now) kind)) (get (codes "in") (view part.now))
-        × (g ≡ option_and_then (form_of_app.gallery_of (map view before.now) kind) (get (codes "in") (view part.now)))) }
-    ensures bad { IfErr result (TellsPath (IsBadMember false (codes "in") (leaf (form_of_app.gallery_of (map view before.now) kind)) (view part.now))) }
+    ensures ok { IfOk result (λ g. IsFineMember false (leaf (form_of_app.gallery_before (map view before.now) kind)) (get (codes "in") (view part.now))
+        × (g ≡ option_and_then (form_of_app.gallery_before (map view before.now) kind) (get (codes "in") (view part.now)))) }
+    ensures bad { IfErr result (TellsPath (IsBadMember false (codes "in") (leaf (form_of_app.gallery_before (map view before.now) kind)) (view part.now))) }
 {
     match part.get("in") {
         Some(member) => match gallery_of(before, kind, member) {
@@ -125,7 +125,7 @@ fn read_properties(
     part: &Json,
 ) -> Result<InOrder<PropertyText>, Unread>
     ensures ok { IfOk result (λ ps. IsFine (properties_form kind) (view part.now) × (ps ≡ held.properties kind (view part.now))) }
-    ensures bad { IfErr result (TellsPath (IsBad (properties_form kind) (view part.now))) }
+    ensures bad { IfErr result (TellsPath (BreaksForm (properties_form kind) (view part.now))) }
 {
     check_keys(alloc, part, Object::Properties(kind))?;
     let mut properties = InOrder::new(alloc);
@@ -139,7 +139,7 @@ fn read_properties(
 // The properties of a control of this kind, if some are written.
 fn properties_at(alloc: Global, kind: Control, part: &Json) -> Result<InOrder<PropertyText>, Unread>
     ensures ok { IfOk result (λ ps. IsFineMember false (properties_form kind) (get (codes "properties") (view part.now))
-        × (ps ≡ at (held.properties kind) (codes "properties") [] (view part.now))) }
+        × (ps ≡ member_at (held.properties kind) (codes "properties") [] (view part.now))) }
     ensures bad { IfErr result (TellsPath (IsBadMember false (codes "properties") (properties_form kind) (view part.now))) }
 {
     match part.get("properties") {
@@ -212,12 +212,12 @@ fn is_empty_list(part: &Json) -> bool
 }
 
 impl Part for Screens {
-    ghost use Rattle.app_file.specs.Contents.{all, screen};
+    ghost use Rattle.app_file.specs.Contents.{all_elements, screen};
     ghost use Rattle.app_file.specs.FormOfApp.{screens_form};
 
     ghost form = { screens_form };
 
-    ghost held = { λ d. record { 0 = all screen d } };
+    ghost held = { λ d. record { 0 = all_elements screen d } };
 
     fn read(alloc: Global, part: &Json) -> Result<Screens, Unread> {
         if is_empty_list(part) {

@@ -37,13 +37,13 @@ impl Element for Column {
 }
 
 impl Element for TableShape {
-    ghost use Rattle.app_file.specs.Contents.{table};
+    ghost use Rattle.app_file.specs.Contents.{table_shape};
     ghost use Rattle.app_file.specs.FormOfApp.{table_fields};
     ghost use Rattle.app_file.specs.Forms.{members};
 
     ghost element_form = { λ before. members table_fields };
 
-    ghost element_held = { table };
+    ghost element_held = { table_shape };
 
     fn read_behind(alloc: Global, _before: &[Json], part: &Json) -> Result<TableShape, Unread> {
         check_keys(alloc, part, Object::Table)?;

@@ -1,21 +1,21 @@
 -- Addresses with arrows between them.
 use Rattle.std.proofs.Common.{◌≡◌, ℕ, zero, suc, ◌<◌, ◌≤◌, ◌+◌, add-one, List, [], ◌∷◌, ◌++◌, length, take, get_or, ap, sym, ◌∙◌, append_assoc, codes, refl, encode_utf8_all, arith}
-use Rattle.app_loader.specs.Cycles.{arrow_at, joined}
+use Rattle.app_loader.specs.Cycles.{arrow_at, joined_by_arrows}
 
 further : (ts : List (List ℕ)) (i : ℕ) (y : List ℕ) → i < length ts → y ≡ get_or ts i y →
-    joined (take (suc i) ts) ≡ joined (take i ts) ++ (arrow_at i ++ y)
+    joined_by_arrows (take (suc i) ts) ≡ joined_by_arrows (take i ts) ++ (arrow_at i ++ y)
 further [] i y h e = absurd (omega arith)
 further (x ∷ xs) zero y h e = sym e
 further (x ∷ []) (suc i) y h e = absurd (omega arith)
 further (x ∷ z ∷ zs) (suc zero) y h e = ap (λ s. x ++ (codes " -> " ++ s)) (sym e)
 further (x ∷ z ∷ zs) (suc (suc i)) y h e =
     ap (λ s. x ++ (codes " -> " ++ s)) (further (z ∷ zs) (suc i) y (omega arith) e)
-    ∙ ap (λ s. x ++ s) (sym (append_assoc (codes " -> ") (joined (take (suc i) (z ∷ zs))) (codes " -> " ++ y)))
-    ∙ sym (append_assoc x (codes " -> " ++ joined (take (suc i) (z ∷ zs))) (codes " -> " ++ y))
+    ∙ ap (λ s. x ++ s) (sym (append_assoc (codes " -> ") (joined_by_arrows (take (suc i) (z ∷ zs))) (codes " -> " ++ y)))
+    ∙ sym (append_assoc x (codes " -> " ++ joined_by_arrows (take (suc i) (z ∷ zs))) (codes " -> " ++ y))
 
 -- one address more
 pub joined_next : (ts : List (List ℕ)) (i : ℕ) (y : List ℕ) → i < length ts → y ≡ get_or ts i y →
-    joined (take (i + 1) ts) ≡ joined (take i ts) ++ (arrow_at i ++ y)
+    joined_by_arrows (take (i + 1) ts) ≡ joined_by_arrows (take i ts) ++ (arrow_at i ++ y)
 joined_next ts i y h e = rw (add-one i) (further ts i y h e)
 
 -- an arrow is spelt as it is

@@ -18,15 +18,15 @@ use Rattle.fx_core.specs.declared.names.Property.{Property}
 use Rattle.fx_core.specs.declared.sources.Source.{Source}
 use Rattle.fx_core.specs.declared.sources.Source.TheVariants as source
 use Rattle.fx_typing.specs.Laws.{AdmittedIsTyped}
-use Rattle.fx_typing.specs.Rounds.{AfterRounds, AllSame, IsFinal, SameFormula, SameNames}
+use Rattle.fx_typing.specs.Rounds.{AfterRounds, AllSame, AreFinalTypes, SameFormula, SameNames}
 use Rattle.fx_typing.specs.Rounds as rounds
-use Rattle.fx_typing.specs.Typing.{context_of, outermost}
-use Rattle.fx_typing.specs.WellTyped.{AreTyped, Context, IsRuled, IsTyped, Standing, bound, catching, context_for, inside, parts_count, plain, standing_at}
+use Rattle.fx_typing.specs.Typing.{context_of, outermost_setting}
+use Rattle.fx_typing.specs.WellTyped.{AreTyped, Context, IsRuled, IsTyped, PartScope, bound, catching, context_for, inside, parts_count, plain, standing_at}
 use Rattle.app_cells.specs.declared.app.CellInfo.{CellInfo}
 use Rattle.app_cells.specs.declared.cell.Cell.{Cell}
 use Rattle.app_cells.specs.Leaning.{cell_behind, cell_of_property, default_name, edge_to, edges_by, edges_from, edges_of, is_property}
 use Rattle.app_loader.proofs.BreakLists.{same_length}
-use Rattle.app_loader.specs.Cells.{AreNumbered, place_of}
+use Rattle.app_loader.specs.Cells.{AreCellsBelow, cell_place}
 use Rattle.app_loader.specs.Infos.{AreElaborated, IsElaborated}
 
 either : {A B C : Type 0} → A ⊎ B → (A → C) → (B → C) → C
@@ -47,7 +47,7 @@ head_reads c (read s) ts us t w r (inl e) = (t, subst (λ z. c.sources z ≡ Som
 head_reads c (read s) ts us t w r (inr a) = absurd a
 head_reads c h ts us t w r a = absurd a
 
-same_sources : (st : Standing) (c : Context) (ts : List Shape) (r : Source) → HasType (context_for st c ts) r → HasType c r
+same_sources : (st : PartScope) (c : Context) (ts : List Shape) (r : Source) → HasType (context_for st c ts) r → HasType c r
 same_sources inside c [] r h = h
 same_sources inside c (t ∷ ts) r h = h
 same_sources bound c [] r h = h
@@ -68,7 +68,7 @@ mutual
       (λ y. among_typed c h n (done ++ w.0 ∷ []) ks w.1 w.4 r y)
 
 -- ---- the numbers of cells in names
-module _ (n : Names) (count : ℕ) (known : AreNumbered count n) where
+module _ (n : Names) (count : ℕ) (known : AreCellsBelow count n) where
   abbrev IsFormulaBelow : FormulaName → Type 0
   IsFormulaBelow f = f.cell < count
 
@@ -144,21 +144,21 @@ module _ (n : Names) (count : ℕ) (known : AreNumbered count n) where
   from_below most k (c ∷ cs) (i ∷ is) h r l =
       All-append IsEdgeBelow (edges_by n k i.reads) (edges_from n (suc k) is) (by_below k (omega arith) i.reads (r c i h.0)) (from_below most (suc k) cs is h.1 r (omega arith))
 
-  one_sources : (c : Cell) (b : Bool) (r : Source) → HasType (context_of (place_of n c) (outermost b)) r → (u : Shape) × (sources n r ≡ Some u)
+  one_sources : (c : Cell) (b : Bool) (r : Source) → HasType (context_of (cell_place n c) (outermost_setting b)) r → (u : Shape) × (sources n r ≡ Some u)
   one_sources c true r h = h
   one_sources c false r h = h
 
   reads_below : AdmittedIsTyped → IsLawful n → (most : ℕ) (c : Cell) (i : CellInfo) → IsElaborated n most c i → ReadsBelow i.reads
   reads_below law l most c i h s a d e =
-      let w = law (place_of n c) c.acts (option_map shape c.wanted) c.expr (i.core, shape i.ty) l h.tree in
-      let t = one_sources c c.acts s (reads_typed (context_of (place_of n c) (outermost c.acts)) i.core (shape i.ty) w s ((h.reads s).0 a)) in
+      let w = law (cell_place n c) c.acts (option_map shape c.wanted) c.expr (i.core, shape i.ty) l h.tree in
+      let t = one_sources c c.acts s (reads_typed (context_of (cell_place n c) (outermost_setting c.acts)) i.core (shape i.ty) w s ((h.reads s).0 a)) in
       behind_below s t.0 t.1 d e
 
 -- THE edges of typed formulas are between formulas
-pub edges_below : AdmittedIsTyped → (n : Names) (most : ℕ) (cs : List Cell) (is : List CellInfo) → IsLawful n → AreNumbered (length cs) n → AreElaborated n most cs is → AreBelow (length is) (edges_of n is)
+pub edges_below : AdmittedIsTyped → (n : Names) (most : ℕ) (cs : List Cell) (is : List CellInfo) → IsLawful n → AreCellsBelow (length cs) n → AreElaborated n most cs is → AreBelow (length is) (edges_of n is)
 edges_below law n most cs is l known h =
     let e : length cs ≡ length is = same_length (IsElaborated n most) cs is h in
-    let here : AreNumbered (length is) n = subst (λ k. AreNumbered k n) e known in
+    let here : AreCellsBelow (length is) n = subst (λ k. AreCellsBelow k n) e known in
     from_below n (length is) here most 0 cs is h (reads_below n (length is) here law l most) (omega arith)
 
 -- ---- rounds keep numbers
@@ -174,10 +174,10 @@ after_same : (cs : List rounds.Cell) (n : Names) (k : ℕ) (m : Names) → After
 after_same cs n zero m a = a.0
 after_same cs n (suc k) m a = a.0
 
-pub final_same : (cs : List rounds.Cell) (n m : Names) → IsFinal cs n m → SameNames n m
+pub final_same : (cs : List rounds.Cell) (n m : Names) → AreFinalTypes cs n m → SameNames n m
 final_same cs n m f = after_same cs n f.0 m f.2
 
-pub still_numbered : (count : ℕ) (cs : List rounds.Cell) (n m : Names) → IsFinal cs n m → AreNumbered count n → AreNumbered count m
+pub still_numbered : (count : ℕ) (cs : List rounds.Cell) (n m : Names) → AreFinalTypes cs n m → AreCellsBelow count n → AreCellsBelow count m
 still_numbered count cs n m f h =
     let s = final_same cs n m f in
     record {

@@ -9,9 +9,9 @@ use Rattle.fx_typing.specs.TypedView.{typed}
 use Rattle.app_cells.specs.declared.app.CellInfo.{CellInfo}
 use Rattle.app_cells.specs.declared.cell.Cell.{Cell}
 use Rattle.app_loader.specs.Admitted.{AreBreaks, AreRefused, AreTyped, Breaks, IsAdmitted}
-use Rattle.app_loader.specs.Cells.{judged}
+use Rattle.app_loader.specs.Cells.{judged_cell}
 use Rattle.app_loader.specs.Infos.{AreElaborated, IsElaborated}
-use Rattle.app_loader.specs.JudgedFormulas.{AreSome}
+use Rattle.app_loader.specs.JudgedFormulas.{AreSomeBreaks}
 
 -- one more of a list
 pub one_more : {A : Type 0} (xs : List A) (i : ℕ) (x : A) → i < length xs → x ≡ get_or xs i x → take i xs ++ x ∷ [] ≡ take (i + 1) xs
@@ -29,7 +29,7 @@ broken_behind F B [] bs x b h g = inr (b, [], ap (λ ys. ys ++ b ∷ []) h, g, r
 broken_behind F B (y ∷ xs) bs x b (inl h) g = inl (h.0, broken_behind F B xs bs x b h.1 g)
 broken_behind F B (y ∷ xs) bs x b (inr h) g = inr (h.0, h.1 ++ b ∷ [], ap (λ ys. ys ++ b ∷ []) h.2, h.3, broken_behind F B xs h.1 x b h.4 g)
 
-typed_behind : (m : Names) (cs : List Cell) (ts : List Typed) (c : Cell) (t : Typed) → AreTyped m cs ts → judged m c ≡ Ok (typed t) → AreTyped m (cs ++ c ∷ []) (ts ++ t ∷ [])
+typed_behind : (m : Names) (cs : List Cell) (ts : List Typed) (c : Cell) (t : Typed) → AreTyped m cs ts → judged_cell m c ≡ Ok (typed t) → AreTyped m (cs ++ c ∷ []) (ts ++ t ∷ [])
 typed_behind m [] [] c t h e = (e, tt)
 typed_behind m [] (u ∷ ts) c t h e = absurd h
 typed_behind m (d ∷ cs) [] c t h e = absurd h
@@ -43,7 +43,7 @@ same_length R (x ∷ xs) [] h = absurd h
 same_length R (x ∷ xs) (y ∷ ys) h = ap suc (same_length R xs ys h.1)
 
 pub as_many : (m : Names) (cs : List Cell) (ts : List Typed) → AreTyped m cs ts → length cs ≡ length ts
-as_many m cs ts h = same_length (λ c t. judged m c ≡ Ok (typed t)) cs ts h
+as_many m cs ts h = same_length (λ c t. judged_cell m c ≡ Ok (typed t)) cs ts h
 
 pub all_elaborated : (m : Names) (most : ℕ) (cs : List Cell) (is : List CellInfo) (rest : List Cell) → length rest ≡ 0 → ((more : List CellInfo) → AreElaborated m most rest more → AreElaborated m most cs (is ++ more)) → AreElaborated m most cs is
 all_elaborated m most cs is rest e go = subst (AreElaborated m most cs) (append-nil is) (go [] (subst (λ (r : List Cell). AreElaborated m most r []) (sym (nil_from_length rest e)) tt))
@@ -74,7 +74,7 @@ abbrev pub IsPut : Result Typed Broken → List Typed → List Typed → List Br
 IsPut one ts us bs cs = MatchResult one (λ (t : Typed). (us ≡ ts ++ t ∷ []) × (cs ≡ bs)) (λ (b : Broken). (us ≡ ts) × (cs ≡ bs ++ b ∷ []))
 
 step : (m : Names) (done : List Cell) (c : Cell) (ts us : List Typed) (bs ds : List Broken) (one : Result Typed Broken) → AreJudgedSo m done ts bs →
-    MatchResult one (λ (t : Typed). judged m c ≡ Ok (typed t)) (Breaks m c) → IsPut one ts us bs ds → AreJudgedSo m (done ++ c ∷ []) us ds
+    MatchResult one (λ (t : Typed). judged_cell m c ≡ Ok (typed t)) (Breaks m c) → IsPut one ts us bs ds → AreJudgedSo m (done ++ c ∷ []) us ds
 step m done c ts us bs ds (Ok t) so h put = record {
   breaks = subst (AreRefused m (done ++ c ∷ [])) (sym put.1) (fine_behind (IsAdmitted m) (Breaks m) done bs c so.breaks (typed t, h));
   typed = λ none. subst (AreTyped m (done ++ c ∷ [])) (sym put.0) (typed_behind m done ts c t (so.typed (sym put.1 ∙ none)) h);
@@ -86,7 +86,7 @@ step m done c ts us bs ds (Err b) so h put = record {
 
 -- one formula more
 pub step_more : (m : Names) (cs : List Cell) (i : ℕ) (c : Cell) (ts us : List Typed) (bs ds : List Broken) (one : Result Typed Broken) → i < length cs → c ≡ get_or cs i c → AreJudgedSo m (take i cs) ts bs →
-    MatchResult one (λ (t : Typed). judged m c ≡ Ok (typed t)) (Breaks m c) → IsPut one ts us bs ds → AreJudgedSo m (take (i + 1) cs) us ds
+    MatchResult one (λ (t : Typed). judged_cell m c ≡ Ok (typed t)) (Breaks m c) → IsPut one ts us bs ds → AreJudgedSo m (take (i + 1) cs) us ds
 step_more m cs i c ts us bs ds one l e so h put =
     subst (λ (ks : List Cell). AreJudgedSo m ks us ds) (one_more cs i c l e) (step m (take i cs) c ts us bs ds one so h put)
 
@@ -97,9 +97,9 @@ all_taken [] (suc i) l = refl
 all_taken (x ∷ xs) zero l = absurd (omega (arith, l))
 all_taken (x ∷ xs) (suc i) l = ap (λ us. x ∷ us) (all_taken xs i (omega (arith, l)))
 
-pub some_breaks : (P : List Broken → Type 0) (bs : List Broken) → P bs → nat_eq (length bs) 0 ≡ false → AreSome P bs
+pub some_breaks : (P : List Broken → Type 0) (bs : List Broken) → P bs → nat_eq (length bs) 0 ≡ false → AreSomeBreaks P bs
 some_breaks P [] h e = let past : true ≡ false = e in absurd cc
 some_breaks P (b ∷ bs) h e = (b, bs, refl, h)
 
-pub are_refused : (m : Names) (cs : List Cell) (i : ℕ) (ts : List Typed) (bs : List Broken) → AreJudgedSo m (take i cs) ts bs → length cs ≤ i → nat_eq (length bs) 0 ≡ false → AreSome (AreRefused m cs) bs
+pub are_refused : (m : Names) (cs : List Cell) (i : ℕ) (ts : List Typed) (bs : List Broken) → AreJudgedSo m (take i cs) ts bs → length cs ≤ i → nat_eq (length bs) 0 ≡ false → AreSomeBreaks (AreRefused m cs) bs
 are_refused m cs i ts bs so l e = some_breaks (AreRefused m cs) bs (subst (λ (ks : List Cell). AreRefused m ks bs) (all_taken cs i l) so.breaks) e

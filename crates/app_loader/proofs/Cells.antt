@@ -18,14 +18,14 @@ use Rattle.fx_typing.specs.Rounds as rounds
 use Rattle.fx_typing.specs.Rounds.{AllSame, SameControl, SameFormula, type_or_blank}
 use Rattle.fx_typing.specs.Laws.{IsWanted}
 use Rattle.fx_typing.specs.Local.{value, label}
-use Rattle.fx_typing.specs.Meaning.{Place, place_of}
-use Rattle.fx_typing.specs.Parts.{Part, piece, meant, target, assigned}
-use Rattle.fx_typing.specs.Typing.{at_node, judge, judge_whole, onward, outermost, position, to_wanted, whole_of}
+use Rattle.fx_typing.specs.Meaning.{Place, first_match}
+use Rattle.fx_typing.specs.Parts.{JudgedPart, piece, meant, target, assigned}
+use Rattle.fx_typing.specs.Typing.{at_node, judge, judge_whole, onward, outermost_setting, position, to_wanted, whole_argument}
 use Rattle.fx_typing.proofs.Frame.{at_node_ok, onward_ok}
 use Rattle.fx_core.specs.Tree.{Tree}
 use Rattle.fx_types.specs.declared.types.Ty.{Ty}
 use Rattle.fx_types.specs.declared.types.Ty.TheVariants as ty
-use Rattle.app_loader.specs.Accepted.{AreSingle}
+use Rattle.app_loader.specs.Accepted.{HaveOneTemplate}
 use Rattle.std.specs.Str.{IsAscii}
 use Rattle.std.proofs.lemmas.Str.{IsUtf8-from_ascii, chars-IsAscii, chars_from_encodes}
 use Rattle.app_cells.specs.declared.cell.Cell.{Cell}
@@ -125,13 +125,13 @@ map_get f (y ∷ xs) (suc k) x e = map_get f xs k x e
 
 -- ---- the first property that a test keeps
 keeps_one : (test : Property → Bool) (k : ℕ) (ps : List Property) (i : ℕ) (p : Property) → slice_get ps i ≡ Some p → test p ≡ true →
-    (q : Property) × (j : ℕ) × (place_of test k ps ≡ Some (k + j, q)) × (slice_get ps j ≡ Some q) × (test q ≡ true)
+    (q : Property) × (j : ℕ) × (first_match test k ps ≡ Some (k + j, q)) × (slice_get ps j ≡ Some q) × (test q ≡ true)
 keeps_one test k [] i p e t = absurd cc
 keeps_one test k (r ∷ ps) i p e t = by (test r) refl i e (λ l g. keeps_one test (suc k) ps l p g t)
   where
     by : (b : Bool) → test r ≡ b → (i : ℕ) → slice_get (r ∷ ps) i ≡ Some p →
-        ((l : ℕ) → slice_get ps l ≡ Some p → (q : Property) × (j : ℕ) × (place_of test (suc k) ps ≡ Some (suc k + j, q)) × (slice_get ps j ≡ Some q) × (test q ≡ true)) →
-        (q : Property) × (j : ℕ) × ((if b then Some (k, r) else place_of test (suc k) ps) ≡ Some (k + j, q)) × (slice_get (r ∷ ps) j ≡ Some q) × (test q ≡ true)
+        ((l : ℕ) → slice_get ps l ≡ Some p → (q : Property) × (j : ℕ) × (first_match test (suc k) ps ≡ Some (suc k + j, q)) × (slice_get ps j ≡ Some q) × (test q ≡ true)) →
+        (q : Property) × (j : ℕ) × ((if b then Some (k, r) else first_match test (suc k) ps) ≡ Some (k + j, q)) × (slice_get (r ∷ ps) j ≡ Some q) × (test q ≡ true)
     by true s i e go = let here : k ≡ k + 0 = omega arith in (r, 0, (λ z. Some (here z, r)), refl, s)
     by false s zero e go = let same : r ≡ p = cc in let past : true ≡ false = sym t ∙ sym (ap test same) ∙ s in absurd cc
     by false s (suc i) e go = let w = go i e in let next : suc k + w.1 ≡ k + suc w.1 = omega arith in (w.0, suc w.1, w.2 ∙ (λ z. Some (next z, w.0)), w.3, w.4)
@@ -179,9 +179,9 @@ passes : (p : Property) → p.name ≡ codes "Items" → items_test p.control p 
 passes p e = (λ i. number_self p.control i && bytes_eq (e i) (codes "Items")) ∙ bytes_self (codes "Items")
 
 -- the first cell that stands at the items of a control is its one
-pub items_found : (cells : List Cell) (seen : List rounds.Cell) (ps : List Property) (i : ℕ) (p : Property) (at : ℕ) (c : Cell) → AreSingle cells → ps ≡ properties_from 0 cells →
+pub items_found : (cells : List Cell) (seen : List rounds.Cell) (ps : List Property) (i : ℕ) (p : Property) (at : ℕ) (c : Cell) → HaveOneTemplate cells → ps ≡ properties_from 0 cells →
     slice_get ps i ≡ Some p → p.name ≡ codes "Items" → p.cell ≡ at → slice_get cells at ≡ Some c → c.spot ≡ spot.Property p.control p.name →
-    rounds.cell_of seen (place_of (items_test p.control) 0 ps) ≡ slice_get seen at
+    rounds.items_formula seen (first_match (items_test p.control) 0 ps) ≡ slice_get seen at
 items_found cells seen ps i p at c u s e n m there its =
     let w = keeps_one (items_test p.control) 0 ps i p e (passes p n) in
     let q = w.0 in
@@ -192,7 +192,7 @@ items_found cells seen ps i p at c u s e n m there its =
     let one : d.place ≡ at = u d.place at d.cell c p.control d.there there (d.spot ∙ (λ z. spot.Property (who z) (name z))) (its ∙ ap (spot.Property p.control) n) in
     let told = d.number in
     let number : q.cell ≡ d.place = omega (arith, told) in
-    ap (rounds.cell_of seen) w.2 ∙ ap (slice_get seen) (number ∙ one)
+    ap (rounds.items_formula seen) w.2 ∙ ap (slice_get seen) (number ∙ one)
 
 -- ---- the type of a pure property
 abbrev IfScalar : Option Shape → Type 0
@@ -233,7 +233,7 @@ table_own c booleans x e = absurd cc
 table_own c dates x e = absurd cc
 table_own c (records cs) x e = absurd cc
 
-part_own : (e : Tree) (q : Part) (x : Term × Shape) → whole_of (Some (tables no_columns)) q ≡ Ok x → x.1 ≡ tables (item_columns (type_or_blank (at_node (position e) (whole_of None q))))
+part_own : (e : Tree) (q : JudgedPart) (x : Term × Shape) → whole_argument (Some (tables no_columns)) q ≡ Ok x → x.1 ≡ tables (item_columns (type_or_blank (at_node (position e) (whole_argument None q))))
 part_own e (piece (value a c t)) x h = table_own c t x h
 part_own e (piece (label y)) x h = absurd cc
 part_own e (meant y) x h = absurd cc
@@ -242,9 +242,9 @@ part_own e (target a y) x h = absurd cc
 
 pub items_own : (p : Place) (b : Bool) (e : Tree) (x : Term × Shape) → judge_whole p b (Some (tables no_columns)) e ≡ Ok x → x.1 ≡ tables (item_columns (type_or_blank (judge_whole p b None e)))
 items_own p b e x h =
-    let a = onward_ok (judge p (outermost b) e) (λ q. at_node (position e) (whole_of (Some (tables no_columns)) q)) x h in
-    part_own e a.0 x (at_node_ok (position e) (whole_of (Some (tables no_columns)) a.0) x a.2)
-    ∙ ap (λ r. tables (item_columns (type_or_blank (onward r (λ q. at_node (position e) (whole_of None q)))))) (sym a.1)
+    let a = onward_ok (judge p (outermost_setting b) e) (λ q. at_node (position e) (whole_argument (Some (tables no_columns)) q)) x h in
+    part_own e a.0 x (at_node_ok (position e) (whole_argument (Some (tables no_columns)) a.0) x a.2)
+    ∙ ap (λ r. tables (item_columns (type_or_blank (onward r (λ q. at_node (position e) (whole_argument None q)))))) (sym a.1)
 
 -- what acts is no pure property
 abbrev pure_type : Control → List ℕ → Shape → Option Shape

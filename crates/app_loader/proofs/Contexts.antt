@@ -11,7 +11,7 @@ use Rattle.fx_types.specs.declared.types.Ty.TheVariants as ty
 use Rattle.fx_semantics.specs.Sound.{AreLawfulColumns, IsLawfulContext, IsLawfulType}
 use Rattle.fx_core.specs.Controls.{input_type, is_items, own_type}
 use Rattle.fx_core.specs.Lawful.{IsColumnType, IsLawful, IsLawfulTable, id_name}
-use Rattle.fx_core.specs.SourceTypes.{chosen_of, columns_of, formula_cell, if_context, if_global, item_columns, item_type, property_cell, property_of, put_column, put_columns, sources}
+use Rattle.fx_core.specs.SourceTypes.{chosen_shape, columns_of, formula_cell, if_context, if_global, item_columns, item_type, property_cell, property_of, put_column, put_columns, sources}
 use Rattle.fx_core.specs.declared.names.Collection.{Collection}
 use Rattle.fx_core.specs.declared.names.ControlName.{ControlName}
 use Rattle.fx_core.specs.declared.names.FormulaName.{FormulaName}
@@ -22,7 +22,7 @@ use Rattle.fx_core.specs.declared.schema.Column.{Column}
 use Rattle.fx_core.specs.declared.schema.TableShape.{TableShape}
 use Rattle.fx_core.specs.declared.sources.Source.{Source}
 use Rattle.fx_core.specs.declared.sources.Source.TheVariants as source
-use Rattle.fx_typing.specs.Typing.{item_of}
+use Rattle.fx_typing.specs.Typing.{item_context}
 use Rattle.fx_semantics.proofs.Lawful.{put_lawful}
 use Rattle.app_semantics.specs.Sound.{context_at}
 use Rattle.app_loader.specs.Types.{AreLawfullyTyped}
@@ -88,7 +88,7 @@ input_lawful control.Label = tt
 input_lawful control.Button = tt
 input_lawful control.Gallery = tt
 
-chosen_lawful : (k : Control) (t : Shape) → IsLawfulType t → IfLawful (chosen_of k t)
+chosen_lawful : (k : Control) (t : Shape) → IsLawfulType t → IfLawful (chosen_shape k t)
 chosen_lawful control.Gallery t l = l
 chosen_lawful control.TextInput t l = tt
 chosen_lawful control.Slider t l = tt
@@ -145,12 +145,12 @@ module _ (n : Names) (law : IsLawful n) (types : AreLawfullyTyped n) where
   source_lawful (source.Gathered k) = map_place (λ (c : Collection). IsLawfulType (shape c.ty)) (λ (c : Collection). shape c.ty) n.collections k types.collections (λ c l. l)
   source_lawful (source.Input k) = at_place (λ (c : ControlName). IsLawfulType (shape c.items)) (λ (c : ControlName). input_type c.kind) n.controls k types.controls (λ c l. input_lawful c.kind)
   source_lawful (source.Chosen k) =
-      at_place (λ (c : ControlName). IsLawfulType (shape c.items)) (λ (c : ControlName). chosen_of c.kind (item_type c)) n.controls k types.controls
+      at_place (λ (c : ControlName). IsLawfulType (shape c.items)) (λ (c : ControlName). chosen_shape c.kind (item_type c)) n.controls k types.controls
       (λ c l. chosen_lawful c.kind (item_type c) (columns_lawful (shape c.items) l))
   source_lawful (source.Table k) = map_place IsLawfulTable (λ (t : TableShape). tables (columns_of t)) n.schema.tables k law.schema.2 (λ t h. table_lawful t h)
   source_lawful source.Today = tt
 
-  item_lawful : (g : Option ℕ) → IfLawful (item_of n g)
+  item_lawful : (g : Option ℕ) → IfLawful (item_context n g)
   item_lawful None = tt
   item_lawful (Some g) = map_place (λ (c : ControlName). IsLawfulType (shape c.items)) item_type n.controls g types.controls (λ c l. columns_lawful (shape c.items) l)
 
@@ -158,5 +158,5 @@ module _ (n : Names) (law : IsLawful n) (types : AreLawfullyTyped n) where
   context_lawful_at g = record {
     of_sources = λ s t e. lawful_some (sources n s) t (source_lawful s) e;
     of_scopes = tt;
-    of_item = λ t e. lawful_some (item_of n g) t (item_lawful g) e;
+    of_item = λ t e. lawful_some (item_context n g) t (item_lawful g) e;
   }

@@ -1,7 +1,7 @@
 -- What holds of formulas holds whatever is said of what they stand on.
 use Rattle.std.proofs.Common.{◌≡◌, ℕ, zero, suc, List, [], ◌∷◌, map, subst}
 use Rattle.fx_semantics.specs.NamedTypes.{HasLawfulTypes}
-use Rattle.fx_core.specs.Reads.{AreRising}
+use Rattle.fx_core.specs.Reads.{AreSourcesRising}
 use Rattle.fx_core.specs.declared.names.Names.{Names}
 use Rattle.app_cells.specs.declared.app.CellInfo.{CellInfo}
 use Rattle.app_cells.specs.declared.cell.Cell.{Cell}
@@ -38,5 +38,5 @@ pub rising_reads : (m : Names) (most : ℕ) (cs : List Cell) (is : List CellInfo
 rising_reads m most [] [] h k i e = absurd cc
 rising_reads m most [] (x ∷ is) h k i e = absurd h
 rising_reads m most (c ∷ cs) [] h k i e = absurd h
-rising_reads m most (c ∷ cs) (x ∷ is) h zero i e = let own : x ≡ i = cc in subst (λ (y : CellInfo). AreRising y.reads) own h.0.once
+rising_reads m most (c ∷ cs) (x ∷ is) h zero i e = let own : x ≡ i = cc in subst (λ (y : CellInfo). AreSourcesRising y.reads) own h.0.once
 rising_reads m most (c ∷ cs) (x ∷ is) h (suc k) i e = rising_reads m most cs is h.1 k i e

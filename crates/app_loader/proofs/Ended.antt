@@ -6,16 +6,16 @@ use Rattle.fx_core.specs.declared.app_end.AppEnd.{AppEnd}
 use Rattle.fx_core.specs.declared.broken.Broken.{Broken}
 use Rattle.fx_core.specs.declared.names.Names.{Names}
 use Rattle.fx_core.specs.Lawful.{IsLawful}
-use Rattle.fx_typing.specs.Rounds.{Cell as Seen, IsFinal, StillChanges}
+use Rattle.fx_typing.specs.Rounds.{Cell as Seen, AreFinalTypes, StillChanges}
 use Rattle.app_cells.specs.declared.app.App.{App}
 use Rattle.app_cells.specs.declared.app.CellInfo.{CellInfo}
 use Rattle.app_cells.specs.declared.cell.Cell.{Cell}
 use Rattle.app_cells.specs.Leaning.{edges_of}
 use Rattle.app_loader.specs.Admitted.{AreRefused}
-use Rattle.app_loader.specs.Cells.{cell_of}
-use Rattle.app_loader.specs.Cycles.{cycle_of, name_at}
+use Rattle.app_loader.specs.Cells.{round_cell}
+use Rattle.app_loader.specs.Cycles.{cycle_of, cell_name_at}
 use Rattle.app_loader.specs.Infos.{AreElaborated}
-use Rattle.app_loader.specs.JudgedFormulas.{AreFit, AreSome, IsCyclic, IsOrdered, JudgedCells, Tells, unsettled}
+use Rattle.app_loader.specs.JudgedFormulas.{AreJudgeable, AreSomeBreaks, IsCyclic, IsOrdered, JudgedCells, ReportsBreaks, unsettled}
 use Rattle.app_loader.specs.JudgedFormulas as judge
 use Rattle.app_loader.specs.Supports.{AreSupported, unordered}
 use Rattle.app_loader.specs.Types.{HaveLawfulTrees}
@@ -28,16 +28,16 @@ limit_is : (b : Broken) → IsRoundsLimit b → b ≡ unsettled
 limit_is b h = λ i. record { cell = h.0 i; rule = h.1 i; at = h.2 i; detail = h.3 i }
 
 -- ---- rounds
-pub final_by : (seen : List Seen) (cells : List Cell) (n m : Names) → seen ≡ map cell_of cells → IsFinal seen n m → IsFinal (map cell_of cells) n m
-final_by seen cells n m e f = subst (λ (cs : List Seen). IsFinal cs n m) e f
+pub final_by : (seen : List Seen) (cells : List Cell) (n m : Names) → seen ≡ map round_cell cells → AreFinalTypes seen n m → AreFinalTypes (map round_cell cells) n m
+final_by seen cells n m e f = subst (λ (cs : List Seen). AreFinalTypes cs n m) e f
 
-pub still_fit : (cells : List Cell) (n m : Names) → AreFit n cells → IsFinal (map cell_of cells) n m → IsLawful m → AreFit m cells
-still_fit cells n m h f l = record { lawful = l; shallow = h.shallow; numbered = still_numbered (length cells) (map cell_of cells) n m f h.numbered }
+pub still_fit : (cells : List Cell) (n m : Names) → AreJudgeable n cells → AreFinalTypes (map round_cell cells) n m → IsLawful m → AreJudgeable m cells
+still_fit cells n m h f l = record { lawful = l; shallow = h.shallow; numbered = still_numbered (length cells) (map round_cell cells) n m f h.numbered }
 
-pub unsettled_by : (seen : List Seen) (cells : List Cell) (n : Names) (b : Broken) → seen ≡ map cell_of cells → StillChanges seen n → IsRoundsLimit b → (e : AppEnd) → Tells (λ bs. bs ≡ b ∷ []) e →
-    Tells (λ bs. (bs ≡ unsettled ∷ []) × StillChanges (map cell_of cells) n) e
+pub unsettled_by : (seen : List Seen) (cells : List Cell) (n : Names) (b : Broken) → seen ≡ map round_cell cells → StillChanges seen n → IsRoundsLimit b → (e : AppEnd) → ReportsBreaks (λ bs. bs ≡ b ∷ []) e →
+    ReportsBreaks (λ bs. (bs ≡ unsettled ∷ []) × StillChanges (map round_cell cells) n) e
 unsettled_by seen cells n b same still limit =
-    tells_weaker (λ bs. bs ≡ b ∷ []) (λ bs. (bs ≡ unsettled ∷ []) × StillChanges (map cell_of cells) n)
+    tells_weaker (λ bs. bs ≡ b ∷ []) (λ bs. (bs ≡ unsettled ∷ []) × StillChanges (map round_cell cells) n)
     (λ bs is. (is ∙ ap (λ x. x ∷ []) (limit_is b limit), subst (λ (cs : List Seen). StillChanges cs n) same still))
 
 -- ---- order
@@ -54,8 +54,8 @@ ordered m limit count is js edges numbers order c e o all k = record {
   supports = λ i x there. supports_too (unordered m js) (record { names = m; cells = js; order = order; limit = limit }) i x.support (λ s. refl) refl (all.each i x there);
 }
 
-pub cyclic : (m : Names) (is : List CellInfo) (edges : List (ℕ × ℕ)) (path : List ℕ) (b : Broken) → edges ≡ edges_of m is → IsClosedPath edges path → b ≡ cycle_of (map (name_at is) path) → (e : AppEnd) →
-    Tells (λ bs. bs ≡ b ∷ []) e → Tells (IsCyclic m is) e
+pub cyclic : (m : Names) (is : List CellInfo) (edges : List (ℕ × ℕ)) (path : List ℕ) (b : Broken) → edges ≡ edges_of m is → IsClosedPath edges path → b ≡ cycle_of (map (cell_name_at is) path) → (e : AppEnd) →
+    ReportsBreaks (λ bs. bs ≡ b ∷ []) e → ReportsBreaks (IsCyclic m is) e
 cyclic m is edges path b same closed told =
     tells_weaker (λ bs. bs ≡ b ∷ []) (IsCyclic m is) (λ bs k. (b, k, (path, subst (λ (es : List (ℕ × ℕ)). IsClosedPath es path) same closed, told)))
 
@@ -64,25 +64,25 @@ module _ (first : Names) (limit : ℕ) (cells : List Cell) where
   abbrev Refuses : List Broken → Type 0
   Refuses bs = JudgedCells first limit cells (Err bs)
 
-  pub unsettled_end : (e : AppEnd) → Tells (λ bs. (bs ≡ unsettled ∷ []) × StillChanges (map cell_of cells) first) e → Tells Refuses e
-  unsettled_end = tells_weaker (λ bs. (bs ≡ unsettled ∷ []) × StillChanges (map cell_of cells) first) Refuses (λ bs h. subst Refuses (sym h.0) (judge.unsettling first limit cells h.1))
+  pub unsettled_end : (e : AppEnd) → ReportsBreaks (λ bs. (bs ≡ unsettled ∷ []) × StillChanges (map round_cell cells) first) e → ReportsBreaks Refuses e
+  unsettled_end = tells_weaker (λ bs. (bs ≡ unsettled ∷ []) × StillChanges (map round_cell cells) first) Refuses (λ bs h. subst Refuses (sym h.0) (judge.unsettling first limit cells h.1))
 
-  pub refused_end : (m : Names) → IsFinal (map cell_of cells) first m → (e : AppEnd) → Tells (AreSome (AreRefused m cells)) e → Tells Refuses e
-  refused_end m f = tells_weaker (AreSome (AreRefused m cells)) Refuses (λ bs h. subst Refuses (sym h.2) (judge.refused first limit cells m h.0 h.1 f (subst (AreRefused m cells) h.2 h.3)))
+  pub refused_end : (m : Names) → AreFinalTypes (map round_cell cells) first m → (e : AppEnd) → ReportsBreaks (AreSomeBreaks (AreRefused m cells)) e → ReportsBreaks Refuses e
+  refused_end m f = tells_weaker (AreSomeBreaks (AreRefused m cells)) Refuses (λ bs h. subst Refuses (sym h.2) (judge.refused first limit cells m h.0 h.1 f (subst (AreRefused m cells) h.2 h.3)))
 
-  pub cyclic_end : (m : Names) (is : List CellInfo) → IsFinal (map cell_of cells) first m → AreElaborated m limit cells is → (e : AppEnd) → Tells (IsCyclic m is) e → Tells Refuses e
+  pub cyclic_end : (m : Names) (is : List CellInfo) → AreFinalTypes (map round_cell cells) first m → AreElaborated m limit cells is → (e : AppEnd) → ReportsBreaks (IsCyclic m is) e → ReportsBreaks Refuses e
   cyclic_end m is f h = tells_weaker (IsCyclic m is) Refuses (λ bs k. subst Refuses (sym k.1) (judge.cyclic first limit cells m is k.0 (record { final = f; elaborated = h }) k.2))
 
-  pub cyclic_err : (m : Names) (is : List CellInfo) → IsFinal (map cell_of cells) first m → AreElaborated m limit cells is → (r : Result App AppEnd) → IfErr r (Tells (IsCyclic m is)) → IfErr r (Tells Refuses)
+  pub cyclic_err : (m : Names) (is : List CellInfo) → AreFinalTypes (map round_cell cells) first m → AreElaborated m limit cells is → (r : Result App AppEnd) → IfErr r (ReportsBreaks (IsCyclic m is)) → IfErr r (ReportsBreaks Refuses)
   cyclic_err m is f h (Ok a) k = tt
   cyclic_err m is f h (Err e) k = cyclic_end m is f h e k
 
-  pub app_ok : (m : Names) (is : List CellInfo) → IsFinal (map cell_of cells) first m → AreElaborated m limit cells is → (r : Result App AppEnd) → IfOk r (IsOrdered m limit is) → IfOk r (λ a. JudgedCells first limit cells (Ok a))
+  pub app_ok : (m : Names) (is : List CellInfo) → AreFinalTypes (map round_cell cells) first m → AreElaborated m limit cells is → (r : Result App AppEnd) → IfOk r (IsOrdered m limit is) → IfOk r (λ a. JudgedCells first limit cells (Ok a))
   app_ok m is f h (Err e) o = tt
   app_ok m is f h (Ok a) o =
       judge.app first limit cells a (record {
         settled = record {
-          final = subst (λ k. IsFinal (map cell_of cells) first k) (sym o.names) f;
+          final = subst (λ k. AreFinalTypes (map round_cell cells) first k) (sym o.names) f;
           elaborated = subst (λ (n : Names). AreElaborated n limit cells a.cells) (sym o.names) (still_elaborated m limit cells is a.cells (sym o.cells) h);
         };
         order =

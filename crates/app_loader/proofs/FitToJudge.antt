@@ -9,10 +9,10 @@ use Rattle.app_cells.specs.declared.cell.Cell.{Cell}
 use Rattle.app_cells.specs.declared.cell.Spot.{Spot}
 use Rattle.app_cells.specs.declared.frame.Frame.{Frame}
 use Rattle.app_texts.specs.Edits.{IsEdited}
-use Rattle.app_texts.specs.Frames.{frame_of, written}
+use Rattle.app_texts.specs.Frames.{app_frame, written_texts}
 use Rattle.app_texts.proofs.Counts.{single}
 use Rattle.app_texts.proofs.Standing.{all_hold}
-use Rattle.app_loader.specs.Accepted.{AreSingle}
+use Rattle.app_loader.specs.Accepted.{HaveOneTemplate}
 use Rattle.app_loader.specs.Cells.{AreShallow}
 use Rattle.app_texts.proofs.GivenTexts.{GivenParts, given_parts}
 use Rattle.app_loader.proofs.OneEdit.{edited_parts}
@@ -32,12 +32,12 @@ given_there : (f : Frame) (s : Spot) (text : List ℕ) (g : Option Cell) → Giv
 given_there f s text None h = tt
 given_there f s text (Some c) h = h.1.cell.spot
 
-pub left_shallow : TreesAreNoDeeper → (a : App) (address text : List ℕ) (cells : List Cell) → AreShallow (written a) → IsEdited a address text (Ok cells) → AreShallow cells
+pub left_shallow : TreesAreNoDeeper → (a : App) (address text : List ℕ) (cells : List Cell) → AreShallow (written_texts a) → IsEdited a address text (Ok cells) → AreShallow cells
 left_shallow law a address text cells all h =
     let p = edited_parts h in
-    subst AreShallow (sym p.are) (all_hold IsShallow a p.place p.given all (given_shallow law (frame_of a) p.place text p.given (given_parts p.gives)))
+    subst AreShallow (sym p.are) (all_hold IsShallow a p.place p.given all (given_shallow law (app_frame a) p.place text p.given (given_parts p.gives)))
 
-pub left_single : (a : App) (address text : List ℕ) (cells : List Cell) → IsEdited a address text (Ok cells) → AreSingle cells
+pub left_single : (a : App) (address text : List ℕ) (cells : List Cell) → IsEdited a address text (Ok cells) → HaveOneTemplate cells
 left_single a address text cells h =
     let p = edited_parts h in
-    subst AreSingle (sym p.are) (single a p.place p.given (given_there (frame_of a) p.place text p.given (given_parts p.gives)))
+    subst HaveOneTemplate (sym p.are) (single a p.place p.given (given_there (app_frame a) p.place text p.given (given_parts p.gives)))

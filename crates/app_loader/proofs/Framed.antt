@@ -11,27 +11,27 @@ use Rattle.app_cells.specs.declared.app.CellInfo.{CellInfo}
 use Rattle.app_cells.specs.declared.cell.Cell.{Cell}
 use Rattle.app_cells.specs.declared.frame.Frame.{Frame}
 use Rattle.app_cells.specs.Spots.{IsFrame, IsPlaced}
-use Rattle.app_texts.specs.Frames.{frame_of, without_items, written}
+use Rattle.app_texts.specs.Frames.{app_frame, without_items, written_texts}
 use Rattle.app_names.proofs.LawfulNames.{unbroken}
-use Rattle.app_loader.specs.Cells.{AreShallow, cell_of}
+use Rattle.app_loader.specs.Cells.{AreShallow, round_cell}
 use Rattle.app_loader.specs.Infos.{AreElaborated}
 use Rattle.app_loader.specs.JudgedFormulas.{IsAppOf}
 use Rattle.app_loader.proofs.Below.{final_same}
 use Rattle.app_loader.proofs.Soundness.{IfApp, app_parts}
 use Rattle.app_loader.specs.Edits.{IsLoaded}
-use Rattle.app_loader.specs.Judged.{AreNamed, JudgedFormulas, misnamed, named}
+use Rattle.app_loader.specs.Judged.{AreNamedFormulas, JudgedFormulas, misnamed, named}
 
 -- formulas that are judged an app, under their names
 pub record IsJudged (f : Frame) (cells : List Cell) (a : App) : Type 0 where
   pub first : Names
-  pub named : AreNamed f cells first
+  pub named : AreNamedFormulas f cells first
   pub app : IsAppOf first f.limit cells a
 
 abbrev IfJudged : Frame → List Cell → Result App (List Broken) → Type 0
 IfJudged f cells (Ok a) = IsJudged f cells a
 IfJudged f cells (Err bs) = Unit {0}
 
-by_parts : (f : Frame) (cells : List Cell) (n : Names) (v : Result App (List Broken)) → AreNamed f cells n → IfApp n f.limit cells v → IfJudged f cells v
+by_parts : (f : Frame) (cells : List Cell) (n : Names) (v : Result App (List Broken)) → AreNamedFormulas f cells n → IfApp n f.limit cells v → IfJudged f cells v
 by_parts f cells n (Ok a) h k = record { first = n; named = h; app = k }
 by_parts f cells n (Err bs) h k = tt
 
@@ -54,9 +54,9 @@ without_again [] = refl
 without_again (c ∷ cs) = ap (λ ds. without_items c ∷ ds) (without_again cs)
 
 -- the frame of formulas is that of their app
-pub framed : (f : Frame) (cells : List Cell) (a : App) → map without_items f.controls ≡ f.controls → IsJudged f cells a → frame_of a ≡ f
+pub framed : (f : Frame) (cells : List Cell) (a : App) → map without_items f.controls ≡ f.controls → IsJudged f cells a → app_frame a ≡ f
 framed f cells a blank h =
-    let same : SameNames h.first a.names = final_same (map cell_of cells) h.first a.names h.app.settled.final in
+    let same : SameNames h.first a.names = final_same (map round_cell cells) h.first a.names h.app.settled.final in
     let named = h.named.named in
     let schema : a.names.schema ≡ f.schema = sym same.schema ∙ named.schema in
     let screens : a.names.screens ≡ f.screens = sym same.screens ∙ named.screens in
@@ -69,7 +69,7 @@ these_written n most [] (i ∷ is) h = absurd h
 these_written n most (c ∷ cells) [] h = absurd h
 these_written n most (c ∷ cells) (i ∷ is) h = λ j. h.0.cell j ∷ these_written n most cells is h.1 j
 
-pub written_are : (f : Frame) (cells : List Cell) (a : App) → IsJudged f cells a → written a ≡ cells
+pub written_are : (f : Frame) (cells : List Cell) (a : App) → IsJudged f cells a → written_texts a ≡ cells
 written_are f cells a h = these_written a.names f.limit cells a.cells h.app.settled.elaborated
 
 -- so it is loaded
@@ -83,6 +83,6 @@ loaded f cells a blank frame placed shallow h =
     record {
       few = omega (arith, many, long, few);
       frame = subst IsFrame (sym is) frame;
-      placed = subst (λ (g : Frame). All (IsPlaced g) (written a)) (sym is) (subst (All (IsPlaced f)) (sym are) placed);
+      placed = subst (λ (g : Frame). All (IsPlaced g) (written_texts a)) (sym is) (subst (All (IsPlaced f)) (sym are) placed);
       shallow = subst AreShallow (sym are) shallow;
     }

@@ -2,7 +2,7 @@
 use Rattle.std.proofs.Common.{◌≡◌, ◌++◌, ℕ, List, [], ◌∷◌, Bool, true, false, bytes_eq, encode_utf8_all, length, Option, Some, None, map, option_map, refl, ap, sym, ◌∙◌, if◌then◌else◌}
 use Rattle.std.specs.List.{filter}
 use Rattle.app_names.specs.Declarations as declared
-use Rattle.app_names.specs.Declarations.{declared_among, declared_at, declared_in, declared_of, declared_on, given_names, is_among, is_declared, new_behind, own_names, table_names, things_behind, things_of}
+use Rattle.app_names.specs.Declarations.{declared_among, declared_at, declared_in, declared_of, declared_on, given_names, is_name_among, is_declared, new_behind, own_names, frame_table_names, things_behind, things_of}
 use Rattle.app_names.specs.NameRules.{app_break, breaks_behind, name_break, name_breaks, put_break}
 use Rattle.app_cells.specs.declared.cell.Cell.{Cell}
 use Rattle.app_cells.specs.declared.frame.Frame.{Frame}
@@ -44,7 +44,7 @@ called_shape None = refl
 called_shape (Some s) = refl
 
 module _ (ss ts : List Signature) (same : map entry ss ≡ map entry ts) where
-  called_alike : (x : List ℕ) → declared.called_as ss x ≡ declared.called_as ts x
+  called_alike : (x : List ℕ) → declared.shape_called ss x ≡ declared.shape_called ts x
   called_alike x =
       let f = encode_utf8_all x in
       called_shape (signature_in ss f) ∙ shape_alike (signature_in ss f) (signature_in ts f) (found_alike ss ts f same)
@@ -73,16 +73,16 @@ module _ (ss ts : List Signature) (same : map entry ss ≡ map entry ts) where
       ∙ behind_alike given (before ++ new_behind before (declared_of ts given c)) cs
 
   pub things_alike : (f : Frame) (cells : List Cell) → things_of ss f cells ≡ things_of ts f cells
-  things_alike f cells = behind_alike (is_among (given_names f cells)) [] cells
+  things_alike f cells = behind_alike (is_name_among (given_names f cells)) [] cells
 
   -- what is broken among the names
   behind_broken : (given : List ℕ → Bool) (before : List (List ℕ)) (things : List Declared) (cs : List Cell) → breaks_behind ss given before things cs ≡ breaks_behind ts given before things cs
   behind_broken given before things [] = refl
   behind_broken given before things (c ∷ cs) =
       let new = new_behind things (declared_of ts given c) in
-      ap (λ (ds : List Declared). put_break (name_break (is_among before) things (new_behind things ds) c) (breaks_behind ss given (before ++ own_names c.spot) (things ++ new_behind things ds) cs)) (of_alike given c)
-      ∙ ap (put_break (name_break (is_among before) things new c)) (behind_broken given (before ++ own_names c.spot) (things ++ new) cs)
+      ap (λ (ds : List Declared). put_break (name_break (is_name_among before) things (new_behind things ds) c) (breaks_behind ss given (before ++ own_names c.spot) (things ++ new_behind things ds) cs)) (of_alike given c)
+      ∙ ap (put_break (name_break (is_name_among before) things new c)) (behind_broken given (before ++ own_names c.spot) (things ++ new) cs)
 
   pub breaks_alike : (f : Frame) (cells : List Cell) → name_breaks ss f cells ≡ name_breaks ts f cells
   breaks_alike f cells =
-      λ i. put_break (app_break f cells (length (things_alike f cells i))) (behind_broken (is_among (given_names f cells)) (table_names f) [] cells i)
+      λ i. put_break (app_break f cells (length (things_alike f cells i))) (behind_broken (is_name_among (given_names f cells)) (frame_table_names f) [] cells i)

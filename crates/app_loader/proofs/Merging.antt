@@ -3,7 +3,7 @@ use Rattle.std.proofs.Common.{inl, inr, ◌≡◌, ◌⊎◌, ◌↔◌, List, [
 use Rattle.std.specs.Ordering.{match_ordering}
 use Rattle.std.specs.declared.cmp.Ordering.{Ordering}
 use Rattle.std.specs.declared.cmp.Ordering.TheVariants.{Less, Equal, Greater}
-use Rattle.fx_core.specs.Reads.{AreRising, IsAmong, IsBelowAll, source_order}
+use Rattle.fx_core.specs.Reads.{AreSourcesRising, IsAmong, IsSourceBelowAll, source_order}
 use Rattle.fx_core.specs.declared.sources.Source.{Source}
 use Rattle.fx_core.proofs.Ordered.{below_more, order_flips, order_tells}
 use Rattle.app_cells.specs.Reach.{is_cell}
@@ -53,34 +53,34 @@ merge_right all new [] right whole e h n = n ∙ h
 merge_right all new (x ∷ left) right whole e h n = absurd (omega (arith, e))
 
 -- ---- it rises
-below_step : (t x : Source) (xs : List Source) (on : List Source → List Source) (ys : List Source) → IsBelowAll t (x ∷ xs) → IsBelowAll t ys → ((zs : List Source) → IsBelowAll t zs → IsBelowAll t (on zs)) →
-    IsBelowAll t (step x xs on ys)
+below_step : (t x : Source) (xs : List Source) (on : List Source → List Source) (ys : List Source) → IsSourceBelowAll t (x ∷ xs) → IsSourceBelowAll t ys → ((zs : List Source) → IsSourceBelowAll t zs → IsSourceBelowAll t (on zs)) →
+    IsSourceBelowAll t (step x xs on ys)
 below_step t x xs on [] a b h = a
 below_step t x xs on (y ∷ ys) a b h = by (source_order x y) (below_step t x xs on ys a b.1 h)
   where
-    by : (o : Ordering) → IsBelowAll t (step x xs on ys) → IsBelowAll t (match_ordering o (x ∷ on (y ∷ ys)) (on (y ∷ ys)) (y ∷ step x xs on ys))
+    by : (o : Ordering) → IsSourceBelowAll t (step x xs on ys) → IsSourceBelowAll t (match_ordering o (x ∷ on (y ∷ ys)) (on (y ∷ ys)) (y ∷ step x xs on ys))
     by Less k = (a.0, h (y ∷ ys) b)
     by Equal k = h (y ∷ ys) b
     by Greater k = (b.0, k)
 
-below_merge : (t : Source) (xs ys : List Source) → IsBelowAll t xs → IsBelowAll t ys → IsBelowAll t (merge xs ys)
+below_merge : (t : Source) (xs ys : List Source) → IsSourceBelowAll t xs → IsSourceBelowAll t ys → IsSourceBelowAll t (merge xs ys)
 below_merge t [] ys a b = b
 below_merge t (x ∷ xs) ys a b = below_step t x xs (merge xs) ys a b (λ zs c. below_merge t xs zs a.1 c)
 
-rising_step : (x : Source) (xs : List Source) (on : List Source → List Source) (ys : List Source) → AreRising (x ∷ xs) → AreRising ys → ((zs : List Source) → AreRising zs → AreRising (on zs)) →
-    ((t : Source) (zs : List Source) → IsBelowAll t xs → IsBelowAll t zs → IsBelowAll t (on zs)) → AreRising (step x xs on ys)
+rising_step : (x : Source) (xs : List Source) (on : List Source → List Source) (ys : List Source) → AreSourcesRising (x ∷ xs) → AreSourcesRising ys → ((zs : List Source) → AreSourcesRising zs → AreSourcesRising (on zs)) →
+    ((t : Source) (zs : List Source) → IsSourceBelowAll t xs → IsSourceBelowAll t zs → IsSourceBelowAll t (on zs)) → AreSourcesRising (step x xs on ys)
 rising_step x xs on [] a b h k = a
 rising_step x xs on (y ∷ ys) a b h k = by (source_order x y) refl (rising_step x xs on ys a b.1 h k)
   where
-    by : (o : Ordering) → source_order x y ≡ o → AreRising (step x xs on ys) → AreRising (match_ordering o (x ∷ on (y ∷ ys)) (on (y ∷ ys)) (y ∷ step x xs on ys))
+    by : (o : Ordering) → source_order x y ≡ o → AreSourcesRising (step x xs on ys) → AreSourcesRising (match_ordering o (x ∷ on (y ∷ ys)) (on (y ∷ ys)) (y ∷ step x xs on ys))
     by Less e r = (k x (y ∷ ys) a.0 (e, below_more x y ys e b.0), h (y ∷ ys) b)
     by Equal e r = h (y ∷ ys) b
     by Greater e r =
         let flip : source_order y x ≡ Less = order_flips x y e in
-        let all : IsBelowAll y xs = below_more y x xs flip a.0 in
+        let all : IsSourceBelowAll y xs = below_more y x xs flip a.0 in
         (below_step y x xs on ys (flip, all) b.0 (λ zs c. k y zs all c), r)
 
-pub rising_merge : (xs ys : List Source) → AreRising xs → AreRising ys → AreRising (merge xs ys)
+pub rising_merge : (xs ys : List Source) → AreSourcesRising xs → AreSourcesRising ys → AreSourcesRising (merge xs ys)
 rising_merge [] ys a b = b
 rising_merge (x ∷ xs) ys a b = rising_step x xs (merge xs) ys a b (λ zs c. rising_merge xs zs a.1 c) (λ t zs c d. below_merge t xs zs c d)
 
@@ -131,19 +131,19 @@ merge_both s xs ys = (among_merge s xs ys, merge_among s xs ys)
 abbrev pub others : List Source → List Source
 others = filter (λ s. not (is_cell s))
 
-below_others : (t : Source) (xs : List Source) → IsBelowAll t xs → IsBelowAll t (others xs)
+below_others : (t : Source) (xs : List Source) → IsSourceBelowAll t xs → IsSourceBelowAll t (others xs)
 below_others t [] h = tt
 below_others t (x ∷ xs) h = by (not (is_cell x)) (below_others t xs h.1)
   where
-    by : (b : Bool) → IsBelowAll t (others xs) → IsBelowAll t (cond b (x ∷ others xs) (others xs))
+    by : (b : Bool) → IsSourceBelowAll t (others xs) → IsSourceBelowAll t (cond b (x ∷ others xs) (others xs))
     by true k = (h.0, k)
     by false k = k
 
-pub rising_others : (xs : List Source) → AreRising xs → AreRising (others xs)
+pub rising_others : (xs : List Source) → AreSourcesRising xs → AreSourcesRising (others xs)
 rising_others [] h = tt
 rising_others (x ∷ xs) h = by (not (is_cell x)) (rising_others xs h.1)
   where
-    by : (b : Bool) → AreRising (others xs) → AreRising (cond b (x ∷ others xs) (others xs))
+    by : (b : Bool) → AreSourcesRising (others xs) → AreSourcesRising (cond b (x ∷ others xs) (others xs))
     by true k = (below_others x xs h.0, k)
     by false k = k
 
@@ -170,8 +170,8 @@ pub others_both : (s : Source) (xs : List Source) → IsAmong s (others xs) ↔ 
 others_both s xs = (among_others s xs, λ h. others_among s xs h.0 h.1)
 
 -- what is merged rises, and has the sources of both
-pub merged_rises : (xs ys all : List Source) → AreRising xs → AreRising ys → all ≡ merge xs ys → AreRising all
-merged_rises xs ys all a b e = subst AreRising (sym e) (rising_merge xs ys a b)
+pub merged_rises : (xs ys all : List Source) → AreSourcesRising xs → AreSourcesRising ys → all ≡ merge xs ys → AreSourcesRising all
+merged_rises xs ys all a b e = subst AreSourcesRising (sym e) (rising_merge xs ys a b)
 
 pub merged_has : (xs ys all : List Source) → all ≡ merge xs ys → (s : Source) → IsAmong s all ↔ (IsAmong s xs ⊎ IsAmong s ys)
 merged_has xs ys all e s = subst (λ (zs : List Source). IsAmong s zs ↔ (IsAmong s xs ⊎ IsAmong s ys)) (sym e) (merge_both s xs ys)

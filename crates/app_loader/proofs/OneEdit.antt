@@ -8,9 +8,9 @@ use Rattle.app_cells.specs.declared.cell.Spot.{Spot}
 use Rattle.app_cells.specs.declared.cell.Spot.TheVariants as spot
 use Rattle.app_cells.specs.declared.frame.Frame.{Frame}
 use Rattle.app_cells.specs.Spots.{address}
-use Rattle.app_texts.specs.Edits.{IsEdited, IsFormula, IsGiven, IsShort, bytes_of, is_named, most_bytes, no_place, with_cell}
+use Rattle.app_texts.specs.Edits.{IsEdited, IsFormulaAt, TextGives, IsShort, utf8_length, is_named_formula, most_text_bytes, no_place, with_cell}
 use Rattle.app_texts.proofs.GivenTexts.{GivenParts, given_parts}
-use Rattle.app_texts.specs.Frames.{frame_of}
+use Rattle.app_texts.specs.Frames.{app_frame}
 use Rattle.app_texts.specs.Places.{spot_of}
 use Rattle.app_loader.specs.Edits.{IsOneEdit, IsOneEdited, IsOneEditRefusal, JudgedEdit}
 use Rattle.app_loader.specs.Judged.{JudgedFormulas}
@@ -20,19 +20,19 @@ use Rattle.app_loader.proofs.OneRefusal.{ends_same, formulas_same, from_equal}
 use Rattle.app_loader.proofs.OneVerdict.{Agree, formulas_one}
 
 -- ---- what a text gives at a place
-is_short : (s : Spot) (text : List ℕ) → is_named s ≡ false → IsFormula s text → IsShort text
+is_short : (s : Spot) (text : List ℕ) → is_named_formula s ≡ false → IsFormulaAt s text → IsShort text
 is_short (spot.Formula x) text e h = absurd cc
 is_short spot.OnStart text e h = h
 is_short (spot.OnVisible s) text e h = h
 is_short (spot.Property k p) text e h = h
 
-not_empty : (s : Spot) (text : List ℕ) → is_named s ≡ false → bytes_of text ≡ 0 → IsFormula s text → ⊥
+not_empty : (s : Spot) (text : List ℕ) → is_named_formula s ≡ false → utf8_length text ≡ 0 → IsFormulaAt s text → ⊥
 not_empty s text e z h = let some = (is_short s text e h).filled in omega (arith, some, z)
 
-not_long : (s : Spot) (text : List ℕ) → is_named s ≡ false → most_bytes < bytes_of text → IsFormula s text → ⊥
+not_long : (s : Spot) (text : List ℕ) → is_named_formula s ≡ false → most_text_bytes < utf8_length text → IsFormulaAt s text → ⊥
 not_long s text e l h = let few = (is_short s text e h).short in omega (arith, few, l)
 
-empty_short : (text : List ℕ) → bytes_of text ≡ 0 → most_bytes < bytes_of text → ⊥
+empty_short : (text : List ℕ) → utf8_length text ≡ 0 → most_text_bytes < utf8_length text → ⊥
 empty_short text z l = omega (arith, z, l)
 
 given_one : (f : Frame) (s : Spot) (text : List ℕ) (g k : Option Cell) → GivenParts f s text (Ok g) → GivenParts f s text (Ok k) → g ≡ k
@@ -58,13 +58,13 @@ pub record IsReplaced (a : App) (address text : List ℕ) (cs : List Cell) : Typ
   pub place : Spot
   pub names : spot_of a address ≡ Some place
   pub given : Option Cell
-  pub gives : IsGiven (frame_of a) place text (Ok given)
+  pub gives : TextGives (app_frame a) place text (Ok given)
   pub are : cs ≡ with_cell a place given
 
 pub record IsBroken (a : App) (address text : List ℕ) (b : Broken) : Type 0 where
   pub place : Spot
   pub names : spot_of a address ≡ Some place
-  pub breaks : IsGiven (frame_of a) place text (Err b)
+  pub breaks : TextGives (app_frame a) place text (Err b)
 
 abbrev pub EditedParts : App → List ℕ → List ℕ → Result (List Cell) Broken → Type 0
 EditedParts a address text (Ok cs) = IsReplaced a address text cs
@@ -84,16 +84,16 @@ no_spot o s e f = let both : Some s ≡ None = sym e ∙ f in absurd cc
 edited_one : (a : App) (address text : List ℕ) (cs ds : List Cell) → IsReplaced a address text cs → IsReplaced a address text ds → cs ≡ ds
 edited_one a address text cs ds p q =
     let places = one_spot (spot_of a address) p.place q.place p.names q.names in
-    let gives = subst (λ (s : Spot). IsGiven (frame_of a) s text (Ok p.given)) places p.gives in
-    let given = given_one (frame_of a) q.place text p.given q.given (given_parts gives) (given_parts q.gives) in
+    let gives = subst (λ (s : Spot). TextGives (app_frame a) s text (Ok p.given)) places p.gives in
+    let given = given_one (app_frame a) q.place text p.given q.given (given_parts gives) (given_parts q.gives) in
     p.are ∙ (λ i. with_cell a (places i) (given i)) ∙ sym q.are
 
 edited_not : (a : App) (address text : List ℕ) (cs : List Cell) (b : Broken) → IsReplaced a address text cs → EditedParts a address text (Err b) → ⊥
 edited_not a address text cs b p (inl e) = no_spot (spot_of a address) p.place p.names e.0
 edited_not a address text cs b p (inr q) =
     let places = one_spot (spot_of a address) p.place q.place p.names q.names in
-    let gives = subst (λ (s : Spot). IsGiven (frame_of a) s text (Ok p.given)) places p.gives in
-    given_not (frame_of a) q.place text p.given b (given_parts gives) (given_parts q.breaks)
+    let gives = subst (λ (s : Spot). TextGives (app_frame a) s text (Ok p.given)) places p.gives in
+    given_not (app_frame a) q.place text p.given b (given_parts gives) (given_parts q.breaks)
 
 edited_same : (a : App) (address text : List ℕ) (b c : Broken) → EditedParts a address text (Err b) → EditedParts a address text (Err c) → IsSameBreak b c
 edited_same a address text b c (inl p) (inl q) = from_equal b c (p.1 ∙ sym q.1)
@@ -101,14 +101,14 @@ edited_same a address text b c (inl p) (inr q) = absurd (no_spot (spot_of a addr
 edited_same a address text b c (inr p) (inl q) = absurd (no_spot (spot_of a address) p.place p.names q.0)
 edited_same a address text b c (inr p) (inr q) =
     let places = one_spot (spot_of a address) p.place q.place p.names q.names in
-    let breaks = subst (λ (s : Spot). IsGiven (frame_of a) s text (Err b)) places p.breaks in
-    given_same (frame_of a) q.place text b c (given_parts breaks) (given_parts q.breaks)
+    let breaks = subst (λ (s : Spot). TextGives (app_frame a) s text (Err b)) places p.breaks in
+    given_same (app_frame a) q.place text b c (given_parts breaks) (given_parts q.breaks)
 
 -- ---- an edit, judged
 record IsJudgedSo (a : App) (address text : List ℕ) (v : Result App (List Broken)) : Type 0 where
   cells : List Cell
   replaces : IsReplaced a address text cells
-  judges : JudgedFormulas (frame_of a) cells v
+  judges : JudgedFormulas (app_frame a) cells v
 
 record IsBrokenSo (a : App) (address text : List ℕ) (bs : List Broken) : Type 0 where
   break : Broken
@@ -130,7 +130,7 @@ judged_parts {a = a} {address = x} {text = t} {v = v} (JudgedEdit.judged cells _
 agree : (a b : App) (address text : List ℕ) (v : Result App (List Broken)) → IsJudgedSo a address text (Ok b) → IsJudgedSo a address text v → Agree b v
 agree a b address text v p q =
     let cells = edited_one a address text p.cells q.cells p.replaces q.replaces in
-    formulas_one (frame_of a) q.cells b v (subst (λ (cs : List Cell). JudgedFormulas (frame_of a) cs (Ok b)) cells p.judges) q.judges
+    formulas_one (app_frame a) q.cells b v (subst (λ (cs : List Cell). JudgedFormulas (app_frame a) cs (Ok b)) cells p.judges) q.judges
 
 not_refused : (a b : App) (address text : List ℕ) (bs : List Broken) → IsJudgedSo a address text (Ok b) → IsBrokenSo a address text bs ⊎ IsJudgedSo a address text (Err bs) → ⊥
 not_refused a b address text bs p (inl q) = edited_not a address text p.cells q.break p.replaces q.breaks
@@ -150,7 +150,7 @@ refusals a address text bs cs (inl p) (inr q) = absurd (edited_not a address tex
 refusals a address text bs cs (inr p) (inl q) = absurd (edited_not a address text p.cells q.break p.replaces q.breaks)
 refusals a address text bs cs (inr p) (inr q) =
     let cells = edited_one a address text p.cells q.cells p.replaces q.replaces in
-    formulas_same (subst (λ (xs : List Cell). JudgedFormulas (frame_of a) xs (Err bs)) cells p.judges) q.judges
+    formulas_same (subst (λ (xs : List Cell). JudgedFormulas (app_frame a) xs (Err bs)) cells p.judges) q.judges
 
 pub one_edit_refusal : IsOneEditRefusal
 one_edit_refusal a address text bs cs p q = refusals a address text bs cs (judged_parts p) (judged_parts q)

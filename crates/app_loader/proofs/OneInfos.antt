@@ -10,7 +10,7 @@ use Rattle.fx_core.specs.declared.names.Names.{Names}
 use Rattle.app_cells.specs.declared.app.CellInfo.{CellInfo}
 use Rattle.app_cells.specs.declared.cell.Cell.{Cell}
 use Rattle.app_loader.specs.Admitted.{AreRefused}
-use Rattle.app_loader.specs.Cells.{judged}
+use Rattle.app_loader.specs.Cells.{judged_cell}
 use Rattle.app_loader.specs.Infos.{AreElaborated, IsElaborated}
 use Rattle.app_loader.specs.Supports.{without_support}
 use Rattle.fx_plan.specs.Sites.{sites_of}
@@ -23,8 +23,8 @@ use Rattle.fx_core.specs.Rules as rules
 
 -- ---- where the table of functions stands doesn't matter
 module _ (m k : Names) (e : k ≡ functions_at m k.signatures) (alike : AreAlike k.signatures m.signatures) where
-  pub judged_at : (c : Cell) → judged k c ≡ judged m c
-  judged_at c = ap (λ (z : Names). judged z c) e ∙ judged_alike m k.signatures m.signatures alike c.screen c.item c.acts (option_map shape c.wanted) c.expr
+  pub judged_at : (c : Cell) → judged_cell k c ≡ judged_cell m c
+  judged_at c = ap (λ (z : Names). judged_cell z c) e ∙ judged_alike m k.signatures m.signatures alike c.screen c.item c.acts (option_map shape c.wanted) c.expr
 
   same_pair : (x y : Term × Shape) (r : Result (Term × Shape) (ℕ × ℕ)) → r ≡ Ok x → r ≡ Ok y → x ≡ y
   same_pair x y r p q = let both : ◌≡◌ {A = Result (Term × Shape) (ℕ × ℕ)} (Ok x) (Ok y) = sym p ∙ q in cc
@@ -34,7 +34,7 @@ module _ (m k : Names) (e : k ≡ functions_at m k.signatures) (alike : AreAlike
 
   info_one : (most : ℕ) (c : Cell) (i j : CellInfo) → IsElaborated m most c i → IsElaborated k most c j → without_support i ≡ without_support j
   info_one most c i j x y =
-      let tree : ◌≡◌ {A = Term × Shape} (i.core, shape i.ty) (j.core, shape j.ty) = same_pair (i.core, shape i.ty) (j.core, shape j.ty) (judged m c) x.tree (sym (judged_at c) ∙ y.tree) in
+      let tree : ◌≡◌ {A = Term × Shape} (i.core, shape i.ty) (j.core, shape j.ty) = same_pair (i.core, shape i.ty) (j.core, shape j.ty) (judged_cell m c) x.tree (sym (judged_at c) ∙ y.tree) in
       let cells : i.cell ≡ j.cell = x.cell ∙ sym y.cell in
       let trees : i.core ≡ j.core = ap (λ (z : Term × Shape). z.0) tree in
       let types : i.ty ≡ j.ty = ty_one i.ty j.ty (ap (λ (z : Term × Shape). z.1) tree) in
@@ -67,4 +67,4 @@ module _ (m k : Names) (e : k ≡ functions_at m k.signatures) (alike : AreAlike
   none_refused most (c ∷ cs) [] bs x h = absurd x
   none_refused most (c ∷ cs) (i ∷ is) bs x (inl h) = none_refused most cs is bs x.1 h.1
   none_refused most (c ∷ cs) (i ∷ is) bs x (inr h) =
-      absurd (not_admitted (i.core, shape i.ty) (h.3.1, rules.number_of h.3.0) (judged k c) (judged_at c ∙ x.0.tree) h.3.3)
+      absurd (not_admitted (i.core, shape i.ty) (h.3.1, rules.rule_number h.3.0) (judged_cell k c) (judged_at c ∙ x.0.tree) h.3.3)

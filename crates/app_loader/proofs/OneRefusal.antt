@@ -15,14 +15,14 @@ use Rattle.fx_parser.specs.Texts.{IsEnd, IsSyntaxAt, place_or}
 use Rattle.fx_parser.specs.Trees.{Stops}
 use Rattle.fx_parser.specs.declared.end.ParseEnd.{ParseEnd}
 use Rattle.fx_parser.specs.declared.end.ParseEnd.TheVariants.{Lex, Syntax, TooDeep, Memory}
-use Rattle.fx_core.specs.Rules.{number_of}
+use Rattle.fx_core.specs.Rules.{rule_number}
 use Rattle.fx_core.specs.Term.{Term}
 use Rattle.fx_core.specs.declared.broken.Broken.{Broken}
 use Rattle.fx_core.specs.declared.names.Names.{Names}
 use Rattle.fx_core.specs.declared.rule.Rule.{Rule}
 use Rattle.fx_core.specs.declared.rule.Rule.TheVariants as rule
 use Rattle.fx_typing.specs.Details.{IsToldBrokenWhole}
-use Rattle.fx_typing.specs.Rounds.{IsFinal, StillChanges}
+use Rattle.fx_typing.specs.Rounds.{AreFinalTypes, StillChanges}
 use Rattle.app_file.specs.Files.{IsBadPart, IsOneBreak, IsOneReading, broken_of}
 use Rattle.app_file.specs.declared.breaks.FileBreak.{FileBreak}
 use Rattle.app_file.specs.declared.breaks.FileBreak.TheVariants as why
@@ -32,13 +32,13 @@ use Rattle.app_cells.specs.declared.app.CellInfo.{CellInfo}
 use Rattle.app_cells.specs.declared.cell.Cell.{Cell}
 use Rattle.app_cells.specs.declared.frame.Frame.{Frame}
 use Rattle.app_cells.specs.Spots.{address}
-use Rattle.app_names.specs.AppNames.{AreNames}
+use Rattle.app_names.specs.AppNames.{AreNamesOf}
 use Rattle.app_names.specs.NameRules.{in_app, name_breaks}
 use Rattle.app_texts.specs.declared.file_texts.Text.{Text}
-use Rattle.app_texts.specs.Files.{frame_of, texts_of}
-use Rattle.app_texts.specs.Texts.{AreFormulasOf, AreNamedAt, AreReadAt, IsNamedReading, IsReading, IsTold, bare, broken, formulas, in_text, named_broken, named_formulas}
+use Rattle.app_texts.specs.Files.{file_frame, formula_texts}
+use Rattle.app_texts.specs.Texts.{AreFormulasOf, AreNamedAt, AreReadAt, IsNamedReading, IsReading, IsToldOfText, bare_frame, broken, formulas, in_text, named_broken, named_formulas}
 use Rattle.app_loader.specs.Admitted.{AreRefused, Breaks, in_cell}
-use Rattle.app_loader.specs.Cells.{cell_of, judged, place_of}
+use Rattle.app_loader.specs.Cells.{round_cell, judged_cell, cell_place}
 use Rattle.app_loader.specs.JudgedFormulas.{AreSettled, JudgedCells, app, cyclic, refused, unsettled, unsettling}
 use Rattle.app_loader.specs.Judged as judge
 use Rattle.app_loader.specs.Judged.{Judged, JudgedApp, JudgedFile, JudgedFormulas, JudgedText, misnamed, named, no_text, text, too_long}
@@ -91,7 +91,7 @@ one_stop P xs i j a b = elim (cases_lt i j) [
 syntax_one : (P : List Item → Type 0) (xs : List Item) (end at bt : ℕ) → IsSyntaxAt P xs end at → IsSyntaxAt P xs end bt → at ≡ bt
 syntax_one P xs end at bt a b = a.begins ∙ ap (λ i. place_or end (drop i xs)) (one_stop P xs a.place b.place a.stops b.stops) ∙ sym b.begins
 
-pub ends_same : (P Deeper : List Item → Type 0) (cell source : List ℕ) (e g : ParseEnd) (b c : Broken) → IsEnd P Deeper source e → IsEnd P Deeper source g → IsTold cell source e b → IsTold cell source g c → IsSameBreak b c
+pub ends_same : (P Deeper : List Item → Type 0) (cell source : List ℕ) (e g : ParseEnd) (b c : Broken) → IsEnd P Deeper source e → IsEnd P Deeper source g → IsToldOfText cell source e b → IsToldOfText cell source g c → IsSameBreak b c
 ends_same P Deeper cell source (Lex x) (Lex y) b c p q s t =
     let one = bad_one (chars source) x y p.0 q.0 in
     from_equal b c (s ∙ ap (λ (z : LexErr). in_text cell rule.BadToken z.at (bad_token_words z.what)) one ∙ sym t)
@@ -134,7 +134,7 @@ named_same_breaks f source cs ds bs es (inr h) (inr k) =
 file_same_breaks : (a : AppFile) (f : Frame) (cs ds : List Cell) (bs es : List Broken) → AreFormulasOf a f cs bs → AreFormulasOf a f ds es → AreSameBreaks bs es
 file_same_breaks a f cs ds bs es h k =
     let first = named_same_breaks f (encode_utf8_all a.formulas) h.named_cells k.named_cells h.named_breaks k.named_breaks h.named k.named in
-    let others = read_same_breaks f (texts_of a) h.other_cells k.other_cells h.other_breaks k.other_breaks h.others k.others in
+    let others = read_same_breaks f (formula_texts a) h.other_cells k.other_cells h.other_breaks k.other_breaks h.others k.others in
     subst (λ (xs : List Broken). AreSameBreaks xs es) (sym h.breaks)
     (subst (AreSameBreaks (h.named_breaks ++ h.other_breaks)) (sym k.breaks) (same_behind h.named_breaks k.named_breaks h.other_breaks k.other_breaks first others))
 
@@ -158,7 +158,7 @@ rule_at k =
     else (if k == 14 then rule.BadShape
     else (if k == 15 then rule.NotAVariable else rule.NotBuilt))))))))))))))
 
-numbered : (r : Rule) → rule_at (number_of r) ≡ r
+numbered : (r : Rule) → rule_at (rule_number r) ≡ r
 unfolding rule_at
 numbered rule.BadToken = refl
 numbered rule.Syntax = refl
@@ -177,7 +177,7 @@ numbered rule.BadShape = refl
 numbered rule.NotAVariable = refl
 numbered rule.NotBuilt = refl
 
-rule_one : (r q : Rule) → number_of r ≡ number_of q → r ≡ q
+rule_one : (r q : Rule) → rule_number r ≡ rule_number q → r ≡ q
 rule_one r q e = sym (numbered r) ∙ ap rule_at e ∙ numbered q
 
 -- what is broken is broken at one place by one rule
@@ -189,27 +189,27 @@ no_break x w r q e y z = let both : ◌≡◌ {A = Result (Term × Shape) (ℕ �
 
 -- names that differ in the place of the table of functions alone
 module _ (m k : Names) (e : k ≡ functions_at m k.signatures) (alike : AreAlike k.signatures m.signatures) where
-  told_at : (c : Cell) (w r : ℕ) (said : List ℕ) → IsToldBrokenWhole (place_of k c) c.acts (option_map shape c.wanted) c.expr w r said → IsToldBrokenWhole (place_of m c) c.acts (option_map shape c.wanted) c.expr w r said
+  told_at : (c : Cell) (w r : ℕ) (said : List ℕ) → IsToldBrokenWhole (cell_place k c) c.acts (option_map shape c.wanted) c.expr w r said → IsToldBrokenWhole (cell_place m c) c.acts (option_map shape c.wanted) c.expr w r said
   told_at c w r said x =
       whole_told_alike m k.signatures m.signatures alike c.screen c.item c.acts (option_map shape c.wanted) c.expr w r said
-      (subst (λ (z : Names). IsToldBrokenWhole (place_of z c) c.acts (option_map shape c.wanted) c.expr w r said) e x)
+      (subst (λ (z : Names). IsToldBrokenWhole (cell_place z c) c.acts (option_map shape c.wanted) c.expr w r said) e x)
 
   break_one : (c : Cell) (b d : Broken) → Breaks m c b → Breaks k c d → b ≡ d
   break_one c b d x y =
-      let place : ◌≡◌ {A = ℕ × ℕ} (x.1, number_of x.0) (y.1, number_of y.0) =
-      one_break (judged m c) (judged k c) (x.1, number_of x.0) (y.1, number_of y.0) (sym (judged_at m k e alike c)) x.3 y.3 in
+      let place : ◌≡◌ {A = ℕ × ℕ} (x.1, rule_number x.0) (y.1, rule_number y.0) =
+      one_break (judged_cell m c) (judged_cell k c) (x.1, rule_number x.0) (y.1, rule_number y.0) (sym (judged_at m k e alike c)) x.3 y.3 in
       let at : x.1 ≡ y.1 = ap (λ (w : ℕ × ℕ). w.0) place in
-      let number : number_of x.0 ≡ number_of y.0 = ap (λ (w : ℕ × ℕ). w.1) place in
-      let told : IsToldBrokenWhole (place_of m c) c.acts (option_map shape c.wanted) c.expr y.1 (number_of y.0) x.2 =
-      subst (λ (w : ℕ × ℕ). IsToldBrokenWhole (place_of m c) c.acts (option_map shape c.wanted) c.expr w.0 w.1 x.2) place x.4 in
-      let said : x.2 ≡ y.2 = whole_once (place_of m c) c.acts (option_map shape c.wanted) c.expr y.1 (number_of y.0) x.2 y.2 told (told_at c y.1 (number_of y.0) y.2 y.4) in
+      let number : rule_number x.0 ≡ rule_number y.0 = ap (λ (w : ℕ × ℕ). w.1) place in
+      let told : IsToldBrokenWhole (cell_place m c) c.acts (option_map shape c.wanted) c.expr y.1 (rule_number y.0) x.2 =
+      subst (λ (w : ℕ × ℕ). IsToldBrokenWhole (cell_place m c) c.acts (option_map shape c.wanted) c.expr w.0 w.1 x.2) place x.4 in
+      let said : x.2 ≡ y.2 = whole_once (cell_place m c) c.acts (option_map shape c.wanted) c.expr y.1 (rule_number y.0) x.2 y.2 told (told_at c y.1 (rule_number y.0) y.2 y.4) in
       x.5 ∙ (λ i. in_cell c (rule_one x.0 y.0 number i) (at i) (said i)) ∙ sym y.5
 
   refused_one : (cs : List Cell) (bs ds : List Broken) → AreRefused m cs bs → AreRefused k cs ds → bs ≡ ds
   refused_one [] bs ds x y = x ∙ sym y
   refused_one (c ∷ cs) bs ds (inl x) (inl y) = refused_one cs bs ds x.1 y.1
-  refused_one (c ∷ cs) bs ds (inl x) (inr y) = absurd (no_break x.0.0 (y.3.1, number_of y.3.0) (judged m c) (judged k c) (sym (judged_at m k e alike c)) x.0.1 y.3.3)
-  refused_one (c ∷ cs) bs ds (inr x) (inl y) = absurd (no_break y.0.0 (x.3.1, number_of x.3.0) (judged k c) (judged m c) (judged_at m k e alike c) y.0.1 x.3.3)
+  refused_one (c ∷ cs) bs ds (inl x) (inr y) = absurd (no_break x.0.0 (y.3.1, rule_number y.3.0) (judged_cell m c) (judged_cell k c) (sym (judged_at m k e alike c)) x.0.1 y.3.3)
+  refused_one (c ∷ cs) bs ds (inr x) (inl y) = absurd (no_break y.0.0 (x.3.1, rule_number x.3.0) (judged_cell k c) (judged_cell m c) (judged_at m k e alike c) y.0.1 x.3.3)
   refused_one (c ∷ cs) bs ds (inr x) (inr y) =
       let first = break_one c x.0 y.0 x.3 y.3 in
       let others = refused_one cs x.1 y.1 x.4 y.4 in
@@ -226,21 +226,21 @@ no_refusal : (v : Result App (List Broken)) (a : App) → SameRefusal v (Ok a)
 no_refusal (Ok b) a = tt
 no_refusal (Err bs) a = tt
 
-module _ (f : Frame) (cells : List Cell) (n k : Names) (x : AreNames f cells n) (y : AreNames f cells k) where
-  never_settles : (m : Names) → StillChanges (map cell_of cells) n → IsFinal (map cell_of cells) k m → ⊥
-  never_settles m still final = settles_alike f (map cell_of cells) cells k n m y x final still
+module _ (f : Frame) (cells : List Cell) (n k : Names) (x : AreNamesOf f cells n) (y : AreNamesOf f cells k) where
+  never_settles : (m : Names) → StillChanges (map round_cell cells) n → AreFinalTypes (map round_cell cells) k m → ⊥
+  never_settles m still final = settles_alike f (map round_cell cells) cells k n m y x final still
 
-  one_names : (m l : Names) → IsFinal (map cell_of cells) n m → IsFinal (map cell_of cells) k l → (l ≡ functions_at m l.signatures) × AreAlike l.signatures m.signatures
-  one_names m l s t = final_names f (map cell_of cells) cells n k m l x y s t
+  one_names : (m l : Names) → AreFinalTypes (map round_cell cells) n m → AreFinalTypes (map round_cell cells) k l → (l ≡ functions_at m l.signatures) × AreAlike l.signatures m.signatures
+  one_names m l s t = final_names f (map round_cell cells) cells n k m l x y s t
 
-  both_refused : (m l : Names) (bs ds : List Broken) → IsFinal (map cell_of cells) n m → IsFinal (map cell_of cells) k l → AreRefused m cells bs → AreRefused l cells ds → bs ≡ ds
+  both_refused : (m l : Names) (bs ds : List Broken) → AreFinalTypes (map round_cell cells) n m → AreFinalTypes (map round_cell cells) k l → AreRefused m cells bs → AreRefused l cells ds → bs ≡ ds
   both_refused m l bs ds s t p q = let one = one_names m l s t in refused_one m l one.0 one.1 cells bs ds p q
 
-  settled_first : (most : ℕ) (m l : Names) (is : List CellInfo) (b : Broken) (bs : List Broken) → AreSettled n most cells m is → IsFinal (map cell_of cells) k l → AreRefused l cells (b ∷ bs) → ⊥
+  settled_first : (most : ℕ) (m l : Names) (is : List CellInfo) (b : Broken) (bs : List Broken) → AreSettled n most cells m is → AreFinalTypes (map round_cell cells) k l → AreRefused l cells (b ∷ bs) → ⊥
   settled_first most m l is b bs s t q =
       let one = one_names m l s.final t in some_broken b bs (b ∷ bs) refl (none_refused m l one.0 one.1 most cells is (b ∷ bs) s.elaborated q)
 
-cells_same : {n k : Names} {limit : ℕ} {cells : List Cell} {v w : Result App (List Broken)} → JudgedCells n limit cells v → JudgedCells k limit cells w → (f : Frame) → AreNames f cells n → AreNames f cells k → SameRefusal v w
+cells_same : {n k : Names} {limit : ℕ} {cells : List Cell} {v w : Result App (List Broken)} → JudgedCells n limit cells v → JudgedCells k limit cells w → (f : Frame) → AreNamesOf f cells n → AreNamesOf f cells k → SameRefusal v w
 cells_same (app n limit cells a p) q f x y = tt
 cells_same {v = v} p (app k _ _ a q) f x y = no_refusal v a
 cells_same (unsettling n limit cells p) (unsettling k _ _ q) f x y = all_same (unsettled ∷ [])
@@ -264,14 +264,14 @@ formulas_same (named f cells n v x p) (named _ _ k w y q) = cells_same p q f x.n
 -- ---- what a file holds
 abbrev IfBroken : AppFile → Result (Frame × List Cell) (List Broken) → Type 0
 IfBroken a (Ok r) = Unit {0}
-IfBroken a (Err bs) = (cs : List Cell) × AreFormulasOf a (frame_of a) cs bs
+IfBroken a (Err bs) = (cs : List Cell) × AreFormulasOf a (file_frame a) cs bs
 
 broken_parts : {a : AppFile} {v : Result (Frame × List Cell) (List Broken)} → IsReading a v → IfBroken a v
 broken_parts (formulas cs h) = tt
 broken_parts (broken cs b bs h) = (cs, h)
 
 file_same : {a : AppFile} {v w : Result App (List Broken)} → JudgedFile a v → JudgedFile a w → SameRefusal v w
-file_same (judge.unparsed a bs p) (judge.unparsed _ cs q) = let x = broken_parts p in let y = broken_parts q in file_same_breaks a (frame_of a) x.0 y.0 bs cs x.1 y.1
+file_same (judge.unparsed a bs p) (judge.unparsed _ cs q) = let x = broken_parts p in let y = broken_parts q in file_same_breaks a (file_frame a) x.0 y.0 bs cs x.1 y.1
 file_same (judge.unparsed a bs p) (judge.parsed _ f cells w q j) = let y = reading_parts q in absurd (not_read (f, cells) bs (reading_one p f cells y.0 y.1))
 file_same (judge.parsed a f cells v p j) (judge.unparsed _ cs q) = let x = reading_parts p in absurd (not_read (f, cells) cs (reading_one q f cells x.0 x.1))
 file_same {w = w} (judge.parsed a f cells v p j) (judge.parsed _ g others _ q k) =
@@ -302,14 +302,14 @@ one_refusal_of_a_file law one file bs cs p q = app_same law one p q
 -- ---- texts of named formulas
 abbrev IfUnnamed : List ℕ → Result (Frame × List Cell) (List Broken) → Type 0
 IfUnnamed source (Ok r) = Unit {0}
-IfUnnamed source (Err bs) = (cs : List Cell) × AreNamedAt bare source cs bs
+IfUnnamed source (Err bs) = (cs : List Cell) × AreNamedAt bare_frame source cs bs
 
 unnamed_parts : {source : List ℕ} {v : Result (Frame × List Cell) (List Broken)} → IsNamedReading source v → IfUnnamed source v
 unnamed_parts (named_formulas cs h) = tt
 unnamed_parts (named_broken cs b bs h) = (cs, h)
 
 text_same : {source : List ℕ} {v w : Result App (List Broken)} → JudgedText source v → JudgedText source w → SameRefusal v w
-text_same (judge.unparsed source bs p) (judge.unparsed _ cs q) = let x = unnamed_parts p in let y = unnamed_parts q in named_same_breaks bare source x.0 y.0 bs cs x.1 y.1
+text_same (judge.unparsed source bs p) (judge.unparsed _ cs q) = let x = unnamed_parts p in let y = unnamed_parts q in named_same_breaks bare_frame source x.0 y.0 bs cs x.1 y.1
 text_same (judge.unparsed source bs p) (judge.parsed _ f cells w q j) = let y = named_parts q in absurd (not_read (f, cells) bs (named_reading_one p f cells y.0 y.1))
 text_same (judge.parsed source f cells v p j) (judge.unparsed _ cs q) = let x = named_parts p in absurd (not_read (f, cells) cs (named_reading_one q f cells x.0 x.1))
 text_same {w = w} (judge.parsed source f cells v p j) (judge.parsed _ g others _ q k) =

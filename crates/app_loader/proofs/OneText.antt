@@ -12,8 +12,8 @@ use Rattle.fx_grammar.specs.declared.item.Meaning.{Meaning}
 use Rattle.fx_grammar.specs.declared.item.Meaning.TheVariants as m
 use Rattle.fx_grammar.specs.declared.line.Join.TheVariants as join
 use Rattle.fx_grammar.specs.declared.line.Line.TheVariants.{Several}
-use Rattle.fx_grammar.specs.Formulas.{Entry, entry, AreNamed, no_entries, last_entry, further_entry, AreDeeper, AreEntriesOf, HasItems, HasTree, IsDeeper}
-use Rattle.fx_grammar.specs.Reading.{Seen, line_at}
+use Rattle.fx_grammar.specs.Formulas.{NamedFormula, named_formula, AreNamed, no_entries, last_entry, further_entry, AreDeeper, AreEntriesOf, HasItems, HasTree, IsDeeper}
+use Rattle.fx_grammar.specs.Reading.{Parsed, line_at}
 use Rattle.fx_grammar.proofs.Complete.{complete}
 use Rattle.fx_grammar.proofs.Meanings.{one_items}
 use Rattle.fx_parser.specs.declared.entries.Named.{Named}
@@ -39,7 +39,7 @@ next [] = []
 next (x ∷ us) = us
 
 -- The first of named formulas, with the tokens of the others.
-record Begun (ts : List Item) (es : List Entry) : Type 0 where
+record Begun (ts : List Item) (es : List NamedFormula) : Type 0 where
   name : List ℕ
   formula : List Item
   rest : List Item
@@ -47,12 +47,12 @@ record Begun (ts : List Item) (es : List Entry) : Type 0 where
   tree : Tree
   depth : ℕ
   is_tree : line_at 64 (Several join.Or) (formula ++ rest) ≡ Some (tree, depth, rest)
-  entries : List Entry
-  is : es ≡ entry name formula tree ∷ entries
+  entries : List NamedFormula
+  is : es ≡ named_formula name formula tree ∷ entries
   others : AreEntriesOf 64 (next rest) entries
   shorter : length (next rest) < length ts
 
-begun : {ts : List Item} {d : ℕ} {es : List Entry} → AreNamed ts d es → d ≤ 64 → 0 < length ts → Begun ts es
+begun : {ts : List Item} {d : ℕ} {es : List NamedFormula} → AreNamed ts d es → d ≤ 64 → 0 < length ts → Begun ts es
 unfolding head head_by next
 begun no_entries h n = absurd (omega arith)
 begun (last_entry x y cs ts d t e f p) h n = record {
@@ -83,11 +83,11 @@ begun (further_entry x y cs ts d t z rest e es f g p k q) h n = record {
 }
 
 -- no tokens are no named formulas
-IsEmpty : List Item → List Entry → Type 0
+IsEmpty : List Item → List NamedFormula → Type 0
 IsEmpty [] es = es ≡ []
 IsEmpty (x ∷ us) es = Unit {0}
 
-empty : {ts : List Item} {d : ℕ} {es : List Entry} → AreNamed ts d es → IsEmpty ts es
+empty : {ts : List Item} {d : ℕ} {es : List NamedFormula} → AreNamed ts d es → IsEmpty ts es
 unfolding IsEmpty
 empty no_entries = refl
 empty (last_entry x y cs ts d t e f p) = tt
@@ -98,12 +98,12 @@ same_pair a b us vs e =
     let f : ◌≡◌ {A = List ℕ × List Item} (a, us) (b, vs) = cc in
     (ap (λ (z : List ℕ × List Item). z.0) f, ap (λ (z : List ℕ × List Item). z.1) f)
 
-same_seen : (t u : Tree) (d e : ℕ) (us vs : List Item) → ◌≡◌ {A = Option (Seen Tree)} (Some (t, d, us)) (Some (u, e, vs)) → (t ≡ u) × (us ≡ vs)
+same_seen : (t u : Tree) (d e : ℕ) (us vs : List Item) → ◌≡◌ {A = Option (Parsed Tree)} (Some (t, d, us)) (Some (u, e, vs)) → (t ≡ u) × (us ≡ vs)
 same_seen t u d e us vs h =
-    let f : ◌≡◌ {A = Seen Tree} (t, d, us) (u, e, vs) = cc in
-    (ap (λ (z : Seen Tree). z.0) f, ap (λ (z : Seen Tree). z.2) f)
+    let f : ◌≡◌ {A = Parsed Tree} (t, d, us) (u, e, vs) = cc in
+    (ap (λ (z : Parsed Tree). z.0) f, ap (λ (z : Parsed Tree). z.2) f)
 
-entries_one : (k : ℕ) (ts : List Item) (es fs : List Entry) → length ts < k → AreEntriesOf 64 ts es → AreEntriesOf 64 ts fs → es ≡ fs
+entries_one : (k : ℕ) (ts : List Item) (es fs : List NamedFormula) → length ts < k → AreEntriesOf 64 ts es → AreEntriesOf 64 ts fs → es ≡ fs
 unfolding IsEmpty
 entries_one zero ts es fs few p q = absurd (omega arith)
 entries_one (suc k) [] es fs few p q = let a : es ≡ [] = empty p.2 in let b : fs ≡ [] = empty q.2 in a ∙ sym b
@@ -115,10 +115,10 @@ entries_one (suc k) (x ∷ us) es fs few p q =
     let formulas = append_cancel_right a.formula b.formula b.rest (ap (λ r. a.formula ++ r) (sym trees.1) ∙ heads.1) in
     let a_short = a.shorter in
     let rests = entries_one k (next a.rest) a.entries b.entries (omega arith) a.others (subst (λ r. AreEntriesOf 64 (next r) b.entries) (sym trees.1) b.others) in
-    a.is ∙ (λ i. entry (heads.0 i) (formulas i) (trees.0 i) ∷ rests i) ∙ sym b.is
+    a.is ∙ (λ i. named_formula (heads.0 i) (formulas i) (trees.0 i) ∷ rests i) ∙ sym b.is
 
 -- tokens are one list of named formulas at most
-one_named : (ts : List Item) (es fs : List Entry) → AreEntriesOf 64 ts es → AreEntriesOf 64 ts fs → es ≡ fs
+one_named : (ts : List Item) (es fs : List NamedFormula) → AreEntriesOf 64 ts es → AreEntriesOf 64 ts fs → es ≡ fs
 one_named ts es fs p q = entries_one (length ts + 1) ts es fs (omega arith) p q
 
 pub one_text : (source : List ℕ) (ns ms : List Named) → IsNamedText 64 source ns → IsNamedText 64 source ms → ns ≡ ms

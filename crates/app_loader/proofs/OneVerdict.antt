@@ -12,18 +12,18 @@ use Rattle.app_cells.specs.declared.app.App.{App}
 use Rattle.app_cells.specs.declared.app.CellInfo.{CellInfo}
 use Rattle.app_cells.specs.declared.cell.Cell.{Cell}
 use Rattle.app_cells.specs.declared.frame.Frame.{Frame}
-use Rattle.app_names.specs.AppNames.{AreNames}
+use Rattle.app_names.specs.AppNames.{AreNamesOf}
 use Rattle.app_names.specs.NameRules.{name_breaks}
 use Rattle.app_loader.proofs.Soundness.{IfApp, app_parts}
-use Rattle.app_texts.specs.Files.{frame_of}
-use Rattle.app_texts.specs.Texts.{AreFormulasOf, AreNamedAt, bare}
+use Rattle.app_texts.specs.Files.{file_frame}
+use Rattle.app_texts.specs.Texts.{AreFormulasOf, AreNamedAt, bare_frame}
 use Rattle.app_loader.specs.Admitted.{AreRefused}
-use Rattle.app_loader.specs.Cells.{cell_of}
+use Rattle.app_loader.specs.Cells.{round_cell}
 use Rattle.app_loader.specs.Cycles.{IsCycle}
 use Rattle.app_loader.specs.JudgedFormulas.{AreSettled, IsAppOf, JudgedCells, app, cyclic, refused, unsettling}
 use Rattle.app_loader.specs.Supports.{without_support}
 use Rattle.app_loader.specs.Judged as judge
-use Rattle.app_loader.specs.Judged.{AreNamed, Judged, JudgedApp, JudgedFile, JudgedFormulas, JudgedText, longest, misnamed, named, no_text, text, too_long}
+use Rattle.app_loader.specs.Judged.{AreNamedFormulas, Judged, JudgedApp, JudgedFile, JudgedFormulas, JudgedText, most_source_bytes, misnamed, named, no_text, text, too_long}
 use Rattle.app_loader.specs.Verdicts.{IsOneApp, IsOneAppOfAFile, IsOneAppOfAText, IsOneVerdict, IsSameApp}
 use Rattle.app_loader.proofs.Circles.{behind_alike, edges_alike, no_circle}
 use Rattle.app_loader.proofs.Functions.{breaks_alike}
@@ -33,7 +33,7 @@ use Rattle.app_loader.proofs.Reaching.{cells_one, same_edges}
 use Rattle.app_loader.proofs.Rounds.{AreAlike, final_names, functions_at, settles_alike}
 use Rattle.app_loader.proofs.Singles.{named_parts, reading_parts}
 use Rattle.depend_graph.specs.Order.{IsClosedPath}
-use Rattle.fx_typing.specs.Rounds.{IsFinal, StillChanges}
+use Rattle.fx_typing.specs.Rounds.{AreFinalTypes, StillChanges}
 
 -- a verdict is this app
 abbrev pub Agree : App → Result App (List Broken) → Type 0
@@ -44,16 +44,16 @@ pub some_broken : (b : Broken) (bs cs : List Broken) → cs ≡ b ∷ bs → cs 
 some_broken b bs cs e k = let both : b ∷ bs ≡ [] = sym e ∙ k in cc
 
 -- ---- formulas under names
-module _ (f : Frame) (cells : List Cell) (first : Names) (are : AreNames f cells first) (most : ℕ) (a : App) (h : IsAppOf first most cells a) where
-  same_names : (n m : Names) (is : List CellInfo) → AreNames f cells n → AreSettled n most cells m is → (m ≡ functions_at a.names m.signatures) × AreAlike m.signatures a.names.signatures
-  same_names n m is its s = final_names f (map cell_of cells) cells first n a.names m are its h.settled.final s.final
+module _ (f : Frame) (cells : List Cell) (first : Names) (are : AreNamesOf f cells first) (most : ℕ) (a : App) (h : IsAppOf first most cells a) where
+  same_names : (n m : Names) (is : List CellInfo) → AreNamesOf f cells n → AreSettled n most cells m is → (m ≡ functions_at a.names m.signatures) × AreAlike m.signatures a.names.signatures
+  same_names n m is its s = final_names f (map round_cell cells) cells first n a.names m are its h.settled.final s.final
 
-  same_infos : (n m : Names) (is : List CellInfo) → AreNames f cells n → AreSettled n most cells m is → map without_support a.cells ≡ map without_support is
+  same_infos : (n m : Names) (is : List CellInfo) → AreNamesOf f cells n → AreSettled n most cells m is → map without_support a.cells ≡ map without_support is
   same_infos n m is its s =
       let same = same_names n m is its s in
       infos_one a.names m same.0 same.1 most cells a.cells is h.settled.elaborated s.elaborated
 
-  not_cyclic : (n m : Names) (is : List CellInfo) (b : Broken) → AreNames f cells n → AreSettled n most cells m is → IsCycle m is b → ⊥
+  not_cyclic : (n m : Names) (is : List CellInfo) (b : Broken) → AreNamesOf f cells n → AreSettled n most cells m is → IsCycle m is b → ⊥
   not_cyclic n m is b its s k =
       let same = same_names n m is its s in
       let edges : edges_of m is ≡ edges_of a.names a.cells =
@@ -61,7 +61,7 @@ module _ (f : Frame) (cells : List Cell) (first : Names) (are : AreNames f cells
       no_circle a.names a.cells a.order k.0 h.order (subst (λ (es : List (ℕ × ℕ)). IsClosedPath es k.0) edges k.1)
 
   -- a verdict on them that is no other
-  pub cells_agree : {n : Names} {limit : ℕ} {own : List Cell} {v : Result App (List Broken)} → JudgedCells n limit own v → own ≡ cells → limit ≡ most → AreNames f cells n → Agree a v
+  pub cells_agree : {n : Names} {limit : ℕ} {own : List Cell} {v : Result App (List Broken)} → JudgedCells n limit own v → own ≡ cells → limit ≡ most → AreNamesOf f cells n → Agree a v
   cells_agree (app n limit own b k) e l its =
       let settled : AreSettled n most cells b.names b.cells = subst (λ q. AreSettled n q cells b.names b.cells) l (subst (λ (cs : List Cell). AreSettled n limit cs b.names b.cells) e k.settled) in
       let same = same_names n b.names b.cells its settled in
@@ -69,24 +69,24 @@ module _ (f : Frame) (cells : List Cell) (first : Names) (are : AreNames f cells
       λ s. sym (ap (λ (z : Names). cell_behind z s) same.0 ∙ behind_alike a.names b.names.signatures s) in
       record { cells = cells_one a b behind (same_infos n b.names b.cells its settled) h.supports k.supports; names = same.0; functions = same.1; limit = h.limit ∙ sym l ∙ sym k.limit }
   cells_agree (unsettling n limit own still) e l its =
-      settles_alike f (map cell_of cells) cells first n a.names are its h.settled.final (subst (λ (cs : List Cell). StillChanges (map cell_of cs) n) e still)
+      settles_alike f (map round_cell cells) cells first n a.names are its h.settled.final (subst (λ (cs : List Cell). StillChanges (map round_cell cs) n) e still)
   cells_agree (refused n limit own m b bs final r) e l its =
-      let settled : IsFinal (map cell_of cells) n m = subst (λ (cs : List Cell). IsFinal (map cell_of cs) n m) e final in
-      let same = final_names f (map cell_of cells) cells first n a.names m are its h.settled.final settled in
+      let settled : AreFinalTypes (map round_cell cells) n m = subst (λ (cs : List Cell). AreFinalTypes (map round_cell cs) n m) e final in
+      let same = final_names f (map round_cell cells) cells first n a.names m are its h.settled.final settled in
       some_broken b bs (b ∷ bs) refl (none_refused a.names m same.0 same.1 most cells a.cells (b ∷ bs) h.settled.elaborated (subst (λ (cs : List Cell). AreRefused m cs (b ∷ bs)) e r))
   cells_agree (cyclic n limit own m is b s k) e l its = not_cyclic n m is b its (subst (λ q. AreSettled n q cells m is) l (subst (λ (cs : List Cell). AreSettled n limit cs m is) e s)) k
 
 -- ---- formulas beside a frame
 record IsAccepted (f : Frame) (cells : List Cell) (a : App) : Type 0 where
   first : Names
-  are : AreNamed f cells first
+  are : AreNamedFormulas f cells first
   parts : IsAppOf first f.limit cells a
 
 abbrev IfAccepted : Frame → List Cell → Result App (List Broken) → Type 0
 IfAccepted f cells (Ok a) = IsAccepted f cells a
 IfAccepted f cells (Err bs) = Unit {0}
 
-by_parts : (f : Frame) (cells : List Cell) (n : Names) (v : Result App (List Broken)) → AreNamed f cells n → IfApp n f.limit cells v → IfAccepted f cells v
+by_parts : (f : Frame) (cells : List Cell) (n : Names) (v : Result App (List Broken)) → AreNamedFormulas f cells n → IfApp n f.limit cells v → IfAccepted f cells v
 by_parts f cells n (Ok a) are h = record { first = n; are = are; parts = h }
 by_parts f cells n (Err bs) are h = tt
 
@@ -107,7 +107,7 @@ formulas_one f cells a v p q = formulas_agree q a (formulas_accepted p)
 record IsFileOf (a : AppFile) (b : App) : Type 0 where
   frame : Frame
   cells : List Cell
-  is_frame : frame ≡ frame_of a
+  is_frame : frame ≡ file_frame a
   are : AreFormulasOf a frame cells []
   accepted : IsAccepted frame cells b
 
@@ -115,7 +115,7 @@ abbrev IfFile : AppFile → Result App (List Broken) → Type 0
 IfFile a (Ok b) = IsFileOf a b
 IfFile a (Err bs) = Unit {0}
 
-file_by : (a : AppFile) (f : Frame) (cells : List Cell) (v : Result App (List Broken)) → f ≡ frame_of a → AreFormulasOf a f cells [] → IfAccepted f cells v → IfFile a v
+file_by : (a : AppFile) (f : Frame) (cells : List Cell) (v : Result App (List Broken)) → f ≡ file_frame a → AreFormulasOf a f cells [] → IfAccepted f cells v → IfFile a v
 file_by a f cells (Ok b) e are h = record { frame = f; cells = cells; is_frame = e; are = are; accepted = h }
 file_by a f cells (Err bs) e are h = tt
 
@@ -175,15 +175,15 @@ one_app_of_a_file law file a b p q = app_agree law q a (app_accepted p)
 record IsTextOf (source : List ℕ) (b : App) : Type 0 where
   frame : Frame
   cells : List Cell
-  is_bare : frame ≡ bare
-  are : AreNamedAt bare source cells []
+  is_bare : frame ≡ bare_frame
+  are : AreNamedAt bare_frame source cells []
   accepted : IsAccepted frame cells b
 
 abbrev IfText : List ℕ → Result App (List Broken) → Type 0
 IfText source (Ok b) = IsTextOf source b
 IfText source (Err bs) = Unit {0}
 
-text_by : (source : List ℕ) (f : Frame) (cells : List Cell) (v : Result App (List Broken)) → f ≡ bare → AreNamedAt bare source cells [] → IfAccepted f cells v → IfText source v
+text_by : (source : List ℕ) (f : Frame) (cells : List Cell) (v : Result App (List Broken)) → f ≡ bare_frame → AreNamedAt bare_frame source cells [] → IfAccepted f cells v → IfText source v
 text_by source f cells (Ok b) e are h = record { frame = f; cells = cells; is_bare = e; are = are; accepted = h }
 text_by source f cells (Err bs) e are h = tt
 
@@ -199,7 +199,7 @@ text_agree (judge.parsed source f cells v r j) b h =
 
 -- bytes that are accepted
 record AreBytesOf (bytes : List ℕ) (b : App) : Type 0 where
-  short : length bytes ≤ longest
+  short : length bytes ≤ most_source_bytes
   utf8 : IsUtf8 bytes
   is_of : IsTextOf bytes b
 
@@ -207,7 +207,7 @@ abbrev IfBytes : List ℕ → Result App (List Broken) → Type 0
 IfBytes bytes (Ok b) = AreBytesOf bytes b
 IfBytes bytes (Err bs) = Unit {0}
 
-bytes_by : (bytes : List ℕ) (v : Result App (List Broken)) → length bytes ≤ longest → IsUtf8 bytes → IfText bytes v → IfBytes bytes v
+bytes_by : (bytes : List ℕ) (v : Result App (List Broken)) → length bytes ≤ most_source_bytes → IsUtf8 bytes → IfText bytes v → IfBytes bytes v
 bytes_by bytes (Ok b) l u h = record { short = l; utf8 = u; is_of = h }
 bytes_by bytes (Err bs) l u h = tt
 
@@ -217,7 +217,7 @@ bytes_accepted (no_text bytes l other) = tt
 bytes_accepted (text bytes v l u j) = bytes_by bytes v l u (text_accepted j)
 
 bytes_agree : {bytes : List ℕ} {v : Result App (List Broken)} → Judged bytes v → (b : App) → AreBytesOf bytes b → Agree b v
-bytes_agree (too_long bytes l) b h = let short : length bytes ≤ longest = h.short in absurd (omega (arith, l, short))
+bytes_agree (too_long bytes l) b h = let short : length bytes ≤ most_source_bytes = h.short in absurd (omega (arith, l, short))
 bytes_agree (no_text bytes l other) b h = absurd (other h.utf8)
 bytes_agree (text bytes v l u j) b h = text_agree j b h.is_of
 

@@ -6,22 +6,22 @@ use Rattle.serde_json.specs.Find.{as_array}
 use Rattle.app_file.specs.declared.breaks.FileBreak.{FileBreak}
 use Rattle.app_file.specs.declared.file.AppFile.{AppFile}
 use Rattle.app_file.specs.declared.file.ScreenShape.{ScreenShape}
-use Rattle.app_file.specs.Contents.{all, all_behind, app_of, at, screen}
+use Rattle.app_file.specs.Contents.{all_elements, all_behind, app_of, member_at, screen}
 use Rattle.app_file.specs.Files.{IsRead, IsReadOf, app, bad_part, json, no_json, passed, too_long}
 use Rattle.app_file.specs.FormOfApp.{app_fields, app_form, is_empty_list, screens_form, screens_form_of}
-use Rattle.app_file.specs.Forms.{IsFine, elements, first, later, list_of, no_list, not_such}
+use Rattle.app_file.specs.Forms.{IsFine, elements, first, later, elements_of, no_list, not_such}
 use Rattle.app_texts.proofs.Held.{itself_fine, must_hold}
 
 abbrev HasSome : List ScreenShape → Type 0
 HasSome ss = 0 < length ss
 
 -- data that is no list has no elements
-no_array : (o : Option Items) → option_map list_of o ≡ None → o ≡ None
+no_array : (o : Option Items) → option_map elements_of o ≡ None → o ≡ None
 no_array None e = refl
 no_array (Some ds) e = absurd cc
 
 -- screens that are of their form are some
-some_screens : (d : Data) → IsFine screens_form d → HasSome (all screen d)
+some_screens : (d : Data) → IsFine screens_form d → HasSome (all_elements screen d)
 some_screens d fine = by (elements d) refl
   where
     here : IsFine (screens_form_of (is_empty_list (elements d))) d
@@ -36,8 +36,8 @@ some_screens d fine = by (elements d) refl
         absurd (never [] (not_such (λ x. false) d refl))
     by (Some (x ∷ xs)) e = omega arith
 
-file_screens : (d : Data) → IsFine app_form d → HasSome (at (all screen) (codes "screens") [] d)
-file_screens d fine = must_hold app_fields d (codes "screens") screens_form (all screen) [] HasSome fine (later (later (later (later (later first))))) some_screens
+file_screens : (d : Data) → IsFine app_form d → HasSome (member_at (all_elements screen) (codes "screens") [] d)
+file_screens d fine = must_hold app_fields d (codes "screens") screens_form (all_elements screen) [] HasSome fine (later (later (later (later (later first))))) some_screens
 
 root_opens : (root : Data) (v : Result AppFile FileBreak) (a : AppFile) → v ≡ Ok a → IsReadOf root v → HasSome a.screens
 root_opens root _ a e (bad_part _ path bad) = absurd cc

@@ -4,12 +4,12 @@ use Rattle.std.proofs.lemmas.Bool.{cases_lt}
 use Rattle.std.specs.Borrow.{Bor}
 use Rattle.app_cells.specs.declared.cell.Cell.{Cell as Formula}
 use Rattle.app_cells.specs.declared.frame.Frame.{Frame}
-use Rattle.app_names.specs.AppNames.{AreNames, collections_among, variables_among}
+use Rattle.app_names.specs.AppNames.{AreNamesOf, collections_among, variables_among}
 use Rattle.app_loader.proofs.Functions.{things_alike}
 use Rattle.app_loader.proofs.JudgedAlike.{round_alike}
 use Rattle.app_loader.proofs.Below.{final_same}
 use Rattle.fx_core.specs.declared.signatures.Signature.{Signature}
-use Rattle.fx_typing.specs.Rounds.{AfterRounds, Cell, IsFinal, SameNames, StillChanges, next_types, types_in}
+use Rattle.fx_typing.specs.Rounds.{AfterRounds, Cell, AreFinalTypes, SameNames, StillChanges, next_types, types_in}
 use Rattle.fx_core.specs.declared.names.Names.{Names}
 use Rattle.fx_sig.specs.Entries.{entry}
 use Rattle.fx_infer.proofs.Only.{after_one, final_settles}
@@ -26,10 +26,10 @@ kept cs n m k (suc d) a e (suc j) q =
     let before = kept cs n m k d a e j (omega (arith, q)) in
     (same_after cs n j m before, m, before, sym e)
 
-final_behind : (cs : List Cell) (n a b : Names) (x : IsFinal cs n a) (y : IsFinal cs n b) → x.0 ≤ y.0 → a ≡ b
+final_behind : (cs : List Cell) (n a b : Names) (x : AreFinalTypes cs n a) (y : AreFinalTypes cs n b) → x.0 ≤ y.0 → a ≡ b
 final_behind cs n a b x y l = after_one cs n y.0 a b (kept cs n a x.0 (y.0 - x.0) x.2 x.3 y.0 (omega (arith, l))) y.2
 
-final_one : (cs : List Cell) (n a b : Names) → IsFinal cs n a → IsFinal cs n b → a ≡ b
+final_one : (cs : List Cell) (n a b : Names) → AreFinalTypes cs n a → AreFinalTypes cs n b → a ≡ b
 final_one cs n a b x y = elim (cases_lt y.0 x.0) [
   | inl less ↦ sym (final_behind cs n b a y x (omega (arith, less)))
   | inr more ↦ final_behind cs n a b x y (omega (arith, more))
@@ -63,14 +63,14 @@ after_alike cs n s (suc k) m e a =
     let functions : AreAlike before.signatures n.signatures = ap (λ (r : Bor (List Signature)). map entry r.now) (sym same.signatures) ∙ e in
     (same_alike n s m a.0, functions_at before n.signatures, after_alike cs n s k before e a.2, a.3 ∙ round_alike before before.signatures n.signatures functions cs)
 
-final_alike : (cs : List Cell) (n : Names) (s : Bor (List Signature)) (m : Names) → AreAlike s n.signatures → IsFinal cs (functions_at n s) m → IsFinal cs n (functions_at m n.signatures)
+final_alike : (cs : List Cell) (n : Names) (s : Bor (List Signature)) (m : Names) → AreAlike s n.signatures → AreFinalTypes cs (functions_at n s) m → AreFinalTypes cs n (functions_at m n.signatures)
 final_alike cs n s m e x =
     let same = same_after cs (functions_at n s) x.0 m x.2 in
     let functions : AreAlike m.signatures n.signatures = ap (λ (r : Bor (List Signature)). map entry r.now) (sym same.signatures) ∙ e in
     (x.0, x.1, after_alike cs n s x.0 m e x.2, sym (round_alike m m.signatures n.signatures functions cs) ∙ x.3)
 
 -- ---- the names of cells
-names_alike : (f : Frame) (cells : List Formula) (n k : Names) → AreNames f cells n → AreNames f cells k → k ≡ functions_at n k.signatures
+names_alike : (f : Frame) (cells : List Formula) (n k : Names) → AreNamesOf f cells n → AreNamesOf f cells k → k ≡ functions_at n k.signatures
 names_alike f cells n k a b =
     let things = things_alike k.signatures.now n.signatures.now (b.signatures ∙ sym a.signatures) f cells in
     λ i. record {
@@ -85,11 +85,11 @@ names_alike f cells n k a b =
     }
 
 -- final names of the same cells
-pub final_names : (f : Frame) (cs : List Cell) (cells : List Formula) (n k a b : Names) → AreNames f cells n → AreNames f cells k → IsFinal cs n a → IsFinal cs k b
+pub final_names : (f : Frame) (cs : List Cell) (cells : List Formula) (n k a b : Names) → AreNamesOf f cells n → AreNamesOf f cells k → AreFinalTypes cs n a → AreFinalTypes cs k b
     → (b ≡ functions_at a b.signatures) × AreAlike b.signatures a.signatures
 final_names f cs cells n k a b x y s t =
     let alike : AreAlike k.signatures n.signatures = y.signatures ∙ sym x.signatures in
-    let moved : IsFinal cs (functions_at n k.signatures) b = subst (λ (z : Names). IsFinal cs z b) (names_alike f cells n k x y) t in
+    let moved : AreFinalTypes cs (functions_at n k.signatures) b = subst (λ (z : Names). AreFinalTypes cs z b) (names_alike f cells n k x y) t in
     let one : functions_at b n.signatures ≡ a = final_one cs n (functions_at b n.signatures) a (final_alike cs n k.signatures b alike moved) s in
     let first = final_same cs n a s in
     let second = final_same cs k b t in (
@@ -98,8 +98,8 @@ final_names f cs cells n k a b x y s t =
     )
 
 -- names that settle don't change in each round
-pub settles_alike : (f : Frame) (cs : List Cell) (cells : List Formula) (n k a : Names) → AreNames f cells n → AreNames f cells k → IsFinal cs n a → StillChanges cs k → ⊥
+pub settles_alike : (f : Frame) (cs : List Cell) (cells : List Formula) (n k a : Names) → AreNamesOf f cells n → AreNamesOf f cells k → AreFinalTypes cs n a → StillChanges cs k → ⊥
 settles_alike f cs cells n k a x y s t =
     let alike : AreAlike n.signatures k.signatures = x.signatures ∙ sym y.signatures in
-    let moved : IsFinal cs (functions_at k n.signatures) a = subst (λ (z : Names). IsFinal cs z a) (names_alike f cells k n y x) s in
+    let moved : AreFinalTypes cs (functions_at k n.signatures) a = subst (λ (z : Names). AreFinalTypes cs z a) (names_alike f cells k n y x) s in
     final_settles cs k (functions_at a k.signatures) (final_alike cs k n.signatures a alike moved) t

@@ -3,7 +3,7 @@ use Rattle.std.proofs.Common.{inl, inr, ◌≡◌, ℕ, ◌≤◌, List, [], ◌
 use Rattle.std.specs.Prelude.{encode_utf8_all}
 use Rattle.std.specs.Str.{chars}
 use Rattle.std.proofs.lemmas.List.Elements.{All-append, All-cons, All-head, All-map, All-nil, All-tail}
-use Rattle.fx_grammar.specs.Formulas.{Entry}
+use Rattle.fx_grammar.specs.Formulas.{NamedFormula}
 use Rattle.fx_infer.specs.Below.{tree_depth}
 use Rattle.fx_infer.specs.Depths.{EntriesAreNoDeeper, TreesAreNoDeeper}
 use Rattle.fx_parser.specs.Texts.{IsNamedText, named_of}
@@ -13,8 +13,8 @@ use Rattle.app_file.specs.declared.file.AppFile.{AppFile}
 use Rattle.app_cells.specs.declared.cell.Cell.{Cell}
 use Rattle.app_cells.specs.declared.frame.Frame.{Frame}
 use Rattle.app_texts.specs.declared.file_texts.Text.{Text}
-use Rattle.app_texts.specs.Files.{texts_of}
-use Rattle.app_texts.specs.Texts.{AreNamedAt, AreNamedCells, AreReadAt, IsNamedReading, IsReading, bare}
+use Rattle.app_texts.specs.Files.{formula_texts}
+use Rattle.app_texts.specs.Texts.{AreNamedAt, AreNamedCells, AreReadAt, IsNamedReading, IsReading, bare_frame}
 use Rattle.app_loader.specs.Cells.{AreShallow}
 use Rattle.app_loader.proofs.Singles.{both_none, named_parts, reading_parts}
 
@@ -41,8 +41,8 @@ cells_shallow f (n ∷ ns) cs l h =
 
 low_names : EntriesAreNoDeeper → (source : List ℕ) (ns : List Named) → IsNamedText 64 source ns → All IsLow ns
 low_names law source ns named =
-    let es : List Entry = named.0 in
-    let deep : All (λ (e : Entry). tree_depth e.tree ≤ 64) es = law 64 named.1.0 es named.1.2 in
+    let es : List NamedFormula = named.0 in
+    let deep : All (λ (e : NamedFormula). tree_depth e.tree ≤ 64) es = law 64 named.1.0 es named.1.2 in
     subst (All IsLow) (sym named.2) (All-map IsLow (named_of source) es (λ k d l. let a = deep k d l in omega (arith, a)))
 
 named_at_shallow : EntriesAreNoDeeper → (f : Frame) (source : List ℕ) (cs : List Cell) (bs : List Broken) → AreNamedAt f source cs bs → bs ≡ [] → AreShallow cs
@@ -56,8 +56,8 @@ file_shallow trees entries a f cs h =
     let none = both_none parts.named_breaks parts.other_breaks parts.breaks in
     subst AreShallow (sym parts.cells)
     (All-append IsShallow parts.named_cells parts.other_cells (named_at_shallow entries f (encode_utf8_all a.formulas) parts.named_cells parts.named_breaks parts.named none.0)
-    (read_shallow trees f (texts_of a) parts.other_cells parts.other_breaks parts.others none.1))
+    (read_shallow trees f (formula_texts a) parts.other_cells parts.other_breaks parts.others none.1))
 
 -- and those of a text of named formulas
 pub named_shallow : EntriesAreNoDeeper → (source : List ℕ) (f : Frame) (cs : List Cell) → IsNamedReading source (Ok (f, cs)) → AreShallow cs
-named_shallow entries source f cs h = named_at_shallow entries bare source cs [] (named_parts h).1 refl
+named_shallow entries source f cs h = named_at_shallow entries bare_frame source cs [] (named_parts h).1 refl

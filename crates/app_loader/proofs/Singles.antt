@@ -17,7 +17,7 @@ use Rattle.app_file.specs.declared.file.AppFile.{AppFile}
 use Rattle.app_file.specs.declared.file.ControlShape.{ControlShape}
 use Rattle.app_file.specs.declared.file.PropertyText.{PropertyText}
 use Rattle.app_file.specs.declared.file.ScreenShape.{ScreenShape}
-use Rattle.app_file.specs.Contents.{all, app_of, at, control_shape, kind_at, properties, property, screen, words}
+use Rattle.app_file.specs.Contents.{all_elements, app_of, member_at, control_shape, kind_at, properties, property, screen, words}
 use Rattle.app_file.specs.Files.{IsRead, IsReadOf, app, bad_part, json, no_json, passed, too_long}
 use Rattle.app_file.specs.FormOfApp.{property_names}
 use Rattle.app_file.specs.Forms.{elements}
@@ -26,12 +26,12 @@ use Rattle.app_cells.specs.declared.cell.Spot.{Spot}
 use Rattle.app_cells.specs.declared.cell.Spot.TheVariants as spot
 use Rattle.app_cells.specs.declared.frame.Frame.{Frame}
 use Rattle.app_texts.specs.declared.file_texts.Text.{Text}
-use Rattle.app_texts.specs.Files.{control_texts, frame_of, is_written, property_texts, screen_texts, text_at, texts_of}
-use Rattle.app_texts.specs.Texts.{AreFormulasOf, AreNamedAt, AreNamedCells, AreReadAt, IsNamedReading, IsReading, bare, broken, formulas, named_broken, named_formulas}
+use Rattle.app_texts.specs.Files.{texts_of_controls, file_frame, is_written, property_texts, texts_of_screens, text_of_spot, formula_texts}
+use Rattle.app_texts.specs.Texts.{AreFormulasOf, AreNamedAt, AreNamedCells, AreReadAt, IsNamedReading, IsReading, bare_frame, broken, formulas, named_broken, named_formulas}
 use Rattle.fx_parser.specs.declared.entries.Named.{Named}
 use Rattle.app_texts.proofs.Formed.{any_at, any_list}
 use Rattle.app_loader.proofs.Cells.{items_ascii}
-use Rattle.app_loader.specs.Accepted.{AreSingle}
+use Rattle.app_loader.specs.Accepted.{HaveOneTemplate}
 
 -- what is the formula of no gallery's items
 abbrev IsOther : Spot → Type 0
@@ -89,7 +89,7 @@ spot_at [] i c e = absurd cc
 spot_at (d ∷ cs) zero c e = let same : d ≡ c = cc in ap (λ (z : Cell). Some z.spot) same
 spot_at (d ∷ cs) (suc i) c e = spot_at cs i c e
 
-single : (n m : ℕ) (cs : List Cell) → Rise n m (spots cs) → AreSingle cs
+single : (n m : ℕ) (cs : List Cell) → Rise n m (spots cs) → HaveOneTemplate cs
 single n m cs h i j c d k e f p q = one_place n m (spots cs) i j k c.spot d.spot h (spot_at cs i c e) (spot_at cs j d f) p q
 
 -- ---- the properties of a control
@@ -97,7 +97,7 @@ abbrev text_spots : List Text → List Spot
 text_spots ts = map (λ (t : Text). t.spot) ts
 
 abbrev its_texts : ℕ → List PropertyText → List Text
-its_texts number ps = map (λ (p : PropertyText). text_at (spot.Property number p.name) p.text) ps
+its_texts number ps = map (λ (p : PropertyText). text_of_spot (spot.Property number p.name) p.text) ps
 
 abbrev told : List ℕ → Data → PropertyText
 told key x = record { name = scalars_of key; text = words x }
@@ -157,18 +157,18 @@ abbrev HaveOneItems : ScreenShape → Type 0
 HaveOneItems s = All HasOneItems s.controls
 
 screen_once : (before : List Data) (d : Data) → HaveOneItems (screen before d)
-screen_once before d = any_at (all control_shape) (All HasOneItems) (get (codes "controls") d) (All-nil HasOneItems) (λ x. any_list control_shape HasOneItems (elements x) control_once)
+screen_once before d = any_at (all_elements control_shape) (All HasOneItems) (get (codes "controls") d) (All-nil HasOneItems) (λ x. any_list control_shape HasOneItems (elements x) control_once)
 
-screens_once : (d : Data) → All HaveOneItems (at (all screen) (codes "screens") [] d)
-screens_once d = any_at (all screen) (All HaveOneItems) (get (codes "screens") d) (All-nil HaveOneItems) (λ x. any_list screen HaveOneItems (elements x) screen_once)
+screens_once : (d : Data) → All HaveOneItems (member_at (all_elements screen) (codes "screens") [] d)
+screens_once d = any_at (all_elements screen) (All HaveOneItems) (get (codes "screens") d) (All-nil HaveOneItems) (λ x. any_list screen HaveOneItems (elements x) screen_once)
 
-controls_rise : (number : ℕ) (cs : List ControlShape) → All HasOneItems cs → Rise number (number + length cs) (text_spots (control_texts number cs))
+controls_rise : (number : ℕ) (cs : List ControlShape) → All HasOneItems cs → Rise number (number + length cs) (text_spots (texts_of_controls number cs))
 controls_rise number [] h = omega arith
 controls_rise number (c ∷ cs) h =
     let count : suc number + length cs ≡ number + length (c ∷ cs) = omega arith in
-    subst (Rise number (number + length (c ∷ cs))) (sym (map-append (λ (t : Text). t.spot) (property_texts number c) (control_texts (suc number) cs)))
-    (behind number (suc number) (number + length (c ∷ cs)) (text_spots (property_texts number c)) (text_spots (control_texts (suc number) cs)) (All-head HasOneItems c cs h number)
-    (subst (λ m. Rise (suc number) m (text_spots (control_texts (suc number) cs))) count (controls_rise (suc number) cs (All-tail HasOneItems c cs h))))
+    subst (Rise number (number + length (c ∷ cs))) (sym (map-append (λ (t : Text). t.spot) (property_texts number c) (texts_of_controls (suc number) cs)))
+    (behind number (suc number) (number + length (c ∷ cs)) (text_spots (property_texts number c)) (text_spots (texts_of_controls (suc number) cs)) (All-head HasOneItems c cs h number)
+    (subst (λ m. Rise (suc number) m (text_spots (texts_of_controls (suc number) cs))) count (controls_rise (suc number) cs (All-tail HasOneItems c cs h))))
 
 -- some number that they stay below
 abbrev Rises : ℕ → List Spot → Type 0
@@ -183,7 +183,7 @@ no_start k p e = cc
 no_formula : (x : List ℕ) (k : ℕ) (p : List ℕ) → spot.Formula x ≡ spot.Property k p → ⊥
 no_formula x k p e = cc
 
-screens_rise : (number first : ℕ) (ss : List ScreenShape) → All HaveOneItems ss → Rises first (text_spots (screen_texts number first ss))
+screens_rise : (number first : ℕ) (ss : List ScreenShape) → All HaveOneItems ss → Rises first (text_spots (texts_of_screens number first ss))
 screens_rise number first [] h = let same : first ≤ first = omega arith in (first, same)
 screens_rise number first (s ∷ ss) h =
     let next = first + length s.controls in
@@ -192,8 +192,8 @@ screens_rise number first (s ∷ ss) h =
       more.0,
       inl (
         (λ k e. no_property number k (codes "Items") e),
-        subst (Rise first more.0) (sym (map-append (λ (t : Text). t.spot) (control_texts first s.controls) (screen_texts (suc number) next ss)))
-            (behind first next more.0 (text_spots (control_texts first s.controls)) (text_spots (screen_texts (suc number) next ss)) here more.1),
+        subst (Rise first more.0) (sym (map-append (λ (t : Text). t.spot) (texts_of_controls first s.controls) (texts_of_screens (suc number) next ss)))
+            (behind first next more.0 (text_spots (texts_of_controls first s.controls)) (text_spots (texts_of_screens (suc number) next ss)) here more.1),
       ),
     )
 
@@ -227,12 +227,12 @@ pub both_none : {A : Type 0} (xs ys : List A) → [] ≡ xs ++ ys → (xs ≡ []
 both_none [] ys e = (refl, sym e)
 both_none (x ∷ xs) ys e = absurd cc
 
-file_single : (a : AppFile) (f : Frame) (cs : List Cell) → All HaveOneItems a.screens → AreFormulasOf a f cs [] → AreSingle cs
+file_single : (a : AppFile) (f : Frame) (cs : List Cell) → All HaveOneItems a.screens → AreFormulasOf a f cs [] → HaveOneTemplate cs
 file_single a f cs once h =
     let none = both_none h.named_breaks h.other_breaks h.breaks in
     let screens = screens_rise 0 0 a.screens once in
-    let start : Rise 0 screens.0 (text_spots (text_at spot.OnStart a.on_start ∷ screen_texts 0 0 a.screens)) = inl ((λ k e. no_start k (codes "Items") e), screens.1) in
-    let others : Rise 0 screens.0 (spots h.other_cells) = subst (Rise 0 screens.0) (sym (read_spots f (texts_of a) h.other_cells h.other_breaks h.others none.1)) (kept 0 screens.0 (text_at spot.OnStart a.on_start ∷ screen_texts 0 0 a.screens) start) in
+    let start : Rise 0 screens.0 (text_spots (text_of_spot spot.OnStart a.on_start ∷ texts_of_screens 0 0 a.screens)) = inl ((λ k e. no_start k (codes "Items") e), screens.1) in
+    let others : Rise 0 screens.0 (spots h.other_cells) = subst (Rise 0 screens.0) (sym (read_spots f (formula_texts a) h.other_cells h.other_breaks h.others none.1)) (kept 0 screens.0 (text_of_spot spot.OnStart a.on_start ∷ texts_of_screens 0 0 a.screens) start) in
     let named = named_at_rise f (encode_utf8_all a.formulas) h.named_cells h.named_breaks h.named none.0 in
     single 0 screens.0 cs
     (subst (λ (xs : List Cell). Rise 0 screens.0 (spots xs)) (sym h.cells)
@@ -240,7 +240,7 @@ file_single a f cs once h =
 
 -- ---- what is read
 abbrev IfRead : AppFile → Result (Frame × List Cell) (List Broken) → Type 0
-IfRead a (Ok r) = (r.0 ≡ frame_of a) × AreFormulasOf a r.0 r.1 []
+IfRead a (Ok r) = (r.0 ≡ file_frame a) × AreFormulasOf a r.0 r.1 []
 IfRead a (Err bs) = Unit {0}
 
 pub reading_parts : {a : AppFile} {v : Result (Frame × List Cell) (List Broken)} → IsReading a v → IfRead a v
@@ -248,7 +248,7 @@ reading_parts (formulas cs h) = (refl, h)
 reading_parts (broken cs b bs h) = tt
 
 abbrev IfNamed : List ℕ → Result (Frame × List Cell) (List Broken) → Type 0
-IfNamed source (Ok r) = (r.0 ≡ bare) × AreNamedAt bare source r.1 []
+IfNamed source (Ok r) = (r.0 ≡ bare_frame) × AreNamedAt bare_frame source r.1 []
 IfNamed source (Err bs) = Unit {0}
 
 pub named_parts : {source : List ℕ} {v : Result (Frame × List Cell) (List Broken)} → IsNamedReading source v → IfNamed source v
@@ -266,9 +266,9 @@ file_once file _ a e (no_json _ l h) = absurd cc
 file_once file v a e (json _ root _ h r) = root_once root v a e r
 
 -- the formulas of a file that is read
-pub read_single : (file : List ℕ) (a : AppFile) → IsRead file (Ok a) → (f : Frame) (cs : List Cell) → IsReading a (Ok (f, cs)) → AreSingle cs
+pub read_single : (file : List ℕ) (a : AppFile) → IsRead file (Ok a) → (f : Frame) (cs : List Cell) → IsReading a (Ok (f, cs)) → HaveOneTemplate cs
 read_single file a r f cs h = file_single a f cs (file_once file (Ok a) a refl r) (reading_parts h).1
 
 -- and those of a text of named formulas
-pub named_single : (source : List ℕ) (f : Frame) (cs : List Cell) → IsNamedReading source (Ok (f, cs)) → AreSingle cs
-named_single source f cs h = single 0 0 cs (named_at_rise bare source cs [] (named_parts h).1 refl)
+pub named_single : (source : List ℕ) (f : Frame) (cs : List Cell) → IsNamedReading source (Ok (f, cs)) → HaveOneTemplate cs
+named_single source f cs h = single 0 0 cs (named_at_rise bare_frame source cs [] (named_parts h).1 refl)

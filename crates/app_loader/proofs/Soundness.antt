@@ -25,15 +25,15 @@ use Rattle.app_cells.specs.declared.app.CellInfo.{CellInfo}
 use Rattle.app_cells.specs.declared.cell.Cell.{Cell}
 use Rattle.app_cells.specs.declared.cell.Spot.TheVariants as spot
 use Rattle.app_cells.specs.declared.frame.Frame.{Frame}
-use Rattle.app_cells.specs.Spots.{IsPlaced, acts, acts_in, item_in, item_of, wanted, wanted_by, wanted_in}
+use Rattle.app_cells.specs.Spots.{IsPlaced, can_act, acts_in, item_in, gallery_seen, wanted_shape, wanted_by, wanted_in}
 use Rattle.app_names.specs.AppNames.{properties_from}
-use Rattle.app_semantics.specs.Sound.{IsCellOf, IsSound, IsSoundCell, context_at, frame_in}
-use Rattle.app_loader.specs.Cells.{cell_of, judged, place_of}
+use Rattle.app_semantics.specs.Sound.{IsCellOf, IsSoundApp, IsSoundCell, context_at, frame_in}
+use Rattle.app_loader.specs.Cells.{round_cell, judged_cell, cell_place}
 use Rattle.app_loader.specs.Infos.{IsElaborated}
 use Rattle.app_loader.specs.JudgedFormulas.{IsAppOf, JudgedCells, app, cyclic, refused, unsettling}
 use Rattle.app_loader.specs.Types.{HaveLawfulTrees}
 use Rattle.app_loader.proofs.Below.{final_same}
-use Rattle.app_loader.specs.Accepted.{AcceptedIsSound, IsAccepted}
+use Rattle.app_loader.specs.Accepted.{AcceptedIsSound, IsAcceptedApp}
 use Rattle.app_loader.proofs.Contexts.{all_at, context_lawful_at}
 use Rattle.app_loader.proofs.Cells.{IsCellAt, control_before, formula_at, formula_before, items_at, items_found, items_own, is_gallery_items, map_at, map_get, property_at, property_calm, property_ok, pure_item, zip_left, zip_right}
 use Rattle.app_loader.proofs.Pure.{tree_lawful}
@@ -56,23 +56,23 @@ types_at (j ∷ is) zero i h e = let same : j ≡ i = cc in subst (λ (z : CellI
 types_at (j ∷ is) (suc k) i h e = types_at is k i h.1 e
 
 -- where a formula may act or not, it stands in the same context
-typed_there : AdmittedIsTyped → (n : Names) (c : Cell) (b : Bool) (wanted : Option Shape) (e : Tree) (x : Term × Shape) → IsLawful n → judge_whole (place_of n c) b wanted e ≡ Ok x → IsTyped (context_at n c.item) x.0 x.1
-typed_there typed n c true wanted e x law h = typed (place_of n c) true wanted e x law h
-typed_there typed n c false wanted e x law h = typed (place_of n c) false wanted e x law h
+typed_there : AdmittedIsTyped → (n : Names) (c : Cell) (b : Bool) (wanted : Option Shape) (e : Tree) (x : Term × Shape) → IsLawful n → judge_whole (cell_place n c) b wanted e ≡ Ok x → IsTyped (context_at n c.item) x.0 x.1
+typed_there typed n c true wanted e x law h = typed (cell_place n c) true wanted e x law h
+typed_there typed n c false wanted e x law h = typed (cell_place n c) false wanted e x law h
 
-module _ (typed : AdmittedIsTyped) (fits : AdmittedIsWanted) (quiet : PureIsQuiet) (placed : AdmittedIsPlaced) (f : Frame) (cells : List Cell) (most : ℕ) (a : App) (h : IsAccepted f cells most a) where
+module _ (typed : AdmittedIsTyped) (fits : AdmittedIsWanted) (quiet : PureIsQuiet) (placed : AdmittedIsPlaced) (f : Frame) (cells : List Cell) (most : ℕ) (a : App) (h : IsAcceptedApp f cells most a) where
   parts : IsAppOf h.first most cells a
   parts = app_parts h.judged
 
   same : SameNames h.first a.names
-  same = final_same (map cell_of cells) h.first a.names parts.settled.final
+  same = final_same (map round_cell cells) h.first a.names parts.settled.final
 
   -- ---- each formula
-  own_tree : (c : Cell) (i : CellInfo) → IsElaborated a.names most c i → judged a.names i.cell ≡ Ok (i.core, shape i.ty)
-  own_tree c i e = subst (λ (z : Cell). judged a.names z ≡ Ok (i.core, shape i.ty)) (sym e.cell) e.tree
+  own_tree : (c : Cell) (i : CellInfo) → IsElaborated a.names most c i → judged_cell a.names i.cell ≡ Ok (i.core, shape i.ty)
+  own_tree c i e = subst (λ (z : Cell). judged_cell a.names z ≡ Ok (i.core, shape i.ty)) (sym e.cell) e.tree
 
-  pure_tree : (i : CellInfo) → i.cell.acts ≡ false → judged a.names i.cell ≡ Ok (i.core, shape i.ty) → judge_whole (place_of a.names i.cell) false (option_map shape i.cell.wanted) i.cell.expr ≡ Ok (i.core, shape i.ty)
-  pure_tree i q e = subst (λ b. judge_whole (place_of a.names i.cell) b (option_map shape i.cell.wanted) i.cell.expr ≡ Ok (i.core, shape i.ty)) q e
+  pure_tree : (i : CellInfo) → i.cell.acts ≡ false → judged_cell a.names i.cell ≡ Ok (i.core, shape i.ty) → judge_whole (cell_place a.names i.cell) false (option_map shape i.cell.wanted) i.cell.expr ≡ Ok (i.core, shape i.ty)
+  pure_tree i q e = subst (λ b. judge_whole (cell_place a.names i.cell) b (option_map shape i.cell.wanted) i.cell.expr ≡ Ok (i.core, shape i.ty)) q e
 
   sound_cell : (k : ℕ) (c : CellInfo) → slice_get a.cells k ≡ Some c → IsSoundCell a.names c
   sound_cell k c e =
@@ -83,18 +83,18 @@ module _ (typed : AdmittedIsTyped) (fits : AdmittedIsWanted) (quiet : PureIsQuie
       record {
         typed = typed_there typed a.names c.cell c.cell.acts (option_map shape c.cell.wanted) c.cell.expr (c.core, shape c.ty) h.lawful t;
         calm = λ no.
-            let q = quiet (place_of a.names c.cell) (option_map shape c.cell.wanted) c.cell.expr (c.core, shape c.ty) (pure_tree c no t) in
+            let q = quiet (cell_place a.names c.cell) (option_map shape c.cell.wanted) c.cell.expr (c.core, shape c.ty) (pure_tree c no t) in
             record { context = context; lawful = tree_lawful c.core types q; quiet = q };
         acting = λ yes. record {
           context = context;
           lawful = types;
-          placed = placed (place_of a.names c.cell) c.cell.acts (option_map shape c.cell.wanted) c.cell.expr (c.core, shape c.ty) t;
+          placed = placed (cell_place a.names c.cell) c.cell.acts (option_map shape c.cell.wanted) c.cell.expr (c.core, shape c.ty) t;
         };
         reads = w.2.reads;
       }
 
   -- ---- the cells of names
-  settled : rounds.next_types (map cell_of cells) a.names ≡ rounds.types_in a.names
+  settled : rounds.next_types (map round_cell cells) a.names ≡ rounds.types_in a.names
   settled = parts.settled.final.3
 
   placed_at : (k : ℕ) (c : Cell) → slice_get cells k ≡ Some c → IsPlaced f c
@@ -119,18 +119,18 @@ module _ (typed : AdmittedIsTyped) (fits : AdmittedIsWanted) (quiet : PureIsQuie
       let number : g.cell ≡ at.place = omega (arith, told) in
       let p = placed_at at.place at.cell at.there in
       let w = zip_right (IsElaborated a.names most) cells a.cells at.place at.cell parts.settled.elaborated at.there in
-      let none : option_map shape at.cell.wanted ≡ None = p.wanted ∙ ap (wanted f) at.spot in
-      let tree : judge_whole (place_of a.names at.cell) at.cell.acts None at.cell.expr ≡ Ok (w.0.core, shape w.0.ty) =
-      subst (λ o. judge_whole (place_of a.names at.cell) at.cell.acts o at.cell.expr ≡ Ok (w.0.core, shape w.0.ty)) none w.2.tree in
-      let own : rounds.formula_type a.names (map cell_of cells) g ≡ shape g.ty =
-      map_at (rounds.formula_type a.names (map cell_of cells)) (λ (z : FormulaName). shape z.ty) a.names.formulas i g (ap (λ (t : rounds.Types). t.formulas) settled) e in
-      let found : slice_get (map cell_of cells) g.cell ≡ Some (cell_of at.cell) =
-      ap (slice_get (map cell_of cells)) number ∙ map_get cell_of cells at.place at.cell at.there in
+      let none : option_map shape at.cell.wanted ≡ None = p.wanted ∙ ap (wanted_shape f) at.spot in
+      let tree : judge_whole (cell_place a.names at.cell) at.cell.acts None at.cell.expr ≡ Ok (w.0.core, shape w.0.ty) =
+      subst (λ o. judge_whole (cell_place a.names at.cell) at.cell.acts o at.cell.expr ≡ Ok (w.0.core, shape w.0.ty)) none w.2.tree in
+      let own : rounds.formula_type a.names (map round_cell cells) g ≡ shape g.ty =
+      map_at (rounds.formula_type a.names (map round_cell cells)) (λ (z : FormulaName). shape z.ty) a.names.formulas i g (ap (λ (t : rounds.Types). t.formulas) settled) e in
+      let found : slice_get (map round_cell cells) g.cell ≡ Some (round_cell at.cell) =
+      ap (slice_get (map round_cell cells)) number ∙ map_get round_cell cells at.place at.cell at.there in
       record {
         cell = w.0;
         there = ap (slice_get a.cells) number ∙ w.1;
-        quiet = ap (λ (z : Cell). z.acts) w.2.cell ∙ p.acts ∙ ap (acts f) at.spot;
-        item = ap (λ (z : Cell). z.item) w.2.cell ∙ p.item ∙ ap (item_of f) at.spot;
+        quiet = ap (λ (z : Cell). z.acts) w.2.cell ∙ p.acts ∙ ap (can_act f) at.spot;
+        item = ap (λ (z : Cell). z.item) w.2.cell ∙ p.item ∙ ap (gallery_seen f) at.spot;
         ty = ap type_or_blank (sym tree) ∙ ap (rounds.cell_type a.names) (sym found) ∙ own;
       }
 
@@ -151,16 +151,16 @@ module _ (typed : AdmittedIsTyped) (fits : AdmittedIsWanted) (quiet : PureIsQuie
       let w = zip_right (IsElaborated a.names most) cells a.cells at.place at.cell parts.settled.elaborated at.there in
       let d = kind_at p.control c k in
       let calm : is_behaviour d.0.kind (encode_utf8_all p.name) ≡ false = ap (λ z. is_behaviour z (encode_utf8_all p.name)) d.2 ∙ property_calm c p.name t o in
-      let still : at.cell.acts ≡ false = q.acts ∙ ap (acts f) at.spot ∙ ap (acts_in p.name) d.1 ∙ calm in
+      let still : at.cell.acts ≡ false = q.acts ∙ ap (can_act f) at.spot ∙ ap (acts_in p.name) d.1 ∙ calm in
       let want : option_map shape at.cell.wanted ≡ wanted_by c.kind (encode_utf8_all p.name) =
-      q.wanted ∙ ap (wanted f) at.spot ∙ ap (wanted_in p.name) d.1 ∙ ap (λ z. wanted_by z (encode_utf8_all p.name)) d.2 in
+      q.wanted ∙ ap (wanted_shape f) at.spot ∙ ap (wanted_in p.name) d.1 ∙ ap (λ z. wanted_by z (encode_utf8_all p.name)) d.2 in
       let fit : IsWanted (wanted_by c.kind (encode_utf8_all p.name)) (shape w.0.ty) =
-      subst (λ x. IsWanted x (shape w.0.ty)) want (fits (place_of a.names at.cell) at.cell.acts (option_map shape at.cell.wanted) at.cell.expr (w.0.core, shape w.0.ty) w.2.tree) in
+      subst (λ x. IsWanted x (shape w.0.ty)) want (fits (cell_place a.names at.cell) at.cell.acts (option_map shape at.cell.wanted) at.cell.expr (w.0.core, shape w.0.ty) w.2.tree) in
       record {
         cell = w.0;
         there = ap (slice_get a.cells) number ∙ w.1;
         quiet = ap (λ (z : Cell). z.acts) w.2.cell ∙ still;
-        item = ap (λ (z : Cell). z.item) w.2.cell ∙ q.item ∙ ap (item_of f) at.spot ∙ ap (item_in p.control p.name) d.1 ∙ pure_item p.control p.name d.0 calm ∙ d.3;
+        item = ap (λ (z : Cell). z.item) w.2.cell ∙ q.item ∙ ap (gallery_seen f) at.spot ∙ ap (item_in p.control p.name) d.1 ∙ pure_item p.control p.name d.0 calm ∙ d.3;
         ty = property_ok c p.name t (shape w.0.ty) o fit (λ items. items_type i p c at w.0 e k from number (want ∙ any_table c p.name items) w.2.tree items);
       }
     where
@@ -172,20 +172,20 @@ module _ (typed : AdmittedIsTyped) (fits : AdmittedIsWanted) (quiet : PureIsQuie
           by false e = absurd cc
 
       items_type : (i : ℕ) (p : Property) (c : ControlName) (at : IsCellAt cells (spot.Property p.control p.name) 0 p.cell) (j : CellInfo) → slice_get a.names.properties i ≡ Some p → slice_get a.names.controls p.control ≡ Some c →
-          a.names.properties ≡ properties_from 0 cells → p.cell ≡ at.place → option_map shape at.cell.wanted ≡ Some (tables no_columns) → judged a.names at.cell ≡ Ok (j.core, shape j.ty) →
+          a.names.properties ≡ properties_from 0 cells → p.cell ≡ at.place → option_map shape at.cell.wanted ≡ Some (tables no_columns) → judged_cell a.names at.cell ≡ Ok (j.core, shape j.ty) →
           is_items c.kind (encode_utf8_all p.name) ≡ true → shape j.ty ≡ tables (item_columns (shape c.items))
       items_type i p c at j e k from number want tree items =
-          let as_table : judge_whole (place_of a.names at.cell) at.cell.acts (Some (tables no_columns)) at.cell.expr ≡ Ok (j.core, shape j.ty) =
-          subst (λ o. judge_whole (place_of a.names at.cell) at.cell.acts o at.cell.expr ≡ Ok (j.core, shape j.ty)) want tree in
+          let as_table : judge_whole (cell_place a.names at.cell) at.cell.acts (Some (tables no_columns)) at.cell.expr ≡ Ok (j.core, shape j.ty) =
+          subst (λ o. judge_whole (cell_place a.names at.cell) at.cell.acts o at.cell.expr ≡ Ok (j.core, shape j.ty)) want tree in
           let here_too : p.control ≡ 0 + p.control = omega arith in
-          let own : rounds.items_type a.names (map cell_of cells) p.control ≡ shape c.items =
-          ap (rounds.items_type a.names (map cell_of cells)) here_too ∙ items_at a.names (map cell_of cells) 0 a.names.controls p.control c (ap (λ (t : rounds.Types). t.items) settled) k in
-          let found = items_found cells (map cell_of cells) a.names.properties i p at.place at.cell h.single from e (is_gallery_items c.kind p.name items) number at.there at.spot in
-          let here : rounds.items_type a.names (map cell_of cells) p.control ≡ rounds.cell_type a.names (Some (cell_of at.cell)) =
-          ap (rounds.cell_type a.names) (found ∙ map_get cell_of cells at.place at.cell at.there) in
-          items_own (place_of a.names at.cell) at.cell.acts at.cell.expr (j.core, shape j.ty) as_table ∙ ap (λ t. tables (item_columns t)) (sym here ∙ own)
+          let own : rounds.items_type a.names (map round_cell cells) p.control ≡ shape c.items =
+          ap (rounds.items_type a.names (map round_cell cells)) here_too ∙ items_at a.names (map round_cell cells) 0 a.names.controls p.control c (ap (λ (t : rounds.Types). t.items) settled) k in
+          let found = items_found cells (map round_cell cells) a.names.properties i p at.place at.cell h.single from e (is_gallery_items c.kind p.name items) number at.there at.spot in
+          let here : rounds.items_type a.names (map round_cell cells) p.control ≡ rounds.cell_type a.names (Some (round_cell at.cell)) =
+          ap (rounds.cell_type a.names) (found ∙ map_get round_cell cells at.place at.cell at.there) in
+          items_own (cell_place a.names at.cell) at.cell.acts at.cell.expr (j.core, shape j.ty) as_table ∙ ap (λ t. tables (item_columns t)) (sym here ∙ own)
 
-  pub sound : IsSound a
+  pub sound : IsSoundApp a
   sound = record {
     names = h.lawful;
     placed = stands;

@@ -10,7 +10,7 @@ use Rattle.app_cells.specs.declared.cell.Cell.{Cell}
 use Rattle.app_cells.specs.declared.cell.Spot.{Spot}
 use Rattle.app_cells.specs.declared.cell.Spot.TheVariants as spot
 use Rattle.app_cells.specs.declared.frame.Frame.{Frame}
-use Rattle.app_cells.specs.Spots.{IsPlaced, IsSpot, acts, acts_for_gallery, acts_in, address, item_in, item_of, item_or, name_in, screen_of, wanted, wanted_by, wanted_in}
+use Rattle.app_cells.specs.Spots.{IsPlaced, IsSpot, can_act, acts_for_gallery, acts_in, address, item_in, gallery_seen, item_or, name_of_control, screen_of, wanted_shape, wanted_by, wanted_in}
 
 -- controls at one number that are the same but for the types of their items, or none
 abbrev AreAlike : Option ControlName → Option ControlName → Type 0
@@ -32,7 +32,7 @@ has_alike p None None s h = h
 has_alike p None (Some d) s h = absurd s
 has_alike p (Some c) None s h = absurd s
 
-name_alike : (o q : Option ControlName) → AreAlike o q → name_in o ≡ name_in q
+name_alike : (o q : Option ControlName) → AreAlike o q → name_of_control o ≡ name_of_control q
 name_alike (Some c) (Some d) s = s.0
 name_alike None None s = refl
 name_alike None (Some d) s = absurd s
@@ -84,19 +84,19 @@ module _ (f g : Frame) (screens : f.screens ≡ g.screens) (controls : AllSame S
   screen_same (spot.OnVisible s) = refl
   screen_same (spot.Property k p) = screen_alike (slice_get f.controls k) (slice_get g.controls k) (at k)
 
-  item_same : (s : Spot) → item_of f s ≡ item_of g s
+  item_same : (s : Spot) → gallery_seen f s ≡ gallery_seen g s
   item_same (spot.Formula x) = refl
   item_same spot.OnStart = refl
   item_same (spot.OnVisible s) = refl
   item_same (spot.Property k p) = item_alike k p (slice_get f.controls k) (slice_get g.controls k) (at k)
 
-  acts_same : (s : Spot) → acts f s ≡ acts g s
+  acts_same : (s : Spot) → can_act f s ≡ can_act g s
   acts_same (spot.Formula x) = refl
   acts_same spot.OnStart = refl
   acts_same (spot.OnVisible s) = refl
   acts_same (spot.Property k p) = acts_alike p (slice_get f.controls k) (slice_get g.controls k) (at k)
 
-  wanted_same : (s : Spot) → wanted f s ≡ wanted g s
+  wanted_same : (s : Spot) → wanted_shape f s ≡ wanted_shape g s
   wanted_same (spot.Formula x) = refl
   wanted_same spot.OnStart = refl
   wanted_same (spot.OnVisible s) = refl

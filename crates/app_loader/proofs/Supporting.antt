@@ -9,7 +9,7 @@ use Rattle.app_cells.specs.Leaning.{LeansOn, cell_behind, edges_of}
 use Rattle.app_cells.specs.Reach.{IsSupport, is_cell}
 use Rattle.app_semantics.proofs.Ordered.{earlier, leaning_edge}
 use Rattle.depend_graph.specs.Order.{IsOrder}
-use Rattle.fx_core.specs.Reads.{AreRising, IsAmong}
+use Rattle.fx_core.specs.Reads.{AreSourcesRising, IsAmong}
 use Rattle.fx_core.specs.declared.names.Names.{Names}
 use Rattle.fx_core.specs.declared.sources.Source.{Source}
 use Rattle.app_loader.specs.Supports.{AllRise, AreSupported, AreSupports, IsBehind, IsJoined, unordered, without_support}
@@ -50,10 +50,10 @@ behind_there n supports x d support more xs ys all e at own same h s = (
 -- ---- the support of one formula
 -- what the sources behind these of its reads add
 pub record IsSoFar (n : Names) (reads done : List Source) (supports : List (List Source)) (support : List Source) : Type 0 where
-  pub once : AreRising support
+  pub once : AreSourcesRising support
   pub exact : (s : Source) → IsAmong s support ↔ (((is_cell s ≡ false) × IsAmong s reads) ⊎ ((x : Source) × IsAmong x done × IsBehind n supports x s))
 
-pub nothing_done : (n : Names) (reads : List Source) (supports : List (List Source)) (support : List Source) → AreRising reads → support ≡ others reads → IsSoFar n reads [] supports support
+pub nothing_done : (n : Names) (reads : List Source) (supports : List (List Source)) (support : List Source) → AreSourcesRising reads → support ≡ others reads → IsSoFar n reads [] supports support
 nothing_done n reads supports support r e =
     subst (IsSoFar n reads [] supports) (sym e) (record {
       once = rising_others reads r;
@@ -75,7 +75,7 @@ among_last : (y : Source) (xs : List Source) → IsAmong y (xs ++ y ∷ [])
 among_last y [] = inl refl
 among_last y (x ∷ xs) = inr (among_last y xs)
 
-pub one_done : (n : Names) (reads : List Source) (supports : List (List Source)) (old new : List Source) (i : ℕ) (d : Source) → i < length reads → IsSoFar n reads (take i reads) supports old → AreRising new →
+pub one_done : (n : Names) (reads : List Source) (supports : List (List Source)) (old new : List Source) (i : ℕ) (d : Source) → i < length reads → IsSoFar n reads (take i reads) supports old → AreSourcesRising new →
     ((s : Source) → IsAmong s new ↔ (IsAmong s old ⊎ IsBehind n supports (get_or reads i d) s)) → IsSoFar n reads (take (i + 1) reads) supports new
 one_done n reads supports old new i d l h rises put =
     subst (λ (done : List Source). IsSoFar n reads done supports new) (one_more reads i y l (get_or_default reads i d y l)) (record { once = rises; exact = λ s. (to s, from s) })
@@ -122,9 +122,9 @@ pub record AreSoFar (n : Names) (is : List CellInfo) (order : List ℕ) (i : ℕ
   pub rising : AllRise supports
   pub told : (j : ℕ) → j < i → j < length order → (support : List Source) → slice_get supports (get_or order j 0) ≡ Some support → IsSupport (unordered n is) (get_or order j 0) support
 
-none_rise : (count k : ℕ) (support : List Source) → slice_get (replicate count []) k ≡ Some support → AreRising support
+none_rise : (count k : ℕ) (support : List Source) → slice_get (replicate count []) k ≡ Some support → AreSourcesRising support
 none_rise zero k support e = absurd cc
-none_rise (suc count) zero support e = let own : ◌≡◌ {A = List Source} [] support = cc in subst AreRising own tt
+none_rise (suc count) zero support e = let own : ◌≡◌ {A = List Source} [] support = cc in subst AreSourcesRising own tt
 none_rise (suc count) (suc k) support e = none_rise count k support e
 
 count_none : (count : ℕ) → length (replicate {A = List Source} count []) ≡ count
@@ -172,7 +172,7 @@ module _ (n : Names) (is : List CellInfo) (order : List ℕ) (o : IsOrder (lengt
       rises : AllRise (set old k support)
       rises d x at =
           elim (cases_eq d k) [
-            | inl same ↦ subst AreRising (some_one support x (sym (get_set_same old k support low) ∙ ap (slice_get (set old k support)) (sym same) ∙ at)) j.once
+            | inl same ↦ subst AreSourcesRising (some_one support x (sym (get_set_same old k support low) ∙ ap (slice_get (set old k support)) (sym same) ∙ at)) j.once
             | inr other ↦ h.rising d x (sym (get_set_other old k d support other) ∙ at)
           ]
 

@@ -13,22 +13,22 @@ use Rattle.fx_infer.specs.Below.{tree_depth}
 use Rattle.app_cells.specs.declared.cell.Cell.{Cell}
 
 -- a formula, as rounds see it
-abbrev pub cell_of : Cell → rounds.Cell
-cell_of c = record { screen = c.screen; gallery = c.item; acts = c.acts; wanted = option_map shape c.wanted; formula = c.expr }
+abbrev pub round_cell : Cell → rounds.Cell
+round_cell c = record { screen = c.screen; gallery = c.item; acts = c.acts; wanted = option_map shape c.wanted; formula = c.expr }
 
 -- it is judged under types that are settled
-abbrev pub place_of : Names → Cell → Place
-place_of n c = rounds.placed n (cell_of c)
+abbrev pub cell_place : Names → Cell → Place
+cell_place n c = rounds.place_in_round n (round_cell c)
 
 -- what a formula is under names: a tree with its type, or the place and the number of a broken rule
-abbrev pub judged : Names → Cell → Result (Term × Shape) (ℕ × ℕ)
-judged n c = judge_whole (place_of n c) c.acts (option_map shape c.wanted) c.expr
+abbrev pub judged_cell : Names → Cell → Result (Term × Shape) (ℕ × ℕ)
+judged_cell n c = judge_whole (cell_place n c) c.acts (option_map shape c.wanted) c.expr
 
 -- its nodes stand at most so deep
 abbrev pub AreShallow : List Cell → Type 0
 AreShallow cs = All (λ (c : Cell). tree_depth c.expr ≤ 256) cs
 
 -- each number of a cell in names is below this one
-pub record AreNumbered (count : ℕ) (n : Names) : Type 0 where
+pub record AreCellsBelow (count : ℕ) (n : Names) : Type 0 where
   pub formulas : All (λ (f : FormulaName). f.cell < count) n.formulas
   pub properties : All (λ (p : Property). p.cell < count) n.properties

@@ -5,7 +5,7 @@ use Rattle.app_cells.specs.declared.app.App.{App}
 use Rattle.app_cells.specs.declared.cell.Cell.{Cell}
 use Rattle.app_cells.specs.Spots.{IsFrame, IsPlaced}
 use Rattle.app_texts.specs.Edits.{IsEdited}
-use Rattle.app_texts.specs.Frames.{frame_of, written}
+use Rattle.app_texts.specs.Frames.{app_frame, written_texts}
 use Rattle.app_loader.specs.Cells.{AreShallow}
 use Rattle.app_loader.specs.Judged.{JudgedApp, JudgedFormulas}
 use Rattle.app_loader.specs.Verdicts.{AreSameBreaks, IsSameApp}
@@ -14,14 +14,14 @@ use Rattle.app_loader.specs.Verdicts.{AreSameBreaks, IsSameApp}
 -- and its formulas are few and stand there where they say, no node too deep.
 pub record IsLoaded (a : App) : Type 0 where
   pub few : length a.cells ≤ 2000
-  pub frame : IsFrame (frame_of a)
-  pub placed : All (IsPlaced (frame_of a)) (written a)
-  pub shallow : AreShallow (written a)
+  pub frame : IsFrame (app_frame a)
+  pub placed : All (IsPlaced (app_frame a)) (written_texts a)
+  pub shallow : AreShallow (written_texts a)
 
 -- AN EDIT OF AN APP, judged: something is broken before any formula is judged, or the formulas that it makes are judged so.
 pub data JudgedEdit (a : App) (address text : List ℕ) : Result App (List Broken) → Type 0 where
   broken : (b : Broken) → IsEdited a address text (Err b) → JudgedEdit a address text (Err (b ∷ []))
-  judged : (cells : List Cell) (v : Result App (List Broken)) → IsEdited a address text (Ok cells) → JudgedFormulas (frame_of a) cells v
+  judged : (cells : List Cell) (v : Result App (List Broken)) → IsEdited a address text (Ok cells) → JudgedFormulas (app_frame a) cells v
       → JudgedEdit a address text v
 
 -- no edit is both accepted and refused

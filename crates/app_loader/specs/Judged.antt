@@ -13,25 +13,25 @@ use Rattle.app_cells.specs.declared.app.App.{App}
 use Rattle.app_cells.specs.declared.cell.Cell.{Cell}
 use Rattle.app_cells.specs.declared.frame.Frame.{Frame}
 use Rattle.app_texts.specs.Texts.{IsNamedReading, IsReading}
-use Rattle.app_names.specs.AppNames.{AreNames}
+use Rattle.app_names.specs.AppNames.{AreNamesOf}
 use Rattle.app_names.specs.NameRules.{in_app, name_breaks}
-use Rattle.app_loader.specs.Accepted.{AreSingle}
+use Rattle.app_loader.specs.Accepted.{HaveOneTemplate}
 use Rattle.app_loader.specs.JudgedFormulas.{JudgedCells}
 
 -- the most bytes of a text of named formulas
-abbrev pub longest : ℕ
-longest = 262144
+abbrev pub most_source_bytes : ℕ
+most_source_bytes = 262144
 
 -- these are the names of formulas, of which nothing is broken
-pub record AreNamed (f : Frame) (cells : List Cell) (n : Names) : Type 0 where
-  pub named : AreNames f cells n
+pub record AreNamedFormulas (f : Frame) (cells : List Cell) (n : Names) : Type 0 where
+  pub named : AreNamesOf f cells n
   pub unbroken : name_breaks n.signatures.now f cells ≡ []
 
 -- FORMULAS BESIDE A FRAME, judged: something is broken among their names, or under their names they are judged so.
 pub data JudgedFormulas : Frame → List Cell → Result App (List Broken) → Type 0 where
   misnamed : (f : Frame) (cells : List Cell) (functions : List Signature) (b : Broken) (bs : List Broken) → map entry functions ≡ entries
       → name_breaks functions f cells ≡ b ∷ bs → JudgedFormulas f cells (Err (b ∷ bs))
-  named : (f : Frame) (cells : List Cell) (n : Names) (v : Result App (List Broken)) → AreNamed f cells n → JudgedCells n f.limit cells v
+  named : (f : Frame) (cells : List Cell) (n : Names) (v : Result App (List Broken)) → AreNamedFormulas f cells n → JudgedCells n f.limit cells v
       → JudgedFormulas f cells v
 
 -- What a file holds, judged: some of its texts are no formulas, or its formulas are judged so.
@@ -42,7 +42,7 @@ pub data JudgedFile : AppFile → Result App (List Broken) → Type 0 where
 
 -- however its texts are read, no gallery has two formulas of its items
 abbrev pub HasSingles : AppFile → Type 0
-HasSingles a = (f : Frame) (cells : List Cell) → IsReading a (Ok (f, cells)) → AreSingle cells
+HasSingles a = (f : Frame) (cells : List Cell) → IsReading a (Ok (f, cells)) → HaveOneTemplate cells
 
 -- THE BYTES OF AN APP FILE, judged: they aren't read, and why is told; or what they hold is judged so.
 pub data JudgedApp : List ℕ → Result App (List Broken) → Type 0 where
@@ -57,6 +57,6 @@ pub data JudgedText : List ℕ → Result App (List Broken) → Type 0 where
 
 -- BYTES OF NAMED FORMULAS, judged: the length comes first, then whether they are UTF-8.
 pub data Judged : List ℕ → Result App (List Broken) → Type 0 where
-  too_long : (bytes : List ℕ) → longest < length bytes → Judged bytes (Err (in_app rule.LimitPassed (codes "named 262145") ∷ []))
-  no_text : (bytes : List ℕ) → length bytes ≤ longest → (IsUtf8 bytes → ⊥) → Judged bytes (Err (in_app rule.BadShape (codes "utf-8") ∷ []))
-  text : (bytes : List ℕ) (v : Result App (List Broken)) → length bytes ≤ longest → IsUtf8 bytes → JudgedText bytes v → Judged bytes v
+  too_long : (bytes : List ℕ) → most_source_bytes < length bytes → Judged bytes (Err (in_app rule.LimitPassed (codes "named 262145") ∷ []))
+  no_text : (bytes : List ℕ) → length bytes ≤ most_source_bytes → (IsUtf8 bytes → ⊥) → Judged bytes (Err (in_app rule.BadShape (codes "utf-8") ∷ []))
+  text : (bytes : List ℕ) (v : Result App (List Broken)) → length bytes ≤ most_source_bytes → IsUtf8 bytes → JudgedText bytes v → Judged bytes v

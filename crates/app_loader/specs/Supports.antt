@@ -1,6 +1,6 @@
 -- What formulas stand on.
 use Rattle.std.specs.Prelude.{◌≡◌, ◌↔◌, ◌⊎◌, ℕ, List, [], length, map, false, Some, slice_get}
-use Rattle.fx_core.specs.Reads.{AreRising, IsAmong}
+use Rattle.fx_core.specs.Reads.{AreSourcesRising, IsAmong}
 use Rattle.fx_core.specs.declared.names.Names.{Names}
 use Rattle.fx_core.specs.declared.sources.Source.{Source}
 use Rattle.app_cells.specs.declared.app.App.{App}
@@ -22,11 +22,11 @@ unordered n is = record { names = n; cells = is; order = []; limit = 0 }
 
 -- each formula's list of what it names rises
 abbrev pub HaveRisingReads : List CellInfo → Type 0
-HaveRisingReads is = (k : ℕ) (i : CellInfo) → slice_get is k ≡ Some i → AreRising i.reads
+HaveRisingReads is = (k : ℕ) (i : CellInfo) → slice_get is k ≡ Some i → AreSourcesRising i.reads
 
 -- lists that rise
 abbrev pub AllRise : List (List Source) → Type 0
-AllRise supports = (k : ℕ) (support : List Source) → slice_get supports k ≡ Some support → AreRising support
+AllRise supports = (k : ℕ) (support : List Source) → slice_get supports k ≡ Some support → AreSourcesRising support
 
 -- who names the first source leans on a formula that stands on the second one
 abbrev pub IsBehind : Names → List (List Source) → Source → Source → Type 0
@@ -34,7 +34,7 @@ IsBehind n supports x s = (d : ℕ) × (support : List Source) × (cell_behind n
 
 -- The support of a formula that names these sources: each that is no cell, and each on which a formula that it leans on stands.
 pub record IsJoined (n : Names) (reads : List Source) (supports : List (List Source)) (support : List Source) : Type 0 where
-  pub once : AreRising support
+  pub once : AreSourcesRising support
   pub exact : (s : Source) → IsAmong s support ↔ (((is_cell s ≡ false) × IsAmong s reads) ⊎ ((x : Source) × IsAmong x reads × IsBehind n supports x s))
 
 -- the supports of formulas under names, by their numbers

@@ -1,8 +1,8 @@
 //! Which formulas are admitted under names, and what is broken of the others.
 ghost use Rattle.std.specs.Prelude.{◌≡◌, ◌≤◌, ◌++◌, ◌∷◌, [], IfErr, IfOk, MatchResult, Ok, OnOk};
 ghost use Rattle.app_loader.specs.Admitted.{AreRefused, AreTyped, Breaks};
-ghost use Rattle.app_loader.specs.Cells.{AreShallow, judged};
-ghost use Rattle.app_loader.specs.JudgedFormulas.{AreSome, Tells};
+ghost use Rattle.app_loader.specs.Cells.{AreShallow, judged_cell};
+ghost use Rattle.app_loader.specs.JudgedFormulas.{AreSomeBreaks, ReportsBreaks};
 ghost use Rattle.fx_infer.specs.Below.{tree_depth};
 ghost use Rattle.fx_core.specs.Lawful.{IsLawful};
 ghost use Rattle.fx_typing.specs.TypedView.{typed};
@@ -18,7 +18,7 @@ use std::alloc::Global;
 fn judge(alloc: Global, names: &Names, cell: &Cell) -> Result<Result<Typed, Broken>, Memory>
     requires lawful { IsLawful names.now }
     requires shallow { tree_depth cell.now.expr ≤ 256 }
-    ensures { IfOk result (λ r. MatchResult r (λ t. judged names.now cell.now ≡ Ok (typed t)) (Breaks names.now cell.now)) }
+    ensures { IfOk result (λ r. MatchResult r (λ t. judged_cell names.now cell.now ≡ Ok (typed t)) (Breaks names.now cell.now)) }
 {
     let written = written_cell(alloc, cell)?;
     match elaborate(alloc, names, &written) {
@@ -56,7 +56,7 @@ pub fn typed_trees(alloc: Global, names: &Names, cells: &[Cell]) -> Result<Vec<T
     requires lawful { IsLawful names.now }
     requires shallow { AreShallow cells.now }
     ensures typed { IfOk result (λ ts. AreTyped names.now cells.now ts.items) }
-    ensures refused { IfErr result (Tells (AreSome (AreRefused names.now cells.now))) }
+    ensures refused { IfErr result (ReportsBreaks (AreSomeBreaks (AreRefused names.now cells.now))) }
 {
     let mut trees = Vec::new(alloc);
     let mut breaks = Vec::new(alloc);

@@ -11,7 +11,7 @@ use std::alloc::Global;
 
 // The address of a formula by its number.
 fn name_at(alloc: Global, infos: &[CellInfo], number: u32) -> Result<Words, Memory>
-    ensures { IfOk result (λ w. w ≡ spec.name_at infos.now number) }
+    ensures { IfOk result (λ w. w ≡ spec.cell_name_at infos.now number) }
 {
     match infos.get(number as usize) {
         Some(info) => info.cell.name.copy(alloc),
@@ -21,7 +21,7 @@ fn name_at(alloc: Global, infos: &[CellInfo], number: u32) -> Result<Words, Memo
 
 // The addresses of formulas by their numbers.
 fn names_at(alloc: Global, infos: &[CellInfo], numbers: &[u32]) -> Result<Vec<Words>, Memory>
-    ensures { IfOk result (λ v. v.items ≡ map (spec.name_at infos.now) numbers.now) }
+    ensures { IfOk result (λ v. v.items ≡ map (spec.cell_name_at infos.now) numbers.now) }
 {
     let mut names = Vec::new(alloc);
     for number in numbers {
@@ -48,7 +48,7 @@ fn push_name(all: &mut String, place: usize, name: &Words) -> Result<(), Memory>
 
 // Addresses with an arrow between each two.
 fn join_names(alloc: Global, names: &[Words]) -> Result<Words, Memory>
-    ensures { IfOk result (λ w. w ≡ spec.joined names.now) }
+    ensures { IfOk result (λ w. w ≡ spec.joined_by_arrows names.now) }
 {
     let mut all = String::new(alloc);
     for (place, name) in names.iter().enumerate() {
@@ -59,7 +59,7 @@ fn join_names(alloc: Global, names: &[Words]) -> Result<Words, Memory>
 
 // The first address.
 fn first_of(alloc: Global, names: &[Words]) -> Result<Words, Memory>
-    ensures { IfOk result (λ w. w ≡ spec.first_of names.now) }
+    ensures { IfOk result (λ w. w ≡ spec.first_address names.now) }
 {
     match names {
         [first, ..] => first.copy(alloc),
@@ -69,7 +69,7 @@ fn first_of(alloc: Global, names: &[Words]) -> Result<Words, Memory>
 
 /// What is said of a closed path.
 pub fn cycle_break(alloc: Global, infos: &[CellInfo], path: &[u32]) -> Result<Broken, Memory>
-    ensures { IfOk result (λ b. b ≡ spec.cycle_of (map (spec.name_at infos.now) path.now)) }
+    ensures { IfOk result (λ b. b ≡ spec.cycle_of (map (spec.cell_name_at infos.now) path.now)) }
 {
     let names = names_at(alloc, infos, path)?;
     Ok(Broken {

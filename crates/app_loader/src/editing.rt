@@ -1,9 +1,9 @@
 //! From an app and an edit to the edited app.
 ghost use Rattle.std.specs.Prelude.{◌≡◌, Err, IfErr, IfOk, Ok};
-ghost use Rattle.app_texts.specs.Frames.{frame_of};
+ghost use Rattle.app_texts.specs.Frames.{app_frame};
 ghost use Rattle.app_loader.specs.Edits.{IsLoaded, IsOneEdit, IsOneEdited, IsOneEditRefusal, JudgedEdit, LoadedApp};
-ghost use Rattle.app_semantics.specs.Sound.{IsSound};
-ghost use Rattle.app_loader.specs.JudgedFormulas.{Tells};
+ghost use Rattle.app_semantics.specs.Sound.{IsSoundApp};
+ghost use Rattle.app_loader.specs.JudgedFormulas.{ReportsBreaks};
 ghost use Rattle.fx_types.specs.Words.{scalars_of};
 ghost use Rattle.session_state.specs.Changes.{HoldsTables};
 
@@ -25,11 +25,11 @@ use std::alloc::Global;
 pub fn edit(alloc: Global, app: &App, address: &str, text: &str) -> Result<App, AppEnd>
     requires { IsLoaded app.now }
     ensures app { IfOk result (λ a. JudgedEdit app.now (scalars_of address.now) (scalars_of text.now) (Ok a)) }
-    ensures sound { IfOk result IsSound }
+    ensures sound { IfOk result IsSoundApp }
     ensures loaded { IfOk result IsLoaded }
-    ensures frame { IfOk result (λ a. frame_of a ≡ frame_of app.now) }
+    ensures frame { IfOk result (λ a. app_frame a ≡ app_frame app.now) }
     ensures tables { IfOk result (λ a. HoldsTables a.names) }
-    ensures refused { IfErr result (Tells (λ bs. JudgedEdit app.now (scalars_of address.now) (scalars_of text.now) (Err bs))) }
+    ensures refused { IfErr result (ReportsBreaks (λ bs. JudgedEdit app.now (scalars_of address.now) (scalars_of text.now) (Err bs))) }
 {
     no_deeper();
     let address = Words::of(alloc, address)?;

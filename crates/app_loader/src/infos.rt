@@ -2,12 +2,12 @@
 ghost use Rattle.std.specs.Prelude.{◌≡◌, ◌↔◌, IfOk, Ok, false, length};
 ghost use Rattle.app_loader.specs.Admitted.{AreTyped};
 ghost use Rattle.app_loader.specs.Infos.{AreElaborated, IsElaborated};
-ghost use Rattle.app_loader.specs.Cells.{judged};
+ghost use Rattle.app_loader.specs.Cells.{judged_cell};
 ghost use Rattle.app_loader.specs.Types.{HaveLawfulTrees};
 ghost use Rattle.fx_plan.specs.Limited.{limited};
 ghost use Rattle.fx_plan.specs.Sites.{sites_of};
 ghost use Rattle.fx_core.specs.Lawful.{IsLawfulSchema};
-ghost use Rattle.fx_core.specs.Reads.{AreRising, IsAmong, sources_in};
+ghost use Rattle.fx_core.specs.Reads.{AreSourcesRising, IsAmong, sources_in};
 ghost use Rattle.fx_core.specs.declared.sources.Source.{Source};
 ghost use Rattle.fx_typing.specs.TypedView.{typed};
 
@@ -32,7 +32,7 @@ pub fn in_order<T: Drop>(alloc: Global, things: Vec<T>) -> Result<InOrder<T>, Me
 
 // All that a tree names, each once.
 fn reads_of(alloc: Global, core: &Core) -> Result<InOrder<Source>, Memory>
-    ensures once { IfOk result AreRising }
+    ensures once { IfOk result AreSourcesRising }
     ensures exact { IfOk result (λ r. (s : Source) → IsAmong s r ↔ IsAmong s (sources_in core.now)) }
 {
     let named = core.reads(alloc)?;
@@ -64,7 +64,7 @@ fn info_of(
     tree: Typed,
 ) -> Result<CellInfo, Memory>
     requires lawful { IsLawfulSchema names.now.schema }
-    requires tree { judged names.now cell ≡ Ok (typed tree) }
+    requires tree { judged_cell names.now cell ≡ Ok (typed tree) }
     ensures { IfOk result (IsElaborated names.now limit cell) }
 {
     let reads = reads_of(alloc, &tree.core)?;

@@ -1,15 +1,15 @@
 //! The app of formulas under names.
 ghost use Rattle.std.specs.Prelude.{◌≡◌, ◌∷◌, [], Err, IfErr, IfOk, Ok, length, map};
 ghost use Rattle.app_loader.specs.Admitted.{AreTyped};
-ghost use Rattle.app_loader.specs.Cells.{cell_of};
+ghost use Rattle.app_loader.specs.Cells.{round_cell};
 ghost use Rattle.fx_core.specs.declared.names.Names.{Names as Named};
 ghost use Rattle.app_loader.specs.Types.{AreLawfullyTyped, HaveLawfulTrees};
 ghost use Rattle.fx_core.specs.Lawful.{IsLawful};
 ghost use Rattle.app_loader.specs.Supports.{HaveRisingReads};
-ghost use Rattle.app_loader.specs.JudgedFormulas.{AreFit, IsCyclic, IsOrdered, JudgedCells, Tells, unsettled};
+ghost use Rattle.app_loader.specs.JudgedFormulas.{AreJudgeable, IsCyclic, IsOrdered, JudgedCells, ReportsBreaks, unsettled};
 ghost use Rattle.app_cells.specs.Leaning.{edges_of};
 ghost use Rattle.depend_graph.specs.Order.{AreBelow};
-ghost use Rattle.fx_typing.specs.Rounds.{IsFinal, StillChanges};
+ghost use Rattle.fx_typing.specs.Rounds.{AreFinalTypes, StillChanges};
 
 use crate::admitting::typed_trees;
 use crate::cycles::cycle_break;
@@ -28,7 +28,7 @@ use std::alloc::Global;
 
 /// One break alone.
 pub fn only(alloc: Global, broken: Broken) -> AppEnd
-    ensures { Tells (λ bs. bs ≡ broken ∷ []) result }
+    ensures { ReportsBreaks (λ bs. bs ≡ broken ∷ []) result }
 {
     let mut all = Vec::new(alloc);
     match all.push(broken) {
@@ -39,10 +39,10 @@ pub fn only(alloc: Global, broken: Broken) -> AppEnd
 
 // The names with their final types.
 fn final_names(alloc: Global, first: Names, cells: &[Cell]) -> Result<Names, AppEnd>
-    requires { AreFit first cells.now }
-    ensures types { IfOk result (λ m. IsFinal (map cell_of cells.now) first m) }
-    ensures fit { IfOk result (λ m. AreFit m cells.now) }
-    ensures unsettled { IfErr result (Tells (λ bs. (bs ≡ unsettled ∷ []) × StillChanges (map cell_of cells.now) first)) }
+    requires { AreJudgeable first cells.now }
+    ensures types { IfOk result (λ m. AreFinalTypes (map round_cell cells.now) first m) }
+    ensures fit { IfOk result (λ m. AreJudgeable m cells.now) }
+    ensures unsettled { IfErr result (ReportsBreaks (λ bs. (bs ≡ unsettled ∷ []) × StillChanges (map round_cell cells.now) first)) }
 {
     let written = written_cells(alloc, cells)?;
     match type_rounds(alloc, first, &written) {
@@ -62,7 +62,7 @@ fn ordered_app(
     requires below { AreBelow (length infos) (edges_of names infos) }
     requires reads { HaveRisingReads infos }
     ensures app { IfOk result (IsOrdered names limit infos) }
-    ensures refused { IfErr result (Tells (IsCyclic names infos)) }
+    ensures refused { IfErr result (ReportsBreaks (IsCyclic names infos)) }
 {
     // No app has so many formulas as numbers go.
     let Ok(count) = u32::try_from(infos.len()) else {
@@ -95,11 +95,11 @@ fn built_app(
     cells: Vec<Cell>,
     trees: Vec<Typed>,
 ) -> Result<App, AppEnd>
-    requires fit { AreFit names cells.items }
+    requires fit { AreJudgeable names cells.items }
     requires typed { AreTyped names cells.items trees.items }
-    ensures app { (first : Named) → IsFinal (map cell_of cells.items) first names → IfOk result (λ a. JudgedCells first limit cells.items (Ok a)) }
-    ensures refused { (first : Named) → IsFinal (map cell_of cells.items) first names
-        → IfErr result (Tells (λ bs. JudgedCells first limit cells.items (Err bs))) }
+    ensures app { (first : Named) → AreFinalTypes (map round_cell cells.items) first names → IfOk result (λ a. JudgedCells first limit cells.items (Ok a)) }
+    ensures refused { (first : Named) → AreFinalTypes (map round_cell cells.items) first names
+        → IfErr result (ReportsBreaks (λ bs. JudgedCells first limit cells.items (Err bs))) }
     ensures names { IfOk result (λ a. a.names ≡ names) }
     ensures trees { IfOk result (λ a. HaveLawfulTrees a.cells) }
 {
@@ -112,10 +112,10 @@ fn built_app(
 
 // The app of formulas under names with their final types.
 fn typed_app(alloc: Global, names: Names, limit: u32, cells: Vec<Cell>) -> Result<App, AppEnd>
-    requires { AreFit names cells.items }
-    ensures app { (first : Named) → IsFinal (map cell_of cells.items) first names → IfOk result (λ a. JudgedCells first limit cells.items (Ok a)) }
-    ensures refused { (first : Named) → IsFinal (map cell_of cells.items) first names
-        → IfErr result (Tells (λ bs. JudgedCells first limit cells.items (Err bs))) }
+    requires { AreJudgeable names cells.items }
+    ensures app { (first : Named) → AreFinalTypes (map round_cell cells.items) first names → IfOk result (λ a. JudgedCells first limit cells.items (Ok a)) }
+    ensures refused { (first : Named) → AreFinalTypes (map round_cell cells.items) first names
+        → IfErr result (ReportsBreaks (λ bs. JudgedCells first limit cells.items (Err bs))) }
     ensures names { IfOk result (λ a. a.names ≡ names) }
     ensures trees { IfOk result (λ a. HaveLawfulTrees a.cells) }
 {
@@ -128,9 +128,9 @@ fn typed_app(alloc: Global, names: Names, limit: u32, cells: Vec<Cell>) -> Resul
 /// The app of formulas under names in which they have their numbers. It is refused with the breaks of the first stage that
 /// has any: the rounds of its types, its formulas, and circles in which formulas lean on one another.
 pub fn app_of(alloc: Global, first: Names, limit: u32, cells: Vec<Cell>) -> Result<App, AppEnd>
-    requires { AreFit first cells.items }
+    requires { AreJudgeable first cells.items }
     ensures app { IfOk result (λ a. JudgedCells first limit cells.items (Ok a)) }
-    ensures refused { IfErr result (Tells (λ bs. JudgedCells first limit cells.items (Err bs))) }
+    ensures refused { IfErr result (ReportsBreaks (λ bs. JudgedCells first limit cells.items (Err bs))) }
     ensures typed { IfOk result (λ a. AreLawfullyTyped a.names) }
     ensures trees { IfOk result (λ a. HaveLawfulTrees a.cells) }
     ensures lawful { IfOk result (λ a. IsLawful a.names) }

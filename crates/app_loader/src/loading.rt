@@ -1,13 +1,13 @@
 //! From the bytes of an app to the app.
 ghost use Rattle.std.specs.Prelude.{◌≡◌, ◌<◌, ◌≤◌, ◌∷◌, [], All, Err, IfErr, IfOk, Ok, length};
 ghost use Rattle.app_cells.specs.Spots.{IsFrame, IsPlaced};
-ghost use Rattle.app_loader.specs.Judged.{HasSingles, Judged, JudgedApp, JudgedFile, JudgedFormulas, JudgedText, longest};
+ghost use Rattle.app_loader.specs.Judged.{HasSingles, Judged, JudgedApp, JudgedFile, JudgedFormulas, JudgedText, most_source_bytes};
 ghost use Rattle.app_names.specs.NameRules as rules;
-ghost use Rattle.app_semantics.specs.Sound.{IsSound};
-ghost use Rattle.app_loader.specs.Accepted.{AreSingle};
+ghost use Rattle.app_semantics.specs.Sound.{IsSoundApp};
+ghost use Rattle.app_loader.specs.Accepted.{HaveOneTemplate};
 ghost use Rattle.app_texts.specs.Files as files;
 ghost use Rattle.app_loader.specs.Cells.{AreShallow};
-ghost use Rattle.app_loader.specs.JudgedFormulas.{Tells};
+ghost use Rattle.app_loader.specs.JudgedFormulas.{ReportsBreaks};
 ghost use Rattle.fx_types.specs.Words.{scalars_of};
 ghost use Rattle.session_state.specs.Changes.{HoldsTables};
 
@@ -30,10 +30,10 @@ const LONGEST: usize = 262_144;
 /// its own limits, the texts of its formulas, its names, the rounds of its types, its formulas, and circles among them.
 pub fn load(alloc: Global, bytes: &[u8]) -> Result<App, AppEnd>
     ensures app { IfOk result (λ a. JudgedApp bytes.now (Ok a)) }
-    ensures sound { IfOk result IsSound }
+    ensures sound { IfOk result IsSoundApp }
     ensures opens { IfOk result (λ a. 0 < length a.names.screens) }
     ensures tables { IfOk result (λ a. HoldsTables a.names) }
-    ensures refused { IfErr result (Tells (λ bs. JudgedApp bytes.now (Err bs))) }
+    ensures refused { IfErr result (ReportsBreaks (λ bs. JudgedApp bytes.now (Err bs))) }
 {
     // The law is called for what it says of what is read of a file.
     read_is_sound();
@@ -49,13 +49,13 @@ pub fn load(alloc: Global, bytes: &[u8]) -> Result<App, AppEnd>
 
 // The app of what an app file holds.
 fn load_file(alloc: Global, file: AppFile) -> Result<App, AppEnd>
-    requires sound { files.IsSound file }
+    requires sound { files.IsSoundFile file }
     requires single { HasSingles file }
     ensures app { IfOk result (λ a. JudgedFile file (Ok a)) }
-    ensures sound { IfOk result IsSound }
+    ensures sound { IfOk result IsSoundApp }
     ensures screens { IfOk result (λ a. length a.names.screens ≡ length file.screens) }
     ensures tables { IfOk result (λ a. HoldsTables a.names) }
-    ensures refused { IfErr result (Tells (λ bs. JudgedFile file (Err bs))) }
+    ensures refused { IfErr result (ReportsBreaks (λ bs. JudgedFile file (Err bs))) }
 {
     no_deeper();
     let (frame, cells) = read_texts(alloc, file)?;
@@ -67,10 +67,10 @@ fn load_file(alloc: Global, file: AppFile) -> Result<App, AppEnd>
 /// of its types, its formulas, and circles among them.
 pub fn load_named(alloc: Global, bytes: &[u8]) -> Result<App, AppEnd>
     ensures app { IfOk result (λ a. Judged bytes.now (Ok a)) }
-    ensures sound { IfOk result IsSound }
+    ensures sound { IfOk result IsSoundApp }
     ensures bare { IfOk result (λ a. a.names.schema.tables ≡ []) }
     ensures tables { IfOk result (λ a. HoldsTables a.names) }
-    ensures refused { IfErr result (Tells (λ bs. Judged bytes.now (Err bs))) }
+    ensures refused { IfErr result (ReportsBreaks (λ bs. Judged bytes.now (Err bs))) }
 {
     if bytes.len() > LONGEST {
         // This number is told however long the text is, since a run reads no more of a file.
@@ -84,12 +84,12 @@ pub fn load_named(alloc: Global, bytes: &[u8]) -> Result<App, AppEnd>
 
 // The app of a text that isn't too long.
 fn load_text(alloc: Global, source: &str) -> Result<App, AppEnd>
-    requires { length source.now ≤ longest }
+    requires { length source.now ≤ most_source_bytes }
     ensures app { IfOk result (λ a. JudgedText source.now (Ok a)) }
-    ensures sound { IfOk result IsSound }
+    ensures sound { IfOk result IsSoundApp }
     ensures bare { IfOk result (λ a. a.names.schema.tables ≡ []) }
     ensures tables { IfOk result (λ a. HoldsTables a.names) }
-    ensures refused { IfErr result (Tells (λ bs. JudgedText source.now (Err bs))) }
+    ensures refused { IfErr result (ReportsBreaks (λ bs. JudgedText source.now (Err bs))) }
 {
     no_deeper();
     let (frame, cells) = read_named(alloc, source)?;
@@ -101,13 +101,13 @@ pub(crate) fn load_formulas(alloc: Global, frame: Frame, cells: Vec<Cell>) -> Re
     requires frame { IsFrame frame }
     requires placed { All (IsPlaced frame) cells.items }
     requires shallow { AreShallow cells.items }
-    requires single { AreSingle cells.items }
+    requires single { HaveOneTemplate cells.items }
     ensures app { IfOk result (λ a. JudgedFormulas frame cells.items (Ok a)) }
-    ensures sound { IfOk result IsSound }
+    ensures sound { IfOk result IsSoundApp }
     ensures screens { IfOk result (λ a. a.names.screens ≡ frame.screens) }
     ensures schema { IfOk result (λ a. a.names.schema ≡ frame.schema) }
     ensures tables { IfOk result (λ a. HoldsTables a.names) }
-    ensures refused { IfErr result (Tells (λ bs. JudgedFormulas frame cells.items (Err bs))) }
+    ensures refused { IfErr result (ReportsBreaks (λ bs. JudgedFormulas frame cells.items (Err bs))) }
 {
     // The laws are called for what they say of the app.
     accepted_is_sound();
@@ -124,7 +124,7 @@ pub(crate) fn load_formulas(alloc: Global, frame: Frame, cells: Vec<Cell>) -> Re
 
 // A rule that the whole app breaks, alone.
 fn in_app(alloc: Global, rule: Rule, detail: &str) -> AppEnd
-    ensures { Tells (λ bs. bs ≡ rules.in_app rule (scalars_of detail.now) ∷ []) result }
+    ensures { ReportsBreaks (λ bs. bs ≡ rules.in_app rule (scalars_of detail.now) ∷ []) result }
 {
     match app_break(alloc, rule, detail) {
         Ok(broken) => only(alloc, broken),

@@ -5,7 +5,7 @@ ghost use Rattle.app_cells.specs.Reach as reach;
 ghost use Rattle.app_cells.specs.declared.app.CellInfo.{CellInfo as Formula};
 ghost use Rattle.app_loader.specs.Supports.{AllRise, AreSupported, AreSupports, HaveRisingReads, IsBehind, IsJoined, without_support};
 ghost use Rattle.depend_graph.specs.Order.{IsOrder};
-ghost use Rattle.fx_core.specs.Reads.{AreRising, IsAmong, source_order};
+ghost use Rattle.fx_core.specs.Reads.{AreSourcesRising, IsAmong, source_order};
 ghost use Rattle.fx_core.specs.declared.sources.Source.{Source as Named};
 
 use crate::edges::cell_behind;
@@ -32,9 +32,9 @@ fn compare(left: Source, right: Source) -> Ordering
 
 // The sources of both lists, each once.
 fn merge(alloc: Global, left: &[Source], right: &[Source]) -> Result<Vec<Source>, Memory>
-    requires left { AreRising left.now }
-    requires right { AreRising right.now }
-    ensures once { IfOk result (λ r. AreRising r.items) }
+    requires left { AreSourcesRising left.now }
+    requires right { AreSourcesRising right.now }
+    ensures once { IfOk result (λ r. AreSourcesRising r.items) }
     ensures exact { IfOk result (λ r. (s : Named) → IsAmong s r.items ↔ (IsAmong s left.now ⊎ IsAmong s right.now)) }
 {
     let mut all = Vec::new(alloc);
@@ -82,9 +82,9 @@ fn with_behind(
     supports: &[Sources],
     sources: Vec<Source>,
 ) -> Result<Vec<Source>, Memory>
-    requires sources { AreRising sources.items }
+    requires sources { AreSourcesRising sources.items }
     requires supports { AllRise supports.now }
-    ensures once { IfOk result (λ r. AreRising r.items) }
+    ensures once { IfOk result (λ r. AreSourcesRising r.items) }
     ensures exact { IfOk result (λ r. (s : Named) → IsAmong s r.items ↔ (IsAmong s sources.items ⊎ IsBehind names.now supports.now source s)) }
 {
     let Some(cell) = cell_behind(names, source) else {
@@ -103,7 +103,7 @@ fn support_of(
     reads: &[Source],
     supports: &[Sources],
 ) -> Result<Sources, Memory>
-    requires reads { AreRising reads.now }
+    requires reads { AreSourcesRising reads.now }
     requires supports { AllRise supports.now }
     ensures { IfOk result (IsJoined names.now reads.now supports.now) }
 {

@@ -1,6 +1,6 @@
 //! What is seen of typed trees by looking at them: the columns of the types that they name rise, at every depth.
 ghost use Rattle.fx_semantics.specs.NamedTypes.{HasLawfulTypes, HaveLawfulTypes};
-ghost use Rattle.fx_core.specs.Term.{all, parts_of};
+ghost use Rattle.fx_core.specs.Term.{all, field_terms};
 
 use crate::types::look_at_type;
 use fx_core::{Core, CoreArgs, CoreFields, CoreNode};
@@ -56,7 +56,7 @@ fn look_at_trees(parts: &CoreArgs)
 
 #[cycle(look)]
 fn look_at_fields(fields: &CoreFields)
-    ensures { HaveLawfulTypes (parts_of fields.now) }
+    ensures { HaveLawfulTypes (field_terms fields.now) }
 {
     for (_, part) in fields.as_slice() {
         look_at_tree(part);

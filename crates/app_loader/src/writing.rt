@@ -1,6 +1,6 @@
 //! Formulas of an app as inference takes them.
 ghost use Rattle.std.specs.Prelude.{◌≡◌, ◌≤◌, All, IfOk, map};
-ghost use Rattle.app_loader.specs.Cells.{AreShallow, cell_of};
+ghost use Rattle.app_loader.specs.Cells.{AreShallow, round_cell};
 ghost use Rattle.app_loader.specs.Written.{IsWritten};
 ghost use Rattle.fx_infer.specs.Below.{tree_depth};
 ghost use Rattle.fx_infer.specs.CellView.{cell};
@@ -42,7 +42,7 @@ pub fn written_cell(alloc: Global, cell: &Cell) -> Result<Written, Memory>
 /// Formulas as inference takes them.
 pub fn written_cells(alloc: Global, cells: &[Cell]) -> Result<Vec<Written>, Memory>
     requires { AreShallow cells.now }
-    ensures cells { IfOk result (λ v. map cell v.items ≡ map cell_of cells.now) }
+    ensures cells { IfOk result (λ v. map cell v.items ≡ map round_cell cells.now) }
     ensures shallow { IfOk result (λ v. All (λ w. tree_depth w.expr ≤ 256) v.items) }
 {
     let mut all = Vec::with_capacity(alloc, cells.len())?;

@@ -5,7 +5,7 @@ use Rattle.std.proofs.lemmas.List.{take_more, append_assoc}
 use Rattle.fx_core.specs.declared.signatures.Signature.{Signature}
 use Rattle.app_cells.specs.declared.cell.Cell.{Cell}
 use Rattle.fx_core.specs.declared.broken.Broken.{Broken}
-use Rattle.app_names.specs.Declarations.{declared_of, is_among, new_behind, own_names}
+use Rattle.app_names.specs.Declarations.{declared_of, is_name_among, new_behind, own_names}
 use Rattle.app_names.specs.NameRules.{breaks_behind, first_taken, is_taken_thing, name_break, put_break}
 use Rattle.app_names.specs.declared.declarations.Declared.{Declared}
 
@@ -15,13 +15,13 @@ put_apart None bs = refl
 
 -- the breaks of one more cell
 pub breaks_step : (fs : List Signature) (f : List ℕ → Bool) (xs : List (List ℕ)) (cs : List Cell) (things new : List Declared) (i : ℕ) (c : Cell) (o : Option Broken) (given : List ℕ → Bool)
-    → i < length cs → c ≡ get_or cs i c → given ≡ is_among xs → new ≡ new_behind things (declared_of fs f c) → o ≡ name_break given things new c
+    → i < length cs → c ≡ get_or cs i c → given ≡ is_name_among xs → new ≡ new_behind things (declared_of fs f c) → o ≡ name_break given things new c
     → put_break o [] ++ breaks_behind fs f (xs ++ own_names c.spot) (things ++ new) (drop (i + 1) cs) ≡ breaks_behind fs f xs things (drop i cs)
 breaks_step fs f xs cs things new i c o given below is names fresh broken =
     let rest = breaks_behind fs f (xs ++ own_names c.spot) (things ++ new) (drop (i + 1) cs) in
     put_apart o rest
     ∙ ap (λ q. put_break q rest) (broken ∙ ap (λ g. name_break g things new c) names)
-    ∙ ap (λ ds. put_break (name_break (is_among xs) things ds c) (breaks_behind fs f (xs ++ own_names c.spot) (things ++ ds) (drop (i + 1) cs))) fresh
+    ∙ ap (λ ds. put_break (name_break (is_name_among xs) things ds c) (breaks_behind fs f (xs ++ own_names c.spot) (things ++ ds) (drop (i + 1) cs))) fresh
     ∙ rw (add-one, drop-cons cs i c below, ← is) refl
 
 -- a list that grows by what a step adds

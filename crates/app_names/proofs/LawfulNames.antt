@@ -22,13 +22,13 @@ use Rattle.app_cells.specs.declared.cell.Cell.{Cell}
 use Rattle.app_cells.specs.declared.cell.Spot.{Spot}
 use Rattle.app_cells.specs.declared.cell.Spot.TheVariants as spot
 use Rattle.app_cells.specs.declared.frame.Frame.{Frame}
-use Rattle.app_cells.specs.Spots.{IsControl, IsFrame, IsPlaced, IsSpot, IsTable}
+use Rattle.app_cells.specs.Spots.{IsControl, IsFrame, IsPlaced, IsSpot, IsTableInLimits}
 use Rattle.app_names.specs.declared.declarations.Declared.{Declared}
 use Rattle.app_names.specs.declared.declarations.Thing.{Thing}
 use Rattle.app_names.specs.declared.declarations.Thing.TheVariants as thing
-use Rattle.app_names.specs.AppNames.{AreNames, as_collection, as_formula, as_property, as_variable, collections_among, formulas_from, properties_from, variables_among}
-use Rattle.app_names.specs.Declarations.{given_names, is_among, table_names, things_of}
-use Rattle.app_names.specs.NameRules.{app_break, app_limit, breaks_behind, column_twice, counted, first_twice, frame_twice, in_app, is_reserved, is_taken, most_cells, most_variables, name_breaks, passed, put_break, screen_twice, table_twice}
+use Rattle.app_names.specs.AppNames.{AreNamesOf, as_collection, as_formula, as_property, as_variable, collections_among, formulas_from, properties_from, variables_among}
+use Rattle.app_names.specs.Declarations.{given_names, is_name_among, frame_table_names, things_of}
+use Rattle.app_names.specs.NameRules.{app_break, app_limit, breaks_behind, column_twice, word_with_number, first_twice, frame_twice, in_app, is_reserved, is_taken, most_cells, most_variables, name_breaks, passed_limit, put_break, screen_twice, table_twice}
 use Rattle.app_names.proofs.Screens.{Fits, IsScreen, IsThing, all_fit}
 
 -- nothing is broken: nothing is said of the whole app
@@ -44,9 +44,9 @@ none_both : {A : Type 0} (a b : Option A) → or_else a b ≡ None → (a ≡ No
 none_both None b e = (refl, e)
 none_both (Some x) b e = absurd cc
 
-within : (most count : ℕ) (limit : List ℕ) → passed most count limit ≡ None → count ≤ most
+within : (most count : ℕ) (limit : List ℕ) → passed_limit most count limit ≡ None → count ≤ most
 within most count limit e = elim (cases_lt most count) [
-  | inl l ↦ let past : None ≡ Some (counted limit count) = sym e ∙ ap (λ b. if b then Some (counted limit count) else None) (lt-ltb most count l) in absurd cc
+  | inl l ↦ let past : None ≡ Some (word_with_number limit count) = sym e ∙ ap (λ b. if b then Some (word_with_number limit count) else None) (lt-ltb most count l) in absurd cc
   | inr l ↦ l
 ]
 
@@ -54,9 +54,9 @@ within most count limit e = elim (cases_lt most count) [
 pub unbroken : (fs : List Signature) (f : Frame) (cs : List Cell) → name_breaks fs f cs ≡ [] → (frame_twice f cs ≡ None) × ((length cs ≤ 2000) × (length (things_of fs f cs) ≤ 1000))
 unbroken fs f cs e =
     let n = length (things_of fs f cs) in
-    let none = none_put (app_break f cs n) (breaks_behind fs (is_among (given_names f cs)) (table_names f) [] cs) e in
+    let none = none_put (app_break f cs n) (breaks_behind fs (is_name_among (given_names f cs)) (frame_table_names f) [] cs) e in
     let both = none_both (option_map (in_app rule.NameTwice) (frame_twice f cs)) (option_map (in_app rule.LimitPassed) (app_limit (length cs) n)) none in
-    let limits = none_both (passed most_cells (length cs) (codes "cells")) (passed most_variables n (codes "variables")) (none_mapped (in_app rule.LimitPassed) (app_limit (length cs) n) both.1) in
+    let limits = none_both (passed_limit most_cells (length cs) (codes "cells")) (passed_limit most_variables n (codes "variables")) (none_mapped (in_app rule.LimitPassed) (app_limit (length cs) n) both.1) in
     (none_mapped (in_app rule.NameTwice) (frame_twice f cs) both.0, (within most_cells (length cs) (codes "cells") limits.0, within most_variables n (codes "variables") limits.1))
 
 not_taken : (b : Bool) (x : List ℕ) (o : Option (List ℕ)) → (if b then Some x else o) ≡ None → (b ≡ false) × (o ≡ None)
@@ -65,14 +65,14 @@ not_taken false x o e = (refl, e)
 
 abbrev NoneAmong : List (List ℕ) → List (List ℕ) → Type 0
 NoneAmong before [] = Unit {0}
-NoneAmong before (x ∷ xs) = (is_among before x ≡ false) × NoneAmong before xs
+NoneAmong before (x ∷ xs) = (is_name_among before x ≡ false) × NoneAmong before xs
 
 unlike : (x y : List ℕ) → bytes_eq x y ≡ false → x ≢ y
 unlike x y e same = let h : true ≡ false = sym ((bytes_eq-Decides x y).1 same) ∙ e in absurd cc
 
-behind : (before : List (List ℕ)) (x y : List ℕ) → is_among (before ++ x ∷ []) y ≡ false → (is_among before y ≡ false) × (x ≢ y)
+behind : (before : List (List ℕ)) (x y : List ℕ) → is_name_among (before ++ x ∷ []) y ≡ false → (is_name_among before y ≡ false) × (x ≢ y)
 behind before x y e =
-    let both = or_parts (is_among before y) (is_among (x ∷ []) y) (sym (list_any-append (λ z. bytes_eq z y) before (x ∷ [])) ∙ e) in
+    let both = or_parts (is_name_among before y) (is_name_among (x ∷ []) y) (sym (list_any-append (λ z. bytes_eq z y) before (x ∷ [])) ∙ e) in
     (both.0, unlike x y (or_parts (bytes_eq x y) false both.1).0)
 
 apart : (before : List (List ℕ)) (x : List ℕ) (ys : List (List ℕ)) → NoneAmong (before ++ x ∷ []) ys → NoneAmong before ys × DiffersFromAll x ys
@@ -83,7 +83,7 @@ free : (before xs : List (List ℕ)) → first_twice before xs ≡ None → None
 free before [] e = (tt, tt)
 free before (x ∷ xs) e =
     let k = not_taken (is_taken before x) x (first_twice (before ++ x ∷ []) xs) e in
-    let new = or_parts (is_reserved x) (is_among before x) k.0 in
+    let new = or_parts (is_reserved x) (is_name_among before x) k.0 in
     let r = free (before ++ x ∷ []) xs k.1 in
     let s = apart before x xs r.0 in
     ((new.1, s.0), (s.1, r.1))
@@ -104,7 +104,7 @@ tables_free : (before : List (List ℕ)) (ts : List TableShape) → table_twice 
 tables_free before [] e = (tt, (tt, All-nil IsFree))
 tables_free before (t ∷ ts) e =
     let k = not_taken (is_taken before t.name) t.name (or_else (column_twice t) (table_twice (before ++ t.name ∷ []) ts)) e in
-    let new = or_parts (is_reserved t.name) (is_among before t.name) k.0 in
+    let new = or_parts (is_reserved t.name) (is_name_among before t.name) k.0 in
     let both = none_both (column_twice t) (table_twice (before ++ t.name ∷ []) ts) k.1 in
     let r = tables_free (before ++ t.name ∷ []) ts both.1 in
     let s = apart before t.name (names_in ts) r.0 in
@@ -266,7 +266,7 @@ abbrev StandsAmong : List (List ℕ) → List ControlName → ControlName → Ty
 StandsAmong ss cs c = (c.screen < length ss) × IsLawfulGallery cs c.gallery
 
 -- WHAT NAMES ARE LAWFUL: those of an app that has a frame, whose formulas stand in it, and of which nothing is broken
-pub lawful_names : (fs : List Signature) (f : Frame) (cs : List Cell) (n : Names) → IsFrame f → All (IsPlaced f) cs → AreNames f cs n → n.signatures.now ≡ fs → name_breaks fs f cs ≡ [] → IsLawful n
+pub lawful_names : (fs : List Signature) (f : Frame) (cs : List Cell) (n : Names) → IsFrame f → All (IsPlaced f) cs → AreNamesOf f cs n → n.signatures.now ≡ fs → name_breaks fs f cs ≡ [] → IsLawful n
 lawful_names fs f cs n h placed names same none =
     let u = unbroken fs f cs none in
     let things = things_of fs f cs in

@@ -8,8 +8,8 @@ use Rattle.std.specs.BTreeMap.{is_at}
 use Rattle.std.specs.BTreeSet.{BTreeSet, contains}
 use Rattle.std.specs.Cmp.Lexicographic.{slice_cmp}
 use Rattle.std.specs.Ordering.{nat_cmp}
-use Rattle.app_names.specs.Declarations.{is_among}
-use Rattle.app_names.specs.Tops.{has}
+use Rattle.app_names.specs.Declarations.{is_name_among}
+use Rattle.app_names.specs.Tops.{is_name_in_set}
 
 either_way : (a b : Bool) → cond b true a ≡ (a || (b || false))
 either_way true true = refl
@@ -20,9 +20,9 @@ either_way false false = refl
 -- one name more in the set
 pub name_more : (old new : BTreeSet (List ℕ)) (x : List ℕ) (xs : List (List ℕ))
     → ((q : List ℕ) → contains (slice_cmp nat_cmp) new q ≡ cond (is_at (slice_cmp nat_cmp x) q) true (contains (slice_cmp nat_cmp) old q))
-    → has old ≡ is_among xs → has new ≡ is_among (xs ++ x ∷ [])
+    → is_name_in_set old ≡ is_name_among xs → is_name_in_set new ≡ is_name_among (xs ++ x ∷ [])
 name_more old new x xs updates names = fun_ext (λ q.
-    updates q ∙ ap (λ b. cond b true (has old q)) (is_eq-slice_cmp x q)
+    updates q ∙ ap (λ b. cond b true (is_name_in_set old q)) (is_eq-slice_cmp x q)
     ∙ ap (cond (bytes_eq x q) true) (λ j. names j q)
-    ∙ either_way (is_among xs q) (bytes_eq x q)
+    ∙ either_way (is_name_among xs q) (bytes_eq x q)
     ∙ sym (list_any-append (λ y. bytes_eq y q) xs (x ∷ [])))

@@ -18,7 +18,7 @@ use Rattle.app_cells.specs.Spots.{IsControl, IsFrame, IsPlaced, IsSpot, screen_o
 use Rattle.app_names.specs.declared.declarations.Declared.{Declared}
 use Rattle.app_names.specs.declared.declarations.Thing.{Thing}
 use Rattle.app_names.specs.declared.declarations.Thing.TheVariants as thing
-use Rattle.app_names.specs.Declarations.{called_as, declaration, declared_among, declared_at, declared_by, declared_by_record, declared_in, declared_of, declared_on, first_name, given_names, is_among, is_declared, is_thing, new_behind, things_behind, things_of, variables_in}
+use Rattle.app_names.specs.Declarations.{shape_called, declaration, declared_among, declared_at, declared_by, declared_by_record, declared_in, declared_of, declared_on, first_name, given_names, is_name_among, is_declared, is_thing, new_behind, things_behind, things_of, variables_in}
 
 -- what holds of all things of a list holds of the one at a place
 pub at_place : {A : Type 0} (P : A → Type 0) (xs : List A) (k : ℕ) → All P xs → IfSome (slice_get xs k) P
@@ -140,7 +140,7 @@ at_fits f fs r (tree.truth b) ts k = All-nil (Fits f)
 at_fits f fs r (tree.name x) ts k = All-nil (Fits f)
 at_fits f fs r (tree.global x) ts k = All-nil (Fits f)
 at_fits f fs r (tree.dot x) ts k = All-nil (Fits f)
-at_fits f fs r (tree.call x) ts k = on_screen f r (called_as fs x) ts k
+at_fits f fs r (tree.call x) ts k = on_screen f r (shape_called fs x) ts k
 at_fits f fs r tree.neg ts k = All-nil (Fits f)
 at_fits f fs r tree.opposite ts k = All-nil (Fits f)
 at_fits f fs r tree.percent ts k = All-nil (Fits f)
@@ -182,4 +182,4 @@ things_fit f fs given before (c ∷ cs) h k l =
 
 -- each thing that the formulas of an app declare is one of a screen of the app, or a global one
 pub all_fit : (f : Frame) (fs : List Signature) (cs : List Cell) → IsFrame f → All (IsPlaced f) cs → All (Fits f) (things_of fs f cs)
-all_fit f fs cs h k = things_fit f fs (is_among (given_names f cs)) [] cs h k (All-nil (Fits f))
+all_fit f fs cs h k = things_fit f fs (is_name_among (given_names f cs)) [] cs h k (All-nil (Fits f))

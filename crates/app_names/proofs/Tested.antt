@@ -69,7 +69,7 @@ gallery_kind control.Slider = (λ h. absurd cc, λ h. absurd cc)
 gallery_kind control.Checkbox = (λ h. absurd cc, λ h. absurd cc)
 gallery_kind control.DatePicker = (λ h. absurd cc, λ h. absurd cc)
 
-gallery : (c : Option ControlName) → Decides (decided.is_gallery c) (IsGallery c)
+gallery : (c : Option ControlName) → Decides (decided.is_gallery_control c) (IsGallery c)
 gallery (Some c) = gallery_kind c.kind
 gallery None = (λ h. absurd cc, λ h. absurd h)
 
@@ -80,7 +80,7 @@ gallery_right cs None = (λ _. tt, λ _. refl)
 control_right : (n : Names) (c : ControlName) → Decides (decided.is_lawful_control n c) (IsLawfulControl n c)
 control_right n c = Decides-and (nat_lt c.screen (length n.screens)) (decided.is_lawful_gallery n.controls c.gallery) (Decides-ltb c.screen (length n.screens)) (gallery_right n.controls c.gallery)
 
-has_right : (p : List ℕ) (c : Option ControlName) → Decides (decided.has p c) (Has p c)
+has_right : (p : List ℕ) (c : Option ControlName) → Decides (decided.has_control_name p c) (Has p c)
 has_right p (Some c) = (λ h. h, λ h. h)
 has_right p None = (λ h. absurd cc, λ h. absurd h)
 

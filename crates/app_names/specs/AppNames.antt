@@ -50,7 +50,7 @@ collections_among ds = flat_map (λ (d : Declared). as_collection d d.thing) ds
 
 -- THE NAMES OF AN APP: all functions, its tables, screens and controls, its named formulas and written properties by the
 -- numbers of their cells, which are their places, and what its formulas declare, each of type Blank so far.
-pub record AreNames (f : Frame) (cells : List Cell) (n : Names) : Type 0 where
+pub record AreNamesOf (f : Frame) (cells : List Cell) (n : Names) : Type 0 where
   pub signatures : map entry n.signatures.now ≡ entries
   pub schema : n.schema ≡ f.schema
   pub screens : n.screens ≡ f.screens

@@ -65,23 +65,23 @@ abbrev pub is_gallery_kind : Control → Bool
 is_gallery_kind control.Gallery = true
 is_gallery_kind k = false
 
-abbrev pub is_gallery : Option ControlName → Bool
-is_gallery (Some c) = is_gallery_kind c.kind
-is_gallery None = false
+abbrev pub is_gallery_control : Option ControlName → Bool
+is_gallery_control (Some c) = is_gallery_kind c.kind
+is_gallery_control None = false
 
 abbrev pub is_lawful_gallery : List ControlName → Option ℕ → Bool
-is_lawful_gallery cs (Some g) = is_gallery (slice_get cs g)
+is_lawful_gallery cs (Some g) = is_gallery_control (slice_get cs g)
 is_lawful_gallery cs None = true
 
 abbrev pub is_lawful_control : Names → ControlName → Bool
 is_lawful_control n c = nat_lt c.screen (length n.screens) && is_lawful_gallery n.controls c.gallery
 
-abbrev pub has : List ℕ → Option ControlName → Bool
-has p (Some c) = has_property c.kind (encode_utf8_all p)
-has p None = false
+abbrev pub has_control_name : List ℕ → Option ControlName → Bool
+has_control_name p (Some c) = has_property c.kind (encode_utf8_all p)
+has_control_name p None = false
 
 abbrev pub is_lawful_property : Names → Property → Bool
-is_lawful_property n p = has p.name (slice_get n.controls p.control)
+is_lawful_property n p = has_control_name p.name (slice_get n.controls p.control)
 
 abbrev pub is_lawful_screen : Names → Option ℕ → Bool
 is_lawful_screen n (Some s) = nat_lt s (length n.screens)

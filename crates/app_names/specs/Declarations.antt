@@ -26,8 +26,8 @@ declared_by (Some (sig.Act acts.Collect)) = Some thing.Collection
 declared_by (Some (sig.Act acts.ClearCollect)) = Some thing.Collection
 declared_by s = None
 
-abbrev pub called_as : List Signature → List ℕ → Option SigShape
-called_as functions f = option_map (λ (s : Signature). s.shape) (signature_in functions (encode_utf8_all f))
+abbrev pub shape_called : List Signature → List ℕ → Option SigShape
+shape_called functions f = option_map (λ (s : Signature). s.shape) (signature_in functions (encode_utf8_all f))
 
 -- the name that stands first among the parts of a call, and the byte of the text at which it begins
 abbrev pub first_name : Forest → Option (List ℕ × ℕ)
@@ -56,7 +56,7 @@ declared_on (Some s) (Some (sig.Act acts.UpdateContext)) ts = declared_by_record
 declared_on screen shape ts = declaration (declared_by shape) (first_name ts)
 
 abbrev pub declared_at : List Signature → Option ℕ → Head → Forest → List Declared
-declared_at functions screen (tree.call f) ts = declared_on screen (called_as functions f) ts
+declared_at functions screen (tree.call f) ts = declared_on screen (shape_called functions f) ts
 declared_at functions screen h ts = []
 
 abbrev mutual
@@ -69,13 +69,13 @@ abbrev mutual
   declared_among functions screen (more t ts) = declared_in functions screen t ++ declared_among functions screen ts
 
 -- a global thing: a variable of no screen, or a collection
-abbrev pub is_global : Thing → Bool
-is_global (thing.Variable (Some s)) = false
-is_global k = true
+abbrev pub is_global_thing : Thing → Bool
+is_global_thing (thing.Variable (Some s)) = false
+is_global_thing k = true
 
 -- What a formula declares: never a global thing with a name that tables, screens, controls or named formulas have.
 abbrev pub is_declared : (List ℕ → Bool) → Declared → Bool
-is_declared given d = not (is_global d.thing && given d.name)
+is_declared given d = not (is_global_thing d.thing && given d.name)
 
 abbrev pub declared_of : List Signature → (List ℕ → Bool) → Cell → List Declared
 declared_of functions given c = filter (is_declared given) (declared_in functions c.screen c.expr)
@@ -109,18 +109,18 @@ own_names s = []
 abbrev pub formula_names : List Cell → List (List ℕ)
 formula_names cs = flat_map (λ (c : Cell). own_names c.spot) cs
 
-abbrev pub table_names : Frame → List (List ℕ)
-table_names f = map (λ (t : TableShape). t.name) f.schema.tables
+abbrev pub frame_table_names : Frame → List (List ℕ)
+frame_table_names f = map (λ (t : TableShape). t.name) f.schema.tables
 
 abbrev pub control_names : Frame → List (List ℕ)
 control_names f = map (λ (c : ControlName). c.name) f.controls
 
 abbrev pub given_names : Frame → List Cell → List (List ℕ)
-given_names f cs = table_names f ++ (f.screens ++ (control_names f ++ formula_names cs))
+given_names f cs = frame_table_names f ++ (f.screens ++ (control_names f ++ formula_names cs))
 
 -- one of these names is this
-abbrev pub is_among : List (List ℕ) → List ℕ → Bool
-is_among xs x = list_any (λ y. bytes_eq y x) xs
+abbrev pub is_name_among : List (List ℕ) → List ℕ → Bool
+is_name_among xs x = list_any (λ y. bytes_eq y x) xs
 
 abbrev pub things_of : List Signature → Frame → List Cell → List Declared
-things_of functions f cells = things_behind functions (is_among (given_names f cells)) [] cells
+things_of functions f cells = things_behind functions (is_name_among (given_names f cells)) [] cells

@@ -17,7 +17,7 @@ use Rattle.app_cells.specs.declared.cell.Spot.{Spot}
 use Rattle.app_cells.specs.declared.cell.Spot.TheVariants as spot
 use Rattle.app_cells.specs.declared.frame.Frame.{Frame}
 use Rattle.app_names.specs.declared.declarations.Declared.{Declared}
-use Rattle.app_names.specs.Declarations.{declared_of, formula_names, given_names, is_among, is_global, new_behind, own_names, table_names, things_of}
+use Rattle.app_names.specs.Declarations.{declared_of, formula_names, given_names, is_name_among, is_global_thing, new_behind, own_names, frame_table_names, things_of}
 
 -- a rule that the whole app breaks, and one that a formula breaks at a byte of the text, which is counted from where
 -- positions of the formula are told
@@ -28,16 +28,16 @@ abbrev pub in_cell : Cell → Rule → ℕ → List ℕ → Broken
 in_cell c r at detail = record { cell = c.name; rule = r; at = at - c.at; detail = detail }
 
 -- the names that no app declares, given by their bytes: these words, and the enumerations
-abbrev pub is_word : List ℕ → Bool
-is_word t =
+abbrev pub is_reserved_word : List ℕ → Bool
+is_reserved_word t =
     bytes_eq t (codes "App") || (bytes_eq t (codes "ThisRecord") || (bytes_eq t (codes "ThisItem") || bytes_eq t (codes "FirstError")))
 
 abbrev pub is_reserved : List ℕ → Bool
-is_reserved x = is_word (encode_utf8_all x) || is_some (enumeration_of (encode_utf8_all x))
+is_reserved x = is_reserved_word (encode_utf8_all x) || is_some (enumeration_of (encode_utf8_all x))
 
 -- a name behind these is taken
 abbrev pub is_taken : List (List ℕ) → List ℕ → Bool
-is_taken before x = is_reserved x || is_among before x
+is_taken before x = is_reserved x || is_name_among before x
 
 -- the first of these names that is taken by those before it
 abbrev pub first_twice : List (List ℕ) → List (List ℕ) → Option (List ℕ)
@@ -57,12 +57,12 @@ table_twice before (t ∷ ts) =
 abbrev pub names_on : Frame → ℕ → List (List ℕ)
 names_on f s = map (λ (c : ControlName). c.name) (filter (λ (c : ControlName). nat_eq c.screen s) f.controls)
 
-abbrev pub screen_names : Frame → ℕ → List (List ℕ) → List (List ℕ)
-screen_names f s [] = []
-screen_names f s (x ∷ xs) = x ∷ (names_on f s ++ screen_names f (suc s) xs)
+abbrev pub names_on_screen : Frame → ℕ → List (List ℕ) → List (List ℕ)
+names_on_screen f s [] = []
+names_on_screen f s (x ∷ xs) = x ∷ (names_on f s ++ names_on_screen f (suc s) xs)
 
 abbrev pub screen_twice : Frame → List Cell → Option (List ℕ)
-screen_twice f cells = first_twice (table_names f ++ formula_names cells) (screen_names f 0 f.screens)
+screen_twice f cells = first_twice (frame_table_names f ++ formula_names cells) (names_on_screen f 0 f.screens)
 
 -- THE FIRST NAME OF A TABLE, A COLUMN, A SCREEN OR A CONTROL THAT IS TAKEN: the order is that of tables with their columns,
 -- named formulas, and screens with their controls.
@@ -71,10 +71,10 @@ frame_twice f cells = or_else (table_twice [] f.schema.tables) (screen_twice f c
 
 -- A new thing is taken where its name is reserved, and a global one where another global thing has it.
 abbrev pub has_name : List ℕ → Declared → Bool
-has_name x d = is_global d.thing && bytes_eq d.name x
+has_name x d = is_global_thing d.thing && bytes_eq d.name x
 
 abbrev pub is_taken_thing : List Declared → Declared → Bool
-is_taken_thing before d = is_reserved d.name || (is_global d.thing && list_any (has_name d.name) before)
+is_taken_thing before d = is_reserved d.name || (is_global_thing d.thing && list_any (has_name d.name) before)
 
 abbrev pub first_taken : List Declared → List Declared → Option Declared
 first_taken before [] = None
@@ -94,18 +94,18 @@ abbrev pub most_variables : ℕ
 most_variables = 1000
 
 -- a word and a number, a space between them
-abbrev pub counted : List ℕ → ℕ → List ℕ
-counted word n = word ++ (codes " " ++ decimal n)
+abbrev pub word_with_number : List ℕ → ℕ → List ℕ
+word_with_number word n = word ++ (codes " " ++ decimal n)
 
 -- a limit that is passed, with the number that was counted
-abbrev pub passed : ℕ → ℕ → List ℕ → Option (List ℕ)
-passed most count limit = if nat_lt most count then Some (counted limit count) else None
+abbrev pub passed_limit : ℕ → ℕ → List ℕ → Option (List ℕ)
+passed_limit most count limit = if nat_lt most count then Some (word_with_number limit count) else None
 
 abbrev pub is_long : List ℕ → Bool
 is_long x = nat_lt most_name_length (length x)
 
 abbrev pub long_name : List ℕ → List ℕ
-long_name x = counted (codes "name") (length x)
+long_name x = word_with_number (codes "name") (length x)
 
 -- A cell behind these names, where these things are declared, and these new ones: it is a named formula whose name is
 -- taken, or it declares one that is.
@@ -122,7 +122,7 @@ taken_break before things new c = or_else (own_taken before c c.spot) (thing_tak
 -- A named formula's text is too long, or else its name; or else a name that a cell declares.
 abbrev pub long_text : Cell → Option Broken
 long_text c =
-    option_map (in_cell c rule.LimitPassed c.at) (passed most_formula_bytes (length (encode_utf8_all c.text)) (codes "formula"))
+    option_map (in_cell c rule.LimitPassed c.at) (passed_limit most_formula_bytes (length (encode_utf8_all c.text)) (codes "formula"))
 
 abbrev pub long_own_name : Cell → List ℕ → Option Broken
 long_own_name c x = if is_long x then Some (in_cell c rule.LimitPassed c.at (long_name x)) else None
@@ -151,11 +151,11 @@ abbrev pub breaks_behind : List Signature → (List ℕ → Bool) → List (List
 breaks_behind functions given before things [] = []
 breaks_behind functions given before things (c ∷ cs) =
     let new = new_behind things (declared_of functions given c) in
-    put_break (name_break (is_among before) things new c) (breaks_behind functions given (before ++ own_names c.spot) (things ++ new) cs)
+    put_break (name_break (is_name_among before) things new c) (breaks_behind functions given (before ++ own_names c.spot) (things ++ new) cs)
 
 -- the whole app has too many cells, or else too many variables and collections
 abbrev pub app_limit : ℕ → ℕ → Option (List ℕ)
-app_limit cells things = or_else (passed most_cells cells (codes "cells")) (passed most_variables things (codes "variables"))
+app_limit cells things = or_else (passed_limit most_cells cells (codes "cells")) (passed_limit most_variables things (codes "variables"))
 
 abbrev pub app_break : Frame → List Cell → ℕ → Option Broken
 app_break f cells things =
@@ -164,4 +164,4 @@ app_break f cells things =
 -- THE BREAKS AMONG THE NAMES OF AN APP
 abbrev pub name_breaks : List Signature → Frame → List Cell → List Broken
 name_breaks functions f cells =
-    put_break (app_break f cells (length (things_of functions f cells))) (breaks_behind functions (is_among (given_names f cells)) (table_names f) [] cells)
+    put_break (app_break f cells (length (things_of functions f cells))) (breaks_behind functions (is_name_among (given_names f cells)) (frame_table_names f) [] cells)

@@ -17,5 +17,5 @@ abbrev pub declared_here : List Signature → Option ℕ → Tree → List Decla
 declared_here functions screen (node at h ts) = declared_at functions screen h ts
 
 -- the set has this name
-abbrev pub has : BTreeSet (List ℕ) → List ℕ → Bool
-has given = contains (slice_cmp nat_cmp) given
+abbrev pub is_name_in_set : BTreeSet (List ℕ) → List ℕ → Bool
+is_name_in_set given = contains (slice_cmp nat_cmp) given

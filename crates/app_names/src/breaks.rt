@@ -2,16 +2,16 @@
 ghost use Rattle.std.specs.Prelude.{◌≡◌, ◌≤◌, ◌++◌, [], IfOk, OnOk, length, option_map};
 ghost use Rattle.app_cells.specs.Spots.{IsFrame};
 ghost use Rattle.app_names.specs.NameRules as rules;
-ghost use Rattle.app_names.specs.Tops.{has};
+ghost use Rattle.app_names.specs.Tops.{is_name_in_set};
 
 use crate::broken::{in_app, put_break};
 use crate::declarations::Declared;
-use crate::given::{given_names, table_names};
+use crate::declared_things::{declared_things, new_behind, put_behind, things_of};
+use crate::duplicates::frame_twice;
+use crate::given_names::{given_names, table_names};
 use crate::limits::{app_limit, limit_break};
+use crate::name_clashes::taken_break;
 use crate::name_sets::{put_own_name, set_of};
-use crate::taken::taken_break;
-use crate::things::{declared_things, new_behind, put_behind, things_of};
-use crate::twice::frame_twice;
 use app_cells::{Cell, Frame};
 use fx_base::Memory;
 use fx_core::signatures::Signature;
@@ -28,7 +28,7 @@ fn name_break(
     new: &[Declared],
     cell: &Cell,
 ) -> Result<Option<Broken>, Memory>
-    ensures { IfOk result (λ o. o ≡ rules.name_break (has before.now) things.now new.now cell.now) }
+    ensures { IfOk result (λ o. o ≡ rules.name_break (is_name_in_set before.now) things.now new.now cell.now) }
 {
     match taken_break(alloc, before, things, new, cell)? {
         Some(broken) => Ok(Some(broken)),
@@ -46,7 +46,7 @@ fn put_breaks(
     breaks: &mut Vec<Broken>,
 ) -> Result<(), Memory>
     ensures { OnOk result (breaks.new.items ≡ breaks.old.items
-        ++ rules.breaks_behind functions.now (has given.now) tables.now [] cells.now) }
+        ++ rules.breaks_behind functions.now (is_name_in_set given.now) tables.now [] cells.now) }
 {
     let mut before = set_of(alloc, tables)?;
     let mut things = Vec::new(alloc);

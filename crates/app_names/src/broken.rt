@@ -51,7 +51,7 @@ pub fn word(alloc: Global, text: &str) -> Result<Words, Memory>
 /// A word of ASCII characters and a number, a space between them.
 pub fn word_with_count(alloc: Global, word: &str, number: usize) -> Result<Words, Memory>
     requires { IsAscii word.now }
-    ensures { IfOk result (λ w. w ≡ rules.counted word.now number) }
+    ensures { IfOk result (λ w. w ≡ rules.word_with_number word.now number) }
 {
     let text = format!(in alloc; "{word} {number}")?;
     Words::of(alloc, text.as_str())

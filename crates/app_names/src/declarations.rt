@@ -1,6 +1,6 @@
 //! The variables and collections that formulas declare.
 ghost use Rattle.std.specs.Prelude.{◌≡◌, ◌++◌, OnOk, option_map};
-ghost use Rattle.fx_core.specs.Tree.{forest, names_of, parts_of, places_of};
+ghost use Rattle.fx_core.specs.Tree.{forest, tree_field_names, field_trees, places_of};
 ghost use Rattle.app_names.specs.Declarations as table;
 ghost use Rattle.app_names.specs.Declarations.{declared_among, declared_in};
 ghost use Rattle.app_names.specs.Tops.{below, declared_here};
@@ -43,7 +43,7 @@ fn declared_thing(shape: Option<SigShape>) -> Option<Thing>
 
 // How a function is called.
 fn call_shape(functions: &[Signature], name: &Words) -> Option<SigShape>
-    ensures { result ≡ table.called_as functions.now name.now }
+    ensures { result ≡ table.shape_called functions.now name.now }
 {
     signature_in(functions, name.as_str()).map(|signature| signature.shape)
 }
@@ -69,7 +69,7 @@ fn declare_variables(
     fields: &[(FieldName, Expr)],
     found: &mut Vec<Declared>,
 ) -> Result<(), Memory>
-    ensures { OnOk result (found.new.items ≡ found.old.items ++ table.variables_in screen (names_of fields.now) (places_of fields.now)) }
+    ensures { OnOk result (found.new.items ≡ found.old.items ++ table.variables_in screen (tree_field_names fields.now) (places_of fields.now)) }
 {
     for (name, _) in fields {
         found.push(Declared {
@@ -227,7 +227,7 @@ fn declare_fields(
     fields: &[(FieldName, Expr)],
     found: &mut Vec<Declared>,
 ) -> Result<(), Memory>
-    ensures { OnOk result (found.new.items ≡ found.old.items ++ declared_among functions.now screen (parts_of fields.now)) }
+    ensures { OnOk result (found.new.items ≡ found.old.items ++ declared_among functions.now screen (field_trees fields.now)) }
 {
     for (_, part) in fields {
         declare(alloc, functions, screen, part, found)?;

@@ -4,16 +4,16 @@
 pub mod breaks;
 pub mod broken;
 pub mod declarations;
+pub mod declared_things;
 mod distinct;
-mod given;
+mod duplicates;
+mod given_names;
 mod lawful_names;
 mod lawful_schema;
 pub mod limits;
+pub mod name_clashes;
 mod name_sets;
 pub mod naming;
-pub mod taken;
-pub mod things;
-mod twice;
 
 pub use breaks::name_breaks;
 pub use declarations::{Declared, Thing};

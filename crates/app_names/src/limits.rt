@@ -32,7 +32,7 @@ fn passed_limit(
     limit: &str,
 ) -> Result<Option<Words>, Memory>
     requires { IsAscii limit.now }
-    ensures { IfOk result (λ o. o ≡ rules.passed most count limit.now) }
+    ensures { IfOk result (λ o. o ≡ rules.passed_limit most count limit.now) }
 {
     if count > most {
         Ok(Some(word_with_count(alloc, limit, count)?))

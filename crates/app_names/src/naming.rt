@@ -6,13 +6,13 @@ ghost use Rattle.fx_core.specs.declared.names.FormulaName.{FormulaName as Formul
 ghost use Rattle.fx_core.specs.declared.names.Property.{Property as PropertyCell};
 ghost use Rattle.fx_sig.specs.Entries.{entries, entry};
 ghost use Rattle.app_names.specs.AppNames as names;
-ghost use Rattle.app_names.specs.AppNames.{AreNames};
+ghost use Rattle.app_names.specs.AppNames.{AreNamesOf};
 ghost use Rattle.app_names.specs.NameRules as rules;
 
 use crate::declarations::{Declared, Thing};
-use crate::given::given_names;
+use crate::declared_things::things_of;
+use crate::given_names::given_names;
 use crate::name_sets::set_of;
-use crate::things::things_of;
 use app_cells::{Cell, Frame, Spot};
 use fx_base::{InOrder, Memory};
 use fx_core::formulas::FormulaList;
@@ -131,7 +131,7 @@ fn first_names(
 ) -> Result<Names, Memory>
     requires functions { map entry functions.now ≡ entries }
     requires few { length cells.now ≤ 2000 }
-    ensures names { IfOk result (AreNames frame cells.now) }
+    ensures names { IfOk result (AreNamesOf frame cells.now) }
     ensures functions { IfOk result (λ n. n.signatures.now ≡ functions.now) }
 {
     let given = set_of(alloc, &given_names(alloc, &frame, cells)?)?;
@@ -166,7 +166,7 @@ pub fn names_of(
     requires frame { IsFrame frame }
     requires placed { All (IsPlaced frame) cells.now }
     requires unbroken { rules.name_breaks functions.now frame cells.now ≡ [] }
-    ensures names { IfOk result (AreNames frame cells.now) }
+    ensures names { IfOk result (AreNamesOf frame cells.now) }
     ensures functions { IfOk result (λ n. n.signatures.now ≡ functions.now) }
     ensures lawful { IfOk result IsLawful }
     ensures formulas { IfOk result (λ n. All (λ (f : Formula). f.cell < length cells.now) n.formulas) }

@@ -11,12 +11,12 @@ use Rattle.fx_core.specs.declared.sites.Site.{Site}
 use Rattle.fx_core.specs.declared.schema.TableShape.{TableShape}
 
 -- the name of a table by its number
-abbrev pub name_in : Option TableShape → List ℕ
-name_in (Some t) = t.name
-name_in None = []
+abbrev pub table_name_in : Option TableShape → List ℕ
+table_name_in (Some t) = t.name
+table_name_in None = []
 
 abbrev pub table_name : List TableShape → ℕ → List ℕ
-table_name ts k = name_in (slice_get ts k)
+table_name ts k = table_name_in (slice_get ts k)
 
 -- ---- as JSON
 
@@ -26,12 +26,12 @@ site_data ts cell s = object (member (codes "by") (string (encode_utf8_all s.by)
     (member (codes "delegated") (boolean s.delegated) (member (codes "number") (json.number (unsigned s.number)) (member (codes "table") (string (encode_utf8_all (table_name ts s.table))) no_members)))))
 
 -- those of a formula, and of all formulas, in the order of the app
-abbrev pub cell_data : List TableShape → CellInfo → List json.Data
-cell_data ts c = map (site_data ts c.cell.name) c.sites
+abbrev pub sites_data : List TableShape → CellInfo → List json.Data
+sites_data ts c = map (site_data ts c.cell.name) c.sites
 
 -- `{"sites":[..]}`
 abbrev pub plan_data : App → json.Data
-plan_data a = object (member (codes "sites") (array (items_of (flat_map (cell_data a.names.schema.tables) a.cells))) no_members)
+plan_data a = object (member (codes "sites") (array (items_of (flat_map (sites_data a.names.schema.tables) a.cells))) no_members)
 
 unfoldable pub plan_text : App → List ℕ
 plan_text a = compact_text (plan_data a)
@@ -39,15 +39,15 @@ plan_text a = compact_text (plan_data a)
 -- ---- as lines
 
 -- what is taken: all rows, or the first ones, and by whom
-abbrev pub taken_by : ℕ → Site → List ℕ
-taken_by most s =
+abbrev pub taker_text : ℕ → Site → List ℕ
+taker_text most s =
     if s.delegated then codes "delegated to " ++ encode_utf8_all s.by
     else codes "first " ++ (decimal most ++ (codes " rows for " ++ encode_utf8_all s.by))
 
 -- `<cell> <number> <table>: delegated to <by>` or `<cell> <number> <table>: first <L> rows for <by>`
 abbrev pub site_line : List TableShape → ℕ → List ℕ → Site → List ℕ
 site_line ts most cell s =
-    encode_utf8_all cell ++ (codes " " ++ (decimal s.number ++ (codes " " ++ (encode_utf8_all (table_name ts s.table) ++ (codes ": " ++ (taken_by most s ++ codes "\n"))))))
+    encode_utf8_all cell ++ (codes " " ++ (decimal s.number ++ (codes " " ++ (encode_utf8_all (table_name ts s.table) ++ (codes ": " ++ (taker_text most s ++ codes "\n"))))))
 
 abbrev pub cell_lines : List TableShape → ℕ → CellInfo → List ℕ
 cell_lines ts most c = flat_map (site_line ts most c.cell.name) c.sites

@@ -1,7 +1,7 @@
 // Formulas with what they read, as JSON.
 ghost use Rattle.std.specs.Prelude.{◌≡◌, IfOk, map, string_bytes};
 ghost use Rattle.serde_json.specs.View.{view as json_view};
-ghost use Rattle.app_reports.specs.Graph.{cell_data, graph_data, graph_text, read_data};
+ghost use Rattle.app_reports.specs.Graph.{reads_data, graph_data, graph_text, read_data};
 
 use crate::names::source_name;
 use app_cells::{App, CellInfo};
@@ -27,7 +27,7 @@ fn graph_object(alloc: Global, app: &App) -> Result<Json, Memory>
 }
 
 fn cell_objects(alloc: Global, app: &App) -> Result<Vec<Json>, Memory>
-    ensures { IfOk result (λ v. map json_view v.items ≡ map (cell_data app.now) app.now.cells) }
+    ensures { IfOk result (λ v. map json_view v.items ≡ map (reads_data app.now) app.now.cells) }
 {
     let mut all = Vec::new(alloc);
     let cells = app.cells.as_slice();
@@ -39,7 +39,7 @@ fn cell_objects(alloc: Global, app: &App) -> Result<Vec<Json>, Memory>
 }
 
 fn cell_object(alloc: Global, app: &App, info: &CellInfo) -> Result<Json, Memory>
-    ensures { IfOk result (λ v. json_view v ≡ cell_data app.now info.now) }
+    ensures { IfOk result (λ v. json_view v ≡ reads_data app.now info.now) }
 {
     let cell = info.cell.name.as_str();
     let reads = Json::from(source_names(alloc, app, info.reads.as_slice())?);

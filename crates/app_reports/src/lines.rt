@@ -1,6 +1,6 @@
 // Sites as lines.
 ghost use Rattle.std.specs.Prelude.{◌≡◌, ◌++◌, IfOk, OnOk, string_bytes};
-ghost use Rattle.app_reports.specs.Plans.{accepted_line as accepted_bytes, cell_lines, checked_text, site_line as line_bytes, taken_by as taken_bytes};
+ghost use Rattle.app_reports.specs.Plans.{accepted_line as accepted_bytes, cell_lines, checked_text, site_line as line_bytes, taker_text as taken_bytes};
 
 use crate::tables::table_name;
 use app_cells::{App, CellInfo};

@@ -39,7 +39,7 @@ fn behind(alloc: Global, word: &str, name: &str) -> Result<String, Memory>
 }
 
 fn address(app: &App, cell: u32) -> &str
-    ensures { result.now ≡ encode_utf8_all (graph.address app.now cell) }
+    ensures { result.now ≡ encode_utf8_all (graph.cell_address app.now cell) }
 {
     match app.cells.get(cell as usize) {
         Some(info) => info.cell.name.as_str(),
@@ -57,7 +57,7 @@ fn variable_name(names: &Names, variable: u32) -> &str
 }
 
 fn screen_name(names: &Names, screen: Option<u32>) -> &str
-    ensures { result.now ≡ encode_utf8_all (graph.screen_name names.now screen) }
+    ensures { result.now ≡ encode_utf8_all (graph.screen_label names.now screen) }
 {
     match screen {
         Some(screen) => name_of_screen(names, screen),
@@ -98,7 +98,7 @@ fn collection_name(names: &Names, collection: u32) -> &str
 }
 
 fn control_name(names: &Names, control: u32) -> &str
-    ensures { result.now ≡ encode_utf8_all (graph.control_name names.now control) }
+    ensures { result.now ≡ encode_utf8_all (graph.control_label names.now control) }
 {
     match names.controls.get(control as usize) {
         Some(control) => control.name.as_str(),
@@ -107,7 +107,7 @@ fn control_name(names: &Names, control: u32) -> &str
 }
 
 fn table_name(names: &Names, table: u16) -> &str
-    ensures { result.now ≡ encode_utf8_all (graph.table_name names.now table) }
+    ensures { result.now ≡ encode_utf8_all (graph.table_label names.now table) }
 {
     match names.schema.tables.get(table as usize) {
         Some(table) => table.name.as_str(),

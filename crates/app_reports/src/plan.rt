@@ -1,7 +1,7 @@
 // Sites as JSON.
 ghost use Rattle.std.specs.Prelude.{◌≡◌, ◌++◌, IfOk, OnOk, flat_map, map, string_bytes};
 ghost use Rattle.serde_json.specs.View.{view as json_view};
-ghost use Rattle.app_reports.specs.Plans.{cell_data, plan_data, plan_text, site_data};
+ghost use Rattle.app_reports.specs.Plans.{sites_data, plan_data, plan_text, site_data};
 
 use crate::tables::table_name;
 use app_cells::{App, CellInfo};
@@ -31,7 +31,7 @@ fn plan_object(alloc: Global, app: &App) -> Result<Json, Memory>
 
 // The sites of all formulas, formula after formula.
 fn site_objects(alloc: Global, app: &App) -> Result<Vec<Json>, Memory>
-    ensures { IfOk result (λ v. map json_view v.items ≡ flat_map (cell_data app.now.names.schema.tables) app.now.cells) }
+    ensures { IfOk result (λ v. map json_view v.items ≡ flat_map (sites_data app.now.names.schema.tables) app.now.cells) }
 {
     let mut all = Vec::new(alloc);
     let cells = app.cells.as_slice();
@@ -48,7 +48,7 @@ fn push_sites(
     info: &CellInfo,
     all: &mut Vec<Json>,
 ) -> Result<(), Memory>
-    ensures { OnOk result (map json_view all.new.items ≡ map json_view all.old.items ++ cell_data schema.now.tables info.now) }
+    ensures { OnOk result (map json_view all.new.items ≡ map json_view all.old.items ++ sites_data schema.now.tables info.now) }
 {
     let sites = info.sites.as_slice();
     for site in sites {

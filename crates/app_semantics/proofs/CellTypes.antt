@@ -7,7 +7,7 @@ use Rattle.std.proofs.lemmas.Bool.{and_parts}
 use Rattle.app_cells.specs.Leaning.{cell_of_property, default_cell, default_name, is_property, items_cell}
 use Rattle.app_cells.specs.declared.app.App.{App}
 use Rattle.app_cells.specs.declared.app.CellInfo.{CellInfo}
-use Rattle.app_semantics.specs.Sound.{IsCellOf, IsSound}
+use Rattle.app_semantics.specs.Sound.{IsCellOf, IsSoundApp}
 use Rattle.fx_types.specs.TypeView.{shape}
 use Rattle.fx_types.specs.Types.{Shape, tables}
 use Rattle.fx_types.specs.declared.controls.Control.TheVariants as control
@@ -62,7 +62,7 @@ formula_has cells n k (f ∷ fs) t h ps e = by (nat_eq f.cell k) refl (formula_h
     by false q later r = later r
 
 -- a cell that has a type as a source has it
-pub source_cell : (a : App) (k : ℕ) (t : Shape) → IsSound a → sources a.names (source.Cell k) ≡ Some t → HasCell a.cells k t
+pub source_cell : (a : App) (k : ℕ) (t : Shape) → IsSoundApp a → sources a.names (source.Cell k) ≡ Some t → HasCell a.cells k t
 source_cell a k t s e = formula_has a.cells a.names k a.names.formulas t s.formulas s.properties e
 
 -- ---- properties
@@ -104,7 +104,7 @@ abbrev pub type_by : Shape → Control → List ℕ → Option Shape
 type_by items c name = if is_items c name then Some (tables (item_columns items)) else property_type c name
 
 -- the cell of a written property has the property's type, and sees the item of the gallery that its control stands in
-pub property_found : (a : App) (k : ℕ) (name : List ℕ) (d : ℕ) (c : ControlName) (t : Shape) → IsSound a → cell_of_property a.names k name ≡ Some d →
+pub property_found : (a : App) (k : ℕ) (name : List ℕ) (d : ℕ) (c : ControlName) (t : Shape) → IsSoundApp a → cell_of_property a.names k name ≡ Some d →
     slice_get a.names.controls k ≡ Some c → type_by (shape c.items) c.kind name ≡ Some t → IsCellOf a.cells d c.gallery t
 property_found a k name d c t s e there ty =
     let at = found a.names.properties k name d e in
@@ -122,7 +122,7 @@ default_type control.DatePicker items t name e f = let q : codes "DefaultDate" �
 default_type control.Gallery items t name e f = absurd cc
 
 -- the default of an input has the type of what its user gives
-pub default_has : (a : App) (k d : ℕ) (c : ControlName) (t : Shape) → IsSound a → default_cell a.names k ≡ Some d → slice_get a.names.controls k ≡ Some c → input_type c.kind ≡ Some t → HasCell a.cells d t
+pub default_has : (a : App) (k d : ℕ) (c : ControlName) (t : Shape) → IsSoundApp a → default_cell a.names k ≡ Some d → slice_get a.names.controls k ≡ Some c → input_type c.kind ≡ Some t → HasCell a.cells d t
 default_has a k d c t s e there ty =
     let control = then_some (λ (x : ControlName). option_and_then (cell_of_property a.names k) (default_name x.kind)) (slice_get a.names.controls k) d e in
     let same : control.0 ≡ c = let q : Some control.0 ≡ Some c = sym control.1 ∙ there in cc in
@@ -131,7 +131,7 @@ default_has a k d c t s e there ty =
     of_cell a.cells d c.gallery t (property_found a k named.0 d c t s named.2 there (default_type c.kind (shape c.items) t named.0 name ty))
 
 -- the items of a gallery are rows of its columns
-pub items_have : (a : App) (k d : ℕ) (c : ControlName) → IsSound a → items_cell a.names k ≡ Some d → slice_get a.names.controls k ≡ Some c → c.kind ≡ control.Gallery → HasCell a.cells d (tables (item_columns (shape c.items)))
+pub items_have : (a : App) (k d : ℕ) (c : ControlName) → IsSoundApp a → items_cell a.names k ≡ Some d → slice_get a.names.controls k ≡ Some c → c.kind ≡ control.Gallery → HasCell a.cells d (tables (item_columns (shape c.items)))
 items_have a k d c s e there kind =
     let t : Shape = tables (item_columns (shape c.items)) in
     of_cell a.cells d c.gallery t (property_found a k (codes "Items") d c t s e there (subst (λ x. type_by (shape c.items) x (codes "Items") ≡ Some t) (sym kind) refl))

@@ -12,7 +12,7 @@ use Rattle.app_semantics.specs.Holding.{HoldRows, HoldsFitting}
 use Rattle.app_semantics.specs.Laws.{OneFreshAt}
 use Rattle.app_semantics.specs.Needed.{IsFreshAt, Needs, further, itself, stands_alone, stands_by}
 use Rattle.app_semantics.specs.Present.{Present}
-use Rattle.app_semantics.specs.Sound.{IsSound}
+use Rattle.app_semantics.specs.Sound.{IsSoundApp}
 use Rattle.fx_types.specs.TypeView.{shape}
 use Rattle.fx_types.specs.Values.{Data, blank}
 use Rattle.fx_semantics.specs.Unique.{OneValue}
@@ -28,7 +28,7 @@ set_aside p values c v e h = by c.cell.acts c.cell.item e h
     by true o q x = x
 
 -- values fit where they are fresh
-pub fits_at : (p : Present) (values : ℕ → Data) (k : ℕ) → IsSound p.app → HoldsFitting p.app.names p.session → HoldRows p.app.names.schema p.tables → IsFreshAt p values k →
+pub fits_at : (p : Present) (values : ℕ → Data) (k : ℕ) → IsSoundApp p.app → HoldsFitting p.app.names p.session → HoldRows p.app.names.schema p.tables → IsFreshAt p values k →
     (i : ℕ) (c : CellInfo) → slice_get p.app.cells i ≡ Some c → Needs p.app k i → fits_in (values i) (shape c.ty) ≡ true
 fits_at p values k s n r fresh i c there need =
     by_order (length p.app.cells) (edges_of p.app.names p.app.cells) p.app.order s.order

@@ -10,10 +10,10 @@ use Rattle.app_cells.specs.declared.app.CellInfo.{CellInfo}
 use Rattle.app_semantics.proofs.Given.{LedFit, given_fits, told_agrees}
 use Rattle.app_semantics.proofs.Ordered.{by_order, leaning_edge}
 use Rattle.app_semantics.proofs.Typings.{typed_read}
-use Rattle.app_semantics.specs.Fresh.{CanRead, IsByItself, IsCellValue, IsValueOf, IsWhere, is_told, standing}
+use Rattle.app_semantics.specs.Fresh.{CanRead, IsByItself, IsCellValue, IsValueOf, IsWhere, is_told, formula_context}
 use Rattle.app_semantics.specs.Laws.{FreshFits, OneFresh}
-use Rattle.app_semantics.specs.Present.{Gives, IsTable, Present}
-use Rattle.app_semantics.specs.Sound.{IsCalm, IsSound, IsSoundCell, context_at}
+use Rattle.app_semantics.specs.Present.{SourceGives, GivesTable, Present}
+use Rattle.app_semantics.specs.Sound.{IsCalm, IsSoundApp, IsSoundCell, context_at}
 use Rattle.app_semantics.specs.Telling.{table_told, told_on}
 use Rattle.fx_primitives.specs.Dates.{IsDayOrInvalid}
 use Rattle.fx_types.specs.Days.{IsDay}
@@ -36,7 +36,7 @@ use Rattle.fx_core.specs.SourceTypes.{columns_of, sources}
 use Rattle.fx_core.specs.declared.names.Names.{Names}
 use Rattle.fx_core.specs.declared.sources.Source.TheVariants as source
 use Rattle.fx_core.specs.declared.sources.Source.{Source}
-use Rattle.fx_typing.specs.Typing.{item_of}
+use Rattle.fx_typing.specs.Typing.{item_context}
 use Rattle.fx_typing.specs.WellTyped.{Context}
 use Rattle.fx_value.specs.Fits.{fits_in}
 use Rattle.app_semantics.specs.Holding.{HoldRows, HoldsFitting}
@@ -63,7 +63,7 @@ pub today_is : (moment : ℕ) → (d : Data) × IsToday moment d
 today_is moment = let q = day_is (moment / 86400) in (date_answer q.0, (q.0, q.1, refl))
 
 -- ---- what is told is given
-pub given_told : (p : Present) (values : ℕ → Data) (day : Data) (x : Source) (v : Data) → IsToday p.moment day → Gives p values x v → v ≡ told_on day p.app.names p.session p.tables values x
+pub given_told : (p : Present) (values : ℕ → Data) (day : Data) (x : Source) (v : Data) → IsToday p.moment day → SourceGives p values x v → v ≡ told_on day p.app.names p.session p.tables values x
 given_told p values day (source.Cell k) v t h = h
 given_told p values day (source.Global k) v t h = h
 given_told p values day (source.Context k) v t h = h
@@ -72,7 +72,7 @@ given_told p values day (source.Input k) v t h = h
 given_told p values day (source.Chosen k) v t h = h
 given_told p values day (source.Table k) v t h = by (slice_get p.app.names.schema.tables k) p.tables h
   where
-    by : (o : Option TableShape) (rs : Option (List (List Row))) → IsTable o rs k v → v ≡ table_told o rs k
+    by : (o : Option TableShape) (rs : Option (List (List Row))) → GivesTable o rs k v → v ≡ table_told o rs k
     by (Some x) (Some ts) g = g
     by (Some x) None g = absurd g
     by None (Some ts) g = absurd g
@@ -82,7 +82,7 @@ given_told p values day source.Today v t h = today_one p.moment v day h t
 abbrev pub IsNoTable : Source → Type 0
 IsNoTable x = (k : ℕ) → ¬ (x ≡ source.Table k)
 
-pub told_given : (p : Present) (values : ℕ → Data) (day : Data) (x : Source) → IsToday p.moment day → IsNoTable x → Gives p values x (told_on day p.app.names p.session p.tables values x)
+pub told_given : (p : Present) (values : ℕ → Data) (day : Data) (x : Source) → IsToday p.moment day → IsNoTable x → SourceGives p values x (told_on day p.app.names p.session p.tables values x)
 told_given p values day (source.Cell k) t n = refl
 told_given p values day (source.Global k) t n = refl
 told_given p values day (source.Context k) t n = refl
@@ -112,10 +112,10 @@ led_read : (a : App) (values : ℕ → Data) (reads : List Source) (x : Source) 
 led_read a values reads x led r d c behind there = led x (read_behind a.names reads x d r behind) d c behind there
 
 -- a source that may be read and gives something has a type
-typed_given : (p : Present) (values : ℕ → Data) (c : CellInfo) (x : Source) (d : Data) → IsSoundCell p.app.names c → CanRead c.reads x → Gives p values x d → (t : Shape) × (sources p.app.names x ≡ Some t)
+typed_given : (p : Present) (values : ℕ → Data) (c : CellInfo) (x : Source) (d : Data) → IsSoundCell p.app.names c → CanRead c.reads x → SourceGives p values x d → (t : Shape) × (sources p.app.names x ≡ Some t)
 typed_given p values c (source.Table k) d w r h = by (slice_get p.app.names.schema.tables k) p.tables h
   where
-    by : (o : Option TableShape) (rs : Option (List (List Row))) → IsTable o rs k d → (t : Shape) × (option_map (λ (x : TableShape). tables (columns_of x)) o ≡ Some t)
+    by : (o : Option TableShape) (rs : Option (List (List Row))) → GivesTable o rs k d → (t : Shape) × (option_map (λ (x : TableShape). tables (columns_of x)) o ≡ Some t)
     by (Some x) (Some ts) g = (tables (columns_of x), refl)
     by (Some x) None g = absurd g
     by None (Some ts) g = absurd g
@@ -129,8 +129,8 @@ typed_given p values c (source.Chosen k) d w r h = typed_read c.core (context_at
 typed_given p values c source.Today d w r h = typed_read c.core (context_at p.app.names c.cell.item) (shape c.ty) source.Today w.typed ((w.reads source.Today).0 r)
 
 -- what is given of the sources of a formula fits their types
-pub given_in : (p : Present) (values : ℕ → Data) (c : CellInfo) (x : Source) (d : Data) → IsSound p.app → HoldsFitting p.app.names p.session → HoldRows p.app.names.schema p.tables → IsSoundCell p.app.names c →
-    AllFit p.app values c.reads → CanRead c.reads x → Gives p values x d → FitsIn (sources p.app.names x) d
+pub given_in : (p : Present) (values : ℕ → Data) (c : CellInfo) (x : Source) (d : Data) → IsSoundApp p.app → HoldsFitting p.app.names p.session → HoldRows p.app.names.schema p.tables → IsSoundCell p.app.names c →
+    AllFit p.app values c.reads → CanRead c.reads x → SourceGives p values x d → FitsIn (sources p.app.names x) d
 given_in p values c x d s n r w led can gives =
     let ty = typed_given p values c x d w can gives in
     subst (λ o. FitsIn o d) (sym ty.1) (given_fits p values x ty.0 d s n r (led_read p.app values c.reads x led can) ty.1 gives)
@@ -149,8 +149,8 @@ where_told Q true e h = h
 where_told Q false e h = absurd cc
 
 -- the value of the tree that is evaluated fits
-pub taken_fits : (p : Present) (values : ℕ → Data) (c : CellInfo) (item : Option Data) (v : Data) → IsSound p.app → HoldsFitting p.app.names p.session → HoldRows p.app.names.schema p.tables → IsSoundCell p.app.names c → c.cell.acts ≡ false →
-    AllFit p.app values c.reads → IsItemFit item (item_of p.app.names c.cell.item) → IsValue (standing p values c.reads item) (taken p c) v → fits_in v (shape c.ty) ≡ true
+pub taken_fits : (p : Present) (values : ℕ → Data) (c : CellInfo) (item : Option Data) (v : Data) → IsSoundApp p.app → HoldsFitting p.app.names p.session → HoldRows p.app.names.schema p.tables → IsSoundCell p.app.names c → c.cell.acts ≡ false →
+    AllFit p.app values c.reads → IsItemFit item (item_context p.app.names c.cell.item) → IsValue (formula_context p values c.reads item) (taken p c) v → fits_in v (shape c.ty) ≡ true
 taken_fits p values c item v s n r w quiet led fit h =
     let calm : IsCalm p.app.names c = w.calm quiet in
     let context : Context = context_at p.app.names c.cell.item in
@@ -158,22 +158,22 @@ taken_fits p values c item v s n r w quiet led fit h =
     let reads : ReadsTables p.app.names.schema.tables context = λ k t e. ap (λ (o : Option TableShape). option_map (λ (x : TableShape). tables (columns_of x)) o) e in
     let typed = types_limited p.app.names.schema.tables p.app.limit context false c.core (shape c.ty) reads (w.typed, lawful) calm.quiet in
     all_sound context None [] item None (taken p c) (shape c.ty) typed.0.0 v tt fit typed.0.1
-    (stays (GivesTold (sources p.app.names) None) (taken p c) (standing p values c.reads item) v (λ x d g. (given_in p values c x d s n r w led g.0 g.1, tt)) h)
+    (stays (GivesTold (sources p.app.names) None) (taken p c) (formula_context p values c.reads item) v (λ x d g. (given_in p values c x d s n r w led g.0 g.1, tt)) h)
 
 -- A VALUE OF A FORMULA FITS ITS TYPE
-pub value_fits : (p : Present) (values : ℕ → Data) (c : CellInfo) (item : Option Data) (v : Data) → IsSound p.app → HoldsFitting p.app.names p.session → HoldRows p.app.names.schema p.tables → IsSoundCell p.app.names c → c.cell.acts ≡ false →
-    AllFit p.app values c.reads → IsItemFit item (item_of p.app.names c.cell.item) → IsValueOf p values item c v → fits_in v (shape c.ty) ≡ true
+pub value_fits : (p : Present) (values : ℕ → Data) (c : CellInfo) (item : Option Data) (v : Data) → IsSoundApp p.app → HoldsFitting p.app.names p.session → HoldRows p.app.names.schema p.tables → IsSoundCell p.app.names c → c.cell.acts ≡ false →
+    AllFit p.app values c.reads → IsItemFit item (item_context p.app.names c.cell.item) → IsValueOf p values item c v → fits_in v (shape c.ty) ≡ true
 value_fits p values c item v s n r w quiet led fit h =
     where_either (is_told p.tables c.reads) (λ x. taken_fits p values c item v s n r w quiet led fit x) (λ x. x) h
 
 -- ---- fresh values fit
-pub by_itself_fits : (p : Present) (values : ℕ → Data) (c : CellInfo) (v : Data) → IsSound p.app → HoldsFitting p.app.names p.session → HoldRows p.app.names.schema p.tables → IsSoundCell p.app.names c →
+pub by_itself_fits : (p : Present) (values : ℕ → Data) (c : CellInfo) (v : Data) → IsSoundApp p.app → HoldsFitting p.app.names p.session → HoldRows p.app.names.schema p.tables → IsSoundCell p.app.names c →
     AllFit p.app values c.reads → IsCellValue p values c v → fits_in v (shape c.ty) ≡ true
 by_itself_fits p values c v s n k w led h = by c.cell.acts c.cell.item refl refl h
   where
     by : (b : Bool) (o : Option ℕ) → c.cell.acts ≡ b → c.cell.item ≡ o → IsByItself b o (IsValueOf p values None c v) v → fits_in v (shape c.ty) ≡ true
     by false None q r x =
-        let fit : IsItemFit None (item_of p.app.names c.cell.item) = subst (λ g. IsItemFit None (item_of p.app.names g)) (sym r) tt in
+        let fit : IsItemFit None (item_context p.app.names c.cell.item) = subst (λ g. IsItemFit None (item_context p.app.names g)) (sym r) tt in
         value_fits p values c None v s n k w q led fit x
     by false (Some g) q r x = subst (λ d. fits_in d (shape c.ty) ≡ true) (sym x) refl
     by true o q r x = subst (λ d. fits_in d (shape c.ty) ≡ true) (sym x) refl
@@ -190,7 +190,7 @@ fresh_fits p values s n r fresh k c there =
 all_fit : (p : Present) (values : ℕ → Data) (reads : List Source) → ((k : ℕ) (c : CellInfo) → slice_get p.app.cells k ≡ Some c → fits_in (values k) (shape c.ty) ≡ true) → AllFit p.app values reads
 all_fit p values reads h x among d c behind there = h d c there
 
-pub one_by_itself : OneValue → (p : Present) (values others : ℕ → Data) (c : CellInfo) (v w : Data) → IsSound p.app → HoldsFitting p.app.names p.session → HoldRows p.app.names.schema p.tables → IsSoundCell p.app.names c →
+pub one_by_itself : OneValue → (p : Present) (values others : ℕ → Data) (c : CellInfo) (v w : Data) → IsSoundApp p.app → HoldsFitting p.app.names p.session → HoldRows p.app.names.schema p.tables → IsSoundCell p.app.names c →
     AllFit p.app values c.reads → AllFit p.app others c.reads → is_told p.tables c.reads ≡ true → ((x : Source) (d : ℕ) → IsAmong x c.reads → cell_behind p.app.names x ≡ Some d → values d ≡ others d) →
     IsCellValue p values c v → IsCellValue p others c w → v ≡ w
 one_by_itself one p values others c v w s n r k led also told same h j = by c.cell.acts c.cell.item h j
@@ -200,9 +200,9 @@ one_by_itself one p values others c v w s n r k led also told same h j = by c.ce
         let day = today_is p.moment in
         let T : Source → Data = told_on day.0 p.app.names p.session p.tables others in
         one (sources p.app.names) T [] None None (taken p c) v w
-        (stays (GivesTold (sources p.app.names) (Some T)) (taken p c) (standing p values c.reads None) v
+        (stays (GivesTold (sources p.app.names) (Some T)) (taken p c) (formula_context p values c.reads None) v
         (λ z d g. (given_in p values c z d s n r k led g.0 g.1, given_told p values day.0 z d day.1 g.1 ∙ told_agrees day.0 p.app.names p.session p.tables values others z (λ e q. same z e (read_behind p.app.names c.reads z e g.0 q) q))) (where_told _ (is_told p.tables c.reads) told x))
-        (stays (GivesTold (sources p.app.names) (Some T)) (taken p c) (standing p others c.reads None) w
+        (stays (GivesTold (sources p.app.names) (Some T)) (taken p c) (formula_context p others c.reads None) w
         (λ z d g. (given_in p others c z d s n r k also g.0 g.1, given_told p others day.0 z d day.1 g.1)) (where_told _ (is_told p.tables c.reads) told y))
     by false (Some g) x y = x ∙ sym y
     by true o x y = x ∙ sym y

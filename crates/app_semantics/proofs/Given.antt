@@ -7,9 +7,9 @@ use Rattle.app_cells.specs.Leaning.{cell_behind, default_cell, items_cell}
 use Rattle.app_cells.specs.declared.app.App.{App}
 use Rattle.app_cells.specs.declared.app.CellInfo.{CellInfo}
 use Rattle.app_semantics.proofs.CellTypes.{HasCell, default_has, items_have, source_cell, then_some}
-use Rattle.app_semantics.specs.Chosen.{chosen_of, chosen_row, has_id, row_at, row_or_blank}
-use Rattle.app_semantics.specs.Present.{Gives, IsTable, Present, given_or, input_of, items_of, selected_of, unset, unset_at, value_or}
-use Rattle.app_semantics.specs.Sound.{IsSound}
+use Rattle.app_semantics.specs.Chosen.{chosen_of, chosen_row, is_item_of_id, row_at_position, row_or_blank}
+use Rattle.app_semantics.specs.Present.{SourceGives, GivesTable, Present, given_or, input_of, items_of, selected_of, unset, unset_value, cell_value_or}
+use Rattle.app_semantics.specs.Sound.{IsSoundApp}
 use Rattle.app_semantics.specs.Telling.{told_on}
 use Rattle.fx_types.specs.TypeView.{shape}
 use Rattle.fx_types.specs.Types.{ColumnList, Shape, booleans, dates, numbers, records, tables}
@@ -23,7 +23,7 @@ use Rattle.fx_semantics.specs.Rows.{rows_in}
 use Rattle.fx_tables.proofs.FitRows.{RowFits}
 use Rattle.fx_value.specs.Columns.{Row}
 use Rattle.fx_core.specs.Controls.{input_type}
-use Rattle.fx_core.specs.SourceTypes.{chosen_of as chosen_type, columns_of, item_columns, item_type, sources}
+use Rattle.fx_core.specs.SourceTypes.{chosen_shape as chosen_type, columns_of, item_columns, item_type, sources}
 use Rattle.fx_core.specs.declared.names.ControlName.{ControlName}
 use Rattle.fx_core.specs.declared.names.Names.{Names}
 use Rattle.fx_core.specs.declared.sources.Source.TheVariants as source
@@ -35,8 +35,8 @@ use Rattle.fx_core.specs.Lawful.{IsLawful, IsLawfulTable}
 use Rattle.fx_plan.proofs.Placing.{lawful_at}
 use Rattle.row_queries.proofs.Fitting.{all_fit}
 use Rattle.row_queries.specs.declared.rows.Row.{Row as RowOfTable}
-use Rattle.row_queries.specs.TableRows.{rows_at, table_of}
-use Rattle.session_state.specs.Sessions.{SessionState, held}
+use Rattle.row_queries.specs.TableRows.{rows_at, rows_table}
+use Rattle.session_state.specs.Sessions.{SessionState, stored_value}
 
 -- ---- chosen rows
 abbrev IsFit : ColumnList → Option Row → Type 0
@@ -56,13 +56,13 @@ row_found cs test (r ∷ rs) h = by (test r) (row_found cs test rs h.1)
     by true later = h.0
     by false later = later
 
-row_placed : (cs : ColumnList) (at : ℕ) (rows : List Row) → RowsFit cs rows → IsFit cs (row_at at rows)
+row_placed : (cs : ColumnList) (at : ℕ) (rows : List Row) → RowsFit cs rows → IsFit cs (row_at_position at rows)
 row_placed cs zero rows h = tt
 row_placed cs (suc i) rows h = row_got cs rows i h
 
 row_chosen : (cs : ColumnList) (c : Option (ℕ × Option ℕ)) (rows : List Row) → RowsFit cs rows → IsFit cs (chosen_row c rows)
 row_chosen cs None rows h = row_got cs rows 0 h
-row_chosen cs (Some (at, Some id)) rows h = row_found cs (has_id id) rows h
+row_chosen cs (Some (at, Some id)) rows h = row_found cs (is_item_of_id id) rows h
 row_chosen cs (Some (at, None)) rows h = row_placed cs at rows h
 
 shown_fits : (cs : ColumnList) (o : Option Row) → IsFit cs o → fits_in (row_or_blank o) (records cs) ≡ true
@@ -96,13 +96,13 @@ unset_fits control.Checkbox t e = let q : booleans ≡ t = cc in subst (λ u. fi
 unset_fits control.DatePicker t e = refl
 unset_fits control.Gallery t e = refl
 
-default_fits : (a : App) (values : ℕ → Data) (k : ℕ) (c : ControlName) (t : Shape) → IsSound a → LedFit a values (source.Input k) → slice_get a.names.controls k ≡ Some c → input_type c.kind ≡ Some t →
-    fits_in (value_or values (unset_at (slice_get a.names.controls k)) (default_cell a.names k)) t ≡ true
+default_fits : (a : App) (values : ℕ → Data) (k : ℕ) (c : ControlName) (t : Shape) → IsSoundApp a → LedFit a values (source.Input k) → slice_get a.names.controls k ≡ Some c → input_type c.kind ≡ Some t →
+    fits_in (cell_value_or values (unset_value (slice_get a.names.controls k)) (default_cell a.names k)) t ≡ true
 default_fits a values k c t s f there ty = by (default_cell a.names k) refl
   where
-    by : (o : Option ℕ) → default_cell a.names k ≡ o → fits_in (value_or values (unset_at (slice_get a.names.controls k)) o) t ≡ true
+    by : (o : Option ℕ) → default_cell a.names k ≡ o → fits_in (cell_value_or values (unset_value (slice_get a.names.controls k)) o) t ≡ true
     by (Some d) e = cell_fits a values (source.Input k) d t f e (default_has a k d c t s e there ty)
-    by None e = subst (λ o. fits_in (unset_at o) t ≡ true) (sym there) (unset_fits c.kind t ty)
+    by None e = subst (λ o. fits_in (unset_value o) t ≡ true) (sym there) (unset_fits c.kind t ty)
 
 given_or_fits : (v d : Data) (t : Shape) → fits_in v t ≡ true → fits_in d t ≡ true → fits_in (given_or v d) t ≡ true
 given_or_fits blank d t h f = f
@@ -114,11 +114,11 @@ given_or_fits (rec fs) d t h f = h
 given_or_fits (tab rs) d t h f = h
 given_or_fits (fault k m) d t h f = h
 
-input_fits : (p : Present) (values : ℕ → Data) (k : ℕ) (t : Shape) → IsSound p.app → HoldsFitting p.app.names p.session → LedFit p.app values (source.Input k) → sources p.app.names (source.Input k) ≡ Some t →
+input_fits : (p : Present) (values : ℕ → Data) (k : ℕ) (t : Shape) → IsSoundApp p.app → HoldsFitting p.app.names p.session → LedFit p.app values (source.Input k) → sources p.app.names (source.Input k) ≡ Some t →
     fits_in (input_of p.app.names p.session values k) t ≡ true
 input_fits p values k t s n f e =
     let control = then_some (λ (c : ControlName). input_type c.kind) (slice_get p.app.names.controls k) t e in
-    given_or_fits (held p.session (source.Input k)) (value_or values (unset_at (slice_get p.app.names.controls k)) (default_cell p.app.names k)) t
+    given_or_fits (stored_value p.session (source.Input k)) (cell_value_or values (unset_value (slice_get p.app.names.controls k)) (default_cell p.app.names k)) t
     (n.values_fit (source.Input k) t tt e) (default_fits p.app values k control.0 t s f control.1 control.2)
 
 is_gallery : (c : Control) (r t : Shape) → chosen_type c r ≡ Some t → (c ≡ control.Gallery) × (r ≡ t)
@@ -131,15 +131,15 @@ is_gallery control.Checkbox r t e = absurd cc
 is_gallery control.DatePicker r t e = absurd cc
 
 -- the items of a gallery fit its columns
-pub items_fit : (a : App) (values : ℕ → Data) (g : ℕ) (c : ControlName) → IsSound a → LedFit a values (source.Chosen g) → slice_get a.names.controls g ≡ Some c → c.kind ≡ control.Gallery →
+pub items_fit : (a : App) (values : ℕ → Data) (g : ℕ) (c : ControlName) → IsSoundApp a → LedFit a values (source.Chosen g) → slice_get a.names.controls g ≡ Some c → c.kind ≡ control.Gallery →
     fits_in (items_of a.names values g) (tables (item_columns (shape c.items))) ≡ true
 items_fit a values g c s f there kind = by (items_cell a.names g) refl
   where
-    by : (o : Option ℕ) → items_cell a.names g ≡ o → fits_in (value_or values (tab no_rows) o) (tables (item_columns (shape c.items))) ≡ true
+    by : (o : Option ℕ) → items_cell a.names g ≡ o → fits_in (cell_value_or values (tab no_rows) o) (tables (item_columns (shape c.items))) ≡ true
     by (Some d) e = cell_fits a values (source.Chosen g) d (tables (item_columns (shape c.items))) f e (items_have a g d c s e there kind)
     by None e = refl
 
-selected_fits : (p : Present) (values : ℕ → Data) (g : ℕ) (t : Shape) → IsSound p.app → LedFit p.app values (source.Chosen g) → sources p.app.names (source.Chosen g) ≡ Some t →
+selected_fits : (p : Present) (values : ℕ → Data) (g : ℕ) (t : Shape) → IsSoundApp p.app → LedFit p.app values (source.Chosen g) → sources p.app.names (source.Chosen g) ≡ Some t →
     fits_in (selected_of p.app.names p.session values g) t ≡ true
 selected_fits p values g t s f e =
     let control = then_some (λ (c : ControlName). chosen_type c.kind (item_type c)) (slice_get p.app.names.controls g) t e in
@@ -154,25 +154,25 @@ today_fits moment v (Err k, h, e) = subst (λ x. fits_in x dates ≡ true) (sym 
 
 -- a table of rows that fit it
 pub rows_fit : (n : Names) (ts : List (List RowOfTable)) (k : ℕ) (x : TableShape) → IsLawful n → HoldRows n.schema (Some ts) → slice_get n.schema.tables k ≡ Some x →
-    fits_in (table_of x (rows_at ts k)) (types.tables (columns_of x)) ≡ true
+    fits_in (rows_table x (rows_at ts k)) (types.tables (columns_of x)) ≡ true
 rows_fit n ts k x lawful r q =
     all_fit x (rows_at ts k) (lawful_at n.schema.tables k x (recursion_from_All IsLawfulTable n.schema.tables lawful.schema.2) q) (r k x q)
 
-table_fits : (p : Present) (k : ℕ) (t : Shape) (v : Data) → IsSound p.app → HoldRows p.app.names.schema p.tables → sources p.app.names (source.Table k) ≡ Some t →
-    IsTable (slice_get p.app.names.schema.tables k) p.tables k v → fits_in v t ≡ true
+table_fits : (p : Present) (k : ℕ) (t : Shape) (v : Data) → IsSoundApp p.app → HoldRows p.app.names.schema p.tables → sources p.app.names (source.Table k) ≡ Some t →
+    GivesTable (slice_get p.app.names.schema.tables k) p.tables k v → fits_in v t ≡ true
 table_fits p k t v s r e h = by (slice_get p.app.names.schema.tables k) p.tables refl r e h
   where
     by : (o : Option TableShape) (rs : Option (List (List RowOfTable))) → slice_get p.app.names.schema.tables k ≡ o → HoldRows p.app.names.schema rs →
-        option_map (λ (x : TableShape). types.tables (columns_of x)) o ≡ Some t → IsTable o rs k v → fits_in v t ≡ true
+        option_map (λ (x : TableShape). types.tables (columns_of x)) o ≡ Some t → GivesTable o rs k v → fits_in v t ≡ true
     by None None q r e h = absurd h
     by None (Some ts) q r e h = absurd h
     by (Some x) None q r e h = absurd h
     by (Some x) (Some ts) q r e h =
         let type : types.tables (columns_of x) ≡ t = cc in
-        subst (λ (d : Data). fits_in d t ≡ true) (sym h) (subst (λ (u : Shape). fits_in (table_of x (rows_at ts k)) u ≡ true) type (rows_fit p.app.names ts k x s.names r q))
+        subst (λ (d : Data). fits_in d t ≡ true) (sym h) (subst (λ (u : Shape). fits_in (rows_table x (rows_at ts k)) u ≡ true) type (rows_fit p.app.names ts k x s.names r q))
 
 -- WHAT A SOURCE GIVES FITS ITS TYPE, where the cells to which it leads do
-pub given_fits : (p : Present) (values : ℕ → Data) (x : Source) (t : Shape) (v : Data) → IsSound p.app → HoldsFitting p.app.names p.session → HoldRows p.app.names.schema p.tables → LedFit p.app values x → sources p.app.names x ≡ Some t → Gives p values x v → fits_in v t ≡ true
+pub given_fits : (p : Present) (values : ℕ → Data) (x : Source) (t : Shape) (v : Data) → IsSoundApp p.app → HoldsFitting p.app.names p.session → HoldRows p.app.names.schema p.tables → LedFit p.app values x → sources p.app.names x ≡ Some t → SourceGives p values x v → fits_in v t ≡ true
 given_fits p values (source.Cell k) t v s n r f e h = subst (λ d. fits_in d t ≡ true) (sym h) (cell_fits p.app values (source.Cell k) k t f refl (source_cell p.app k t s e))
 given_fits p values (source.Global k) t v s n r f e h = subst (λ d. fits_in d t ≡ true) (sym h) (n.values_fit (source.Global k) t tt e)
 given_fits p values (source.Context k) t v s n r f e h = subst (λ d. fits_in d t ≡ true) (sym h) (n.values_fit (source.Context k) t tt e)
@@ -183,7 +183,7 @@ given_fits p values (source.Table k) t v s n r f e h = table_fits p k t v s r e 
 given_fits p values source.Today t v s n r f e h = let q : dates ≡ t = cc in subst (λ u. fits_in v u ≡ true) q (today_fits p.moment v h)
 
 -- ---- other values of cells
-value_agrees : (values others : ℕ → Data) (d : Data) (o : Option ℕ) → ((k : ℕ) → o ≡ Some k → values k ≡ others k) → value_or values d o ≡ value_or others d o
+value_agrees : (values others : ℕ → Data) (d : Data) (o : Option ℕ) → ((k : ℕ) → o ≡ Some k → values k ≡ others k) → cell_value_or values d o ≡ cell_value_or others d o
 value_agrees values others d (Some k) h = h k refl
 value_agrees values others d None h = refl
 
@@ -194,7 +194,7 @@ told_agrees day n s rows values others (source.Cell k) h = h k refl
 told_agrees day n s rows values others (source.Global k) h = refl
 told_agrees day n s rows values others (source.Context k) h = refl
 told_agrees day n s rows values others (source.Gathered k) h = refl
-told_agrees day n s rows values others (source.Input k) h = ap (given_or (held s (source.Input k))) (value_agrees values others (unset_at (slice_get n.controls k)) (default_cell n k) h)
+told_agrees day n s rows values others (source.Input k) h = ap (given_or (stored_value s (source.Input k))) (value_agrees values others (unset_value (slice_get n.controls k)) (default_cell n k) h)
 told_agrees day n s rows values others (source.Chosen k) h = ap (chosen_of (slice_index_or s.chosen k None)) (value_agrees values others (tab no_rows) (items_cell n k) h)
 told_agrees day n s rows values others (source.Table k) h = refl
 told_agrees day n s rows values others source.Today h = refl

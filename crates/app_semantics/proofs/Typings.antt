@@ -9,7 +9,7 @@ use Rattle.fx_core.specs.declared.sources.Source.{Source}
 use Rattle.fx_typing.specs.Acts.{acts, any_acts, is_acting}
 use Rattle.fx_semantics.specs.Sound.{IsLawfulType}
 use Rattle.fx_semantics.proofs.Lawful.{constant_lawful}
-use Rattle.fx_typing.specs.WellTyped.{AreTyped, Context, IsRuled, IsTyped, Standing, bound, catching, context_for, inside, parts_count, plain, standing_at}
+use Rattle.fx_typing.specs.WellTyped.{AreTyped, Context, IsRuled, IsTyped, PartScope, bound, catching, context_for, inside, parts_count, plain, standing_at}
 use Rattle.fx_semantics.proofs.Wider.{among_left, among_right}
 
 -- ---- lists of sources
@@ -32,7 +32,7 @@ Keeps S S' reads = (s : Source) (t : Shape) → IsAmong s reads → S s ≡ Some
 abbrev over_types : Types → Context → Context
 over_types S c = record c { sources = S }
 
-standing_over : (S : Types) (k : Standing) (c : Context) (ts : List Shape) → over_types S (context_for k c ts) ≡ context_for k (over_types S c) ts
+standing_over : (S : Types) (k : PartScope) (c : Context) (ts : List Shape) → over_types S (context_for k c ts) ≡ context_for k (over_types S c) ts
 standing_over S plain c ts = refl
 standing_over S inside c [] = refl
 standing_over S inside c (t ∷ ts) = refl
@@ -40,7 +40,7 @@ standing_over S bound c [] = refl
 standing_over S bound c (t ∷ ts) = refl
 standing_over S catching c ts = refl
 
-same_sources : (k : Standing) (c : Context) (ts : List Shape) → (context_for k c ts).sources ≡ c.sources
+same_sources : (k : PartScope) (c : Context) (ts : List Shape) → (context_for k c ts).sources ≡ c.sources
 same_sources plain c ts = refl
 same_sources inside c [] = refl
 same_sources inside c (t ∷ ts) = refl
@@ -127,7 +127,7 @@ mutual
   parts_over S nil h n done c us q l k w = w
   parts_over S (cons t ts) h n done c us q l k w =
       let calm : (acts t ≡ false) × (any_acts ts ≡ false) = or_parts (acts t) (any_acts ts) q in
-      let st : Standing = standing_at h n (length done) in
+      let st : PartScope = standing_at h n (length done) in
       let kept : Keeps (context_for st c done).sources S (sources_in t) =
       subst (λ T. Keeps T S (sources_in t)) (sym (same_sources st c done)) (λ s x a. k s x (among_left s (sources_in t) (sources_among ts) a)) in (
         w.0,
@@ -170,7 +170,7 @@ mutual
   part_read nil h n done c us s w a = absurd a
   part_read (cons t ts) h n done c us s w a = elim (among_either s (sources_in t) (sources_among ts) a) [
     | inl first ↦
-        let st : Standing = standing_at h n (length done) in
+        let st : PartScope = standing_at h n (length done) in
         subst (λ S. HasType S s) (same_sources st c done) (typed_read t (context_for st c done) w.0 s w.3 first)
     | inr later ↦ part_read ts h n (done ++ w.0 ∷ []) c w.1 s w.4 later
   ]

@@ -2,7 +2,7 @@
 use Rattle.std.specs.Prelude.{ℕ, zero, suc, pos, ◌*◌, ◌/◌, ◌%◌, ◌==◌, ◌&&◌, List, Bool, false, Option, Some, None, if◌then◌else◌, nat_le, slice_get}
 use Rattle.std.specs.List.{find}
 use Rattle.std.specs.Ordering.{int_eq}
-use Rattle.fx_types.specs.Lookup.{item_of}
+use Rattle.fx_types.specs.Lookup.{item_named}
 use Rattle.fx_types.specs.Values.{Data, blank, number, fault}
 use Rattle.fx_semantics.specs.Around.{record_of}
 use Rattle.fx_semantics.specs.Rows.{rows_in}
@@ -14,19 +14,19 @@ abbrev pub is_number : ℕ → Option Data → Bool
 is_number id (Some (number z)) = int_eq z (pos (id * 10000))
 is_number id d = false
 
-abbrev pub has_id : ℕ → Row → Bool
-has_id id r = is_number id (item_of id_name r)
+abbrev pub is_item_of_id : ℕ → Row → Bool
+is_item_of_id id r = is_number id (item_named id_name r)
 
 -- the row at a position, counted from 1
-abbrev pub row_at : ℕ → List Row → Option Row
-row_at zero rows = None
-row_at (suc i) rows = slice_get rows i
+abbrev pub row_at_position : ℕ → List Row → Option Row
+row_at_position zero rows = None
+row_at_position (suc i) rows = slice_get rows i
 
 -- What is chosen: the first row where nothing is, the first row of the id where one was chosen, else the row at the position.
 abbrev pub chosen_row : Option (ℕ × Option ℕ) → List Row → Option Row
 chosen_row None rows = slice_get rows 0
-chosen_row (Some (at, Some id)) rows = find (has_id id) rows
-chosen_row (Some (at, None)) rows = row_at at rows
+chosen_row (Some (at, Some id)) rows = find (is_item_of_id id) rows
+chosen_row (Some (at, None)) rows = row_at_position at rows
 
 abbrev pub row_or_blank : Option Row → Data
 row_or_blank (Some r) = record_of r
@@ -43,4 +43,4 @@ id_of (Some (number (pos z))) = if (z % 10000 == 0) && (nat_le 1 (z / 10000) && 
 id_of d = None
 
 abbrev pub item_id : Row → Option ℕ
-item_id r = id_of (item_of id_name r)
+item_id r = id_of (item_named id_name r)

@@ -4,7 +4,7 @@ use Rattle.std.specs.List.{list_any}
 use Rattle.app_cells.specs.declared.app.App.{App}
 use Rattle.app_cells.specs.declared.app.CellInfo.{CellInfo}
 use Rattle.app_semantics.specs.Holding.{HoldRows}
-use Rattle.app_semantics.specs.Present.{Gives, Present}
+use Rattle.app_semantics.specs.Present.{SourceGives, Present}
 use Rattle.fx_types.specs.Values.{Data, blank}
 use Rattle.fx_semantics.specs.Around.{Around}
 use Rattle.fx_core.specs.Reads.{IsAmong}
@@ -21,8 +21,8 @@ CanRead reads (source.Table k) = Unit {0}
 CanRead reads s = IsAmong s reads
 
 -- where a formula stands that reads these sources: over what they and tables give, and over the item of a gallery if it sees one
-abbrev pub standing : Present → (ℕ → Data) → List Source → Option Data → Around
-standing p values reads item = record { gives = λ s v. CanRead reads s × Gives p values s v; rows = []; item = item; caught = None }
+abbrev pub formula_context : Present → (ℕ → Data) → List Source → Option Data → Around
+formula_context p values reads item = record { gives = λ s v. CanRead reads s × SourceGives p values s v; rows = []; item = item; caught = None }
 
 -- a formula reads a table
 abbrev pub is_table : Source → Bool
@@ -46,7 +46,7 @@ IsWhere false P Q = Q
 -- as many as the app's row limit. Over rows that aren't told it is a value of the formula's type.
 abbrev pub IsValueOf : Present → (ℕ → Data) → Option Data → CellInfo → Data → Type 0
 IsValueOf p values item c v =
-    IsWhere (is_told p.tables c.reads) (IsTakenValue p.app.names.schema.tables p.app.limit (standing p values c.reads item) c.core v)
+    IsWhere (is_told p.tables c.reads) (IsTakenValue p.app.names.schema.tables p.app.limit (formula_context p values c.reads item) c.core v)
     (fits_in v (shape c.ty) ≡ true)
 
 -- A formula that neither acts nor sees an item has a value by itself: P holds of it. Another counts as blank; none names it.

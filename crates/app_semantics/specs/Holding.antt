@@ -11,12 +11,12 @@ use Rattle.fx_value.specs.Fits.{fits_in}
 use Rattle.row_queries.specs.TableRows.{IsRowOf, rows_at}
 use Rattle.row_queries.specs.declared.rows.Row.{Row}
 use Rattle.session_state.specs.Changes.{FitsNames, IsOwn}
-use Rattle.session_state.specs.Sessions.{Holds, SessionState, held}
+use Rattle.session_state.specs.Sessions.{Holds, SessionState, stored_value}
 
 -- each source that is a session's own and has a type is held, with a value that fits it
 pub record HoldsFitting (n : Names) (s : SessionState) : Type 0 where
   pub sources_held : (x : Source) (t : Shape) → IsOwn x → sources n x ≡ Some t → Holds s x
-  pub values_fit : (x : Source) (t : Shape) → IsOwn x → sources n x ≡ Some t → fits_in (held s x) t ≡ true
+  pub values_fit : (x : Source) (t : Shape) → IsOwn x → sources n x ≡ Some t → fits_in (stored_value s x) t ≡ true
 
 -- where rows are told, those of each table fit it
 abbrev pub HoldRows : Schema → Option (List (List Row)) → Type 0

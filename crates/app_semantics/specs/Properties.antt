@@ -3,13 +3,13 @@ use Rattle.std.specs.Prelude.{◌≡◌, ℕ, List, Bool, true, false, codes, Op
 use Rattle.app_cells.specs.Leaning.{cell_of_property}
 use Rattle.app_cells.specs.declared.app.CellInfo.{CellInfo}
 use Rattle.app_semantics.specs.Fresh.{IsValueOf}
-use Rattle.app_semantics.specs.Present.{Present, value_or}
+use Rattle.app_semantics.specs.Present.{Present, cell_value_or}
 use Rattle.fx_types.specs.Values.{Data, boolean}
 use Rattle.fx_core.specs.declared.names.Names.{Names}
 
 -- the value of a control's property, by the bytes of its name, and another value where it isn't written
 abbrev pub property_value : Names → (ℕ → Data) → ℕ → List ℕ → Data → Data
-property_value n values k name unwritten = value_or values unwritten (cell_of_property n k name)
+property_value n values k name unwritten = cell_value_or values unwritten (cell_of_property n k name)
 
 -- the value of a cell of a template for an item, and another where there is no cell
 abbrev pub IsForItem : Present → (ℕ → Data) → Data → Data → Option ℕ → Data → Type 0

@@ -22,13 +22,13 @@ use Rattle.fx_core.specs.declared.sources.Source.{Source}
 use Rattle.fx_semantics.specs.NamedTypes.{HasLawfulTypes}
 use Rattle.fx_semantics.specs.Places.{IsPlaced}
 use Rattle.fx_typing.specs.Acts.{acts}
-use Rattle.fx_typing.specs.Typing.{item_of}
+use Rattle.fx_typing.specs.Typing.{item_context}
 use Rattle.fx_typing.specs.WellTyped.{Context, IsTyped}
 use Rattle.fx_plan.specs.Limited.{limited}
 
 -- where the tree of a formula stands: among the names of the app, and perhaps in a gallery
 abbrev pub context_at : Names → Option ℕ → Context
-context_at n gallery = record { sources = sources n; screens = length n.screens; rows = []; item = item_of n gallery; caught = false }
+context_at n gallery = record { sources = sources n; screens = length n.screens; rows = []; item = item_context n gallery; caught = false }
 
 -- a formula that doesn't act is a lawful tree, among lawful types, and nothing in it acts
 pub record IsCalm (n : Names) (c : CellInfo) : Type 0 where
@@ -59,8 +59,8 @@ pub record IsCellOf (cells : List CellInfo) (k : ℕ) (gallery : Option ℕ) (t 
   pub ty : shape cell.ty ≡ t
 
 -- the tree that is evaluated is the formula's, in which query expressions that aren't taken whole give their first rows
-abbrev pub IsTaken : List TableShape → ℕ → CellInfo → Type 0
-IsTaken ts most c = c.taken ≡ limited ts most 0 false c.core
+abbrev pub IsLimitedTree : List TableShape → ℕ → CellInfo → Type 0
+IsLimitedTree ts most c = c.taken ≡ limited ts most 0 false c.core
 
 -- what an app has beside its formulas
 abbrev pub frame_in : App → Frame
@@ -68,7 +68,7 @@ frame_in a = record { schema = a.names.schema; limit = a.limit; screens = a.name
 
 -- AN ACCEPTED APP: its names are lawful and those of its cells, each formula stands where it says and has its type, the
 -- order is one of leaning, and of each formula it is known what it stands on.
-pub record IsSound (a : App) : Type 0 where
+pub record IsSoundApp (a : App) : Type 0 where
   pub names : IsLawful a.names
   pub placed : (k : ℕ) (c : CellInfo) → slice_get a.cells k ≡ Some c → spots.IsPlaced (frame_in a) c.cell
   pub cells : (k : ℕ) (c : CellInfo) → slice_get a.cells k ≡ Some c → IsSoundCell a.names c
@@ -76,6 +76,6 @@ pub record IsSound (a : App) : Type 0 where
   pub properties : (i : ℕ) (p : Property) (c : ControlName) (t : Shape) →
       slice_get a.names.properties i ≡ Some p → slice_get a.names.controls p.control ≡ Some c → property_of p.name c ≡ Some t →
       IsCellOf a.cells p.cell c.gallery t
-  pub taken : (k : ℕ) (c : CellInfo) → slice_get a.cells k ≡ Some c → IsTaken a.names.schema.tables a.limit c
+  pub taken : (k : ℕ) (c : CellInfo) → slice_get a.cells k ≡ Some c → IsLimitedTree a.names.schema.tables a.limit c
   pub order : IsOrder (length a.cells) (edges_of a.names a.cells) a.order
   pub supports : (k : ℕ) (c : CellInfo) → slice_get a.cells k ≡ Some c → IsSupport a k c.support

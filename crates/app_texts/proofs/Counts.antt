@@ -17,9 +17,9 @@ use Rattle.app_cells.specs.declared.cell.Cell.{Cell}
 use Rattle.app_cells.specs.declared.cell.Spot.{Spot}
 use Rattle.app_cells.specs.declared.cell.Spot.TheVariants as spot
 use Rattle.app_cells.specs.declared.frame.Frame.{Frame}
-use Rattle.app_texts.specs.Edits.{standing, with_cell, written_at}
-use Rattle.app_texts.specs.Frames.{frame_of, written}
-use Rattle.app_texts.specs.Places.{control_spots, is_same, named_spot, property_spots, screen_spots, spots, spots_in}
+use Rattle.app_texts.specs.Edits.{edited_cell, with_cell, written_at}
+use Rattle.app_texts.specs.Frames.{app_frame, written_texts}
+use Rattle.app_texts.specs.Places.{control_spots, is_same_spot, named_spot, property_spots, screen_spots, spots, spots_in}
 use Rattle.app_texts.proofs.FramePlaces.{as_property}
 
 -- ---- how many things pass a test
@@ -238,7 +238,7 @@ abbrev StandsAt : Spot → Cell → Type 0
 StandsAt s c = c.spot ≡ s
 
 -- the same place is one
-pub same_is : (s r : Spot) → is_same s r ≡ true → r ≡ s
+pub same_is : (s r : Spot) → is_same_spot s r ≡ true → r ≡ s
 same_is (spot.Formula x) (spot.Formula y) e = ap spot.Formula ((bytes_eq-Decides y x).0 e)
 same_is spot.OnStart spot.OnStart e = refl
 same_is (spot.OnVisible s) (spot.OnVisible r) e = ap spot.OnVisible (eqb-true r s e)
@@ -260,9 +260,9 @@ same_is (spot.Property k p) (spot.OnVisible s) e = absurd cc
 
 written_there : (cells : List Cell) (s : Spot) → IfSome (written_at cells s) (StandsAt s)
 written_there [] s = tt
-written_there (c ∷ cells) s = by (is_same s c.spot) refl (written_there cells s)
+written_there (c ∷ cells) s = by (is_same_spot s c.spot) refl (written_there cells s)
   where
-    by : (b : Bool) → is_same s c.spot ≡ b → IfSome (written_at cells s) (StandsAt s) → IfSome (cond b (Some c) (written_at cells s)) (StandsAt s)
+    by : (b : Bool) → is_same_spot s c.spot ≡ b → IfSome (written_at cells s) (StandsAt s) → IfSome (cond b (Some c) (written_at cells s)) (StandsAt s)
     by true e rest = same_is s c.spot e
     by false e rest = rest
 
@@ -270,10 +270,10 @@ moved : (s here : Spot) (o : Option Cell) → s ≡ here → IfSome o (StandsAt 
 moved s here None e h = tt
 moved s here (Some c) e h = h ∙ e
 
-stands_there : (cells : List Cell) (s here : Spot) (given : Option Cell) → IfSome given (StandsAt s) → IfSome (standing cells s given here) (StandsAt here)
-stands_there cells s here given h = by (is_same here s) refl
+stands_there : (cells : List Cell) (s here : Spot) (given : Option Cell) → IfSome given (StandsAt s) → IfSome (edited_cell cells s given here) (StandsAt here)
+stands_there cells s here given h = by (is_same_spot here s) refl
   where
-    by : (b : Bool) → is_same here s ≡ b → IfSome (cond b given (written_at cells here)) (StandsAt here)
+    by : (b : Bool) → is_same_spot here s ≡ b → IfSome (cond b given (written_at cells here)) (StandsAt here)
     by true e = moved s here given (same_is here s e) h
     by false e = written_there cells here
 
@@ -284,10 +284,10 @@ one_fewer : (k : ℕ) (here : Spot) (o : Option Cell) (cs : List Cell) → IfSom
 one_fewer k here None cs h = omega arith
 one_fewer k here (Some c) cs h = let e : one (is_items_of k c.spot) ≡ one (is_items_of k here) = ap (λ s. one (is_items_of k s)) h in omega (arith, e)
 
-fewer : (k : ℕ) (cells : List Cell) (s : Spot) (given : Option Cell) (ss : List Spot) → IfSome given (StandsAt s) → count (is_cell_of k) (filter_map (standing cells s given) ss) ≤ count (is_items_of k) ss
+fewer : (k : ℕ) (cells : List Cell) (s : Spot) (given : Option Cell) (ss : List Spot) → IfSome given (StandsAt s) → count (is_cell_of k) (filter_map (edited_cell cells s given) ss) ≤ count (is_items_of k) ss
 fewer k cells s given [] h = omega arith
 fewer k cells s given (here ∷ ss) h =
-    let more = one_fewer k here (standing cells s given here) (filter_map (standing cells s given) ss) (stands_there cells s here given h) in
+    let more = one_fewer k here (edited_cell cells s given here) (filter_map (edited_cell cells s given) ss) (stands_there cells s here given h) in
     let rest = fewer k cells s given ss h in
     omega (arith, more, rest)
 
@@ -298,6 +298,6 @@ items_are k s e = ap (is_items_of k) e ∙ ap (λ b. b && bytes_eq items_name it
 pub single : (a : App) (s : Spot) (given : Option Cell) → IfSome given (λ (c : Cell). c.spot ≡ s) → (i j : ℕ) (c d : Cell) (k : ℕ)
     → slice_get (with_cell a s given) i ≡ Some c → slice_get (with_cell a s given) j ≡ Some d → c.spot ≡ spot.Property k (codes "Items") → d.spot ≡ spot.Property k (codes "Items") → i ≡ j
 single a s given h i j c d k e f p q =
-    let all = fewer k (written a) s given (spots a) h in
-    let few = among_places k (frame_of a) a.cells in
+    let all = fewer k (written_texts a) s given (spots a) h in
+    let few = among_places k (app_frame a) a.cells in
     one_place (is_cell_of k) (with_cell a s given) i j c d (omega (arith, all, few)) e f (items_are k c.spot p) (items_are k d.spot q)

@@ -22,10 +22,10 @@ use Rattle.fx_core.specs.declared.schema.TableShape.{TableShape}
 use Rattle.app_file.specs.declared.file.ControlShape.{ControlShape}
 use Rattle.app_file.specs.declared.file.PropertyText.{PropertyText}
 use Rattle.app_file.specs.declared.file.ScreenShape.{ScreenShape}
-use Rattle.app_file.specs.Contents.{all, all_behind, at, column, column_type, control_shape, kind, kind_at, properties, property, screen, table, words}
-use Rattle.app_file.specs.FormOfApp.{app_fields, app_form, column_fields, column_type_of, each, gallery_of, gallery_place, is_gallery, is_text_at, is_this, kind_named, kind_of, leaf, may_stand_in_gallery, property_names, table_fields, type_named}
+use Rattle.app_file.specs.Contents.{all_elements, all_behind, member_at, column, column_ty, control_shape, kind, kind_at, properties, property, screen, table_shape, words}
+use Rattle.app_file.specs.FormOfApp.{app_fields, app_form, column_fields, column_type_of, each, gallery_before, gallery_place, is_gallery_shape, is_text_at, is_this, kind_named, control_kind, leaf, may_stand_in_gallery, property_names, table_fields, type_named}
 use Rattle.app_file.specs.Forms.{Form, IsFine, elements, first, later, members}
-use Rattle.app_texts.specs.Files.{HasGalleries, HasProperties, IsGalleryAt, IsGalleryShape}
+use Rattle.app_texts.specs.Files.{HasGalleries, HasProperties, IsGalleryShapeAt, IsGalleryShape}
 use Rattle.app_texts.proofs.Held.{all_hold, at_holds, leaf_told, list_holds, must_hold}
 
 -- ---- the types of columns
@@ -52,18 +52,18 @@ HasTypes t = All HasType t.columns
 
 column_typed : (before : List Data) (d : Data) → IsFine (members column_fields) d → HasType (column before d)
 column_typed before d fine =
-    must_hold column_fields d (codes "type") (leaf column_type_of) column_type ty.Blank IsColumnType fine (later first)
+    must_hold column_fields d (codes "type") (leaf column_type_of) column_ty ty.Blank IsColumnType fine (later first)
     (λ x k. leaf_told column_type_of x IsColumnType ty.Blank k (told_type (as_str x)))
 
-table_typed : (before : List Data) (d : Data) → IsFine (members table_fields) d → HasTypes (table before d)
+table_typed : (before : List Data) (d : Data) → IsFine (members table_fields) d → HasTypes (table_shape before d)
 table_typed before d fine =
-    at_holds table_fields d true (codes "columns") (each (members column_fields)) (all column) (All HasType) (All-nil HasType) fine (later first)
+    at_holds table_fields d true (codes "columns") (each (members column_fields)) (all_elements column) (All HasType) (All-nil HasType) fine (later first)
     (λ x k. list_holds (λ b. members column_fields) column HasType x k column_typed)
 
-pub tables_typed : (d : Data) → IsFine app_form d → All HasTypes (at (all table) (codes "tables") [] d)
+pub tables_typed : (d : Data) → IsFine app_form d → All HasTypes (member_at (all_elements table_shape) (codes "tables") [] d)
 tables_typed d fine =
-    at_holds app_fields d false (codes "tables") (each (members table_fields)) (all table) (All HasTypes) (All-nil HasTypes) fine (later (later first))
-    (λ x k. list_holds (λ b. members table_fields) table HasTypes x k table_typed)
+    at_holds app_fields d false (codes "tables") (each (members table_fields)) (all_elements table_shape) (All HasTypes) (All-nil HasTypes) fine (later (later first))
+    (λ x k. list_holds (λ b. members table_fields) table_shape HasTypes x k table_typed)
 
 -- ---- what holds of every part
 pub any_list : {A : Type 0} (h : List Data → Data → A) (P : A → Type 0) (o : Option (List Data)) → ((before : List Data) (x : Data) → P (h before x)) → All P (all_behind h [] (unwrap_or o []))
@@ -83,7 +83,7 @@ is_gallery_kind (Some x) e = go (as_str x) e
     go None f = absurd cc
     go (Some t) f = subst (λ u. unwrap_or (kind_named u) control.Label ≡ control.Gallery) (sym ((bytes_eq-Decides t (codes "Gallery")).0 f)) refl
 
-gallery_kind : (x : List ℕ) (d : Data) → is_gallery x d ≡ true → kind_at d ≡ control.Gallery
+gallery_kind : (x : List ℕ) (d : Data) → is_gallery_shape x d ≡ true → kind_at d ≡ control.Gallery
 gallery_kind x d e = is_gallery_kind (get (codes "kind") d) (second_so (is_text_at (codes "name") x d) (is_text_at (codes "kind") (codes "Gallery") d) e)
 
 -- a place that is found is that of something that meets the test
@@ -120,10 +120,10 @@ held_there h before (d ∷ ds) (suc j) x e = held_there h (before ++ d ∷ []) d
 abbrev shapes : List Data → List ControlShape
 shapes ds = all_behind control_shape [] ds
 
-place_right : (ds : List Data) (k : ℕ) (x : List ℕ) → IsGalleryAt (shapes ds) (gallery_place (take k ds) x)
-place_right ds k x = go (gallery_place (take k ds) x) (found (is_gallery x) 0 (take k ds))
+place_right : (ds : List Data) (k : ℕ) (x : List ℕ) → IsGalleryShapeAt (shapes ds) (gallery_place (take k ds) x)
+place_right ds k x = go (gallery_place (take k ds) x) (found (is_gallery_shape x) 0 (take k ds))
   where
-    go : (o : Option ℕ) → IfSome o (IsFound (is_gallery x) 0 (take k ds)) → IsGalleryAt (shapes ds) o
+    go : (o : Option ℕ) → IfSome o (IsFound (is_gallery_shape x) 0 (take k ds)) → IsGalleryShapeAt (shapes ds) o
     go None h = tt
     go (Some g) h =
         let there = held_there control_shape [] ds h.place h.thing (in_front k h.place ds h.thing h.there) in
@@ -131,30 +131,30 @@ place_right ds k x = go (gallery_place (take k ds) x) (found (is_gallery x) 0 (t
         let e : g ≡ h.place = omega (arith, i) in
         subst (λ j. IsGalleryShape (slice_get (shapes ds) j)) (sym e) (subst IsGalleryShape (sym there) (gallery_kind x h.thing h.meets))
 
-told_place : (ds : List Data) (k : ℕ) (o : Option (List ℕ)) → IsGalleryAt (shapes ds) (option_and_then (gallery_place (take k ds)) o)
+told_place : (ds : List Data) (k : ℕ) (o : Option (List ℕ)) → IsGalleryShapeAt (shapes ds) (option_and_then (gallery_place (take k ds)) o)
 told_place ds k None = tt
 told_place ds k (Some x) = place_right ds k x
 
-kind_place : (b : Bool) (ds : List Data) (k : ℕ) (d : Data) → IsGalleryAt (shapes ds) (if b then option_and_then (gallery_place (take k ds)) (as_str d) else None)
+kind_place : (b : Bool) (ds : List Data) (k : ℕ) (d : Data) → IsGalleryShapeAt (shapes ds) (if b then option_and_then (gallery_place (take k ds)) (as_str d) else None)
 kind_place true ds k d = told_place ds k (as_str d)
 kind_place false ds k d = tt
 
-member_place : (ds : List Data) (k : ℕ) (kind : Control) (o : Option Data) → IsGalleryAt (shapes ds) (option_and_then (gallery_of (take k ds) kind) o)
+member_place : (ds : List Data) (k : ℕ) (kind : Control) (o : Option Data) → IsGalleryShapeAt (shapes ds) (option_and_then (gallery_before (take k ds) kind) o)
 member_place ds k kind None = tt
 member_place ds k kind (Some d) = kind_place (may_stand_in_gallery kind) ds k d
 
 abbrev HaveGalleries : List ControlShape → Type 0
-HaveGalleries cs = All (λ (c : ControlShape). IsGalleryAt cs c.gallery) cs
+HaveGalleries cs = All (λ (c : ControlShape). IsGalleryShapeAt cs c.gallery) cs
 
 list_galleries : (o : Option (List Data)) → HaveGalleries (all_behind control_shape [] (unwrap_or o []))
-list_galleries None = All-nil (λ (c : ControlShape). IsGalleryAt [] c.gallery)
-list_galleries (Some ds) = all_hold control_shape (λ (c : ControlShape). IsGalleryAt (shapes ds) c.gallery) [] ds (λ k x e. member_place ds k (kind_at x) (get (codes "in") x))
+list_galleries None = All-nil (λ (c : ControlShape). IsGalleryShapeAt [] c.gallery)
+list_galleries (Some ds) = all_hold control_shape (λ (c : ControlShape). IsGalleryShapeAt (shapes ds) c.gallery) [] ds (λ k x e. member_place ds k (kind_at x) (get (codes "in") x))
 
 screen_galleries : (before : List Data) (d : Data) → HasGalleries (screen before d)
-screen_galleries before d = any_at (all control_shape) HaveGalleries (get (codes "controls") d) (All-nil (λ (c : ControlShape). IsGalleryAt [] c.gallery)) (λ x. list_galleries (elements x))
+screen_galleries before d = any_at (all_elements control_shape) HaveGalleries (get (codes "controls") d) (All-nil (λ (c : ControlShape). IsGalleryShapeAt [] c.gallery)) (λ x. list_galleries (elements x))
 
-pub galleries_right : (d : Data) → All HasGalleries (at (all screen) (codes "screens") [] d)
-galleries_right d = any_at (all screen) (All HasGalleries) (get (codes "screens") d) (All-nil HasGalleries) (λ x. any_list screen HasGalleries (elements x) screen_galleries)
+pub galleries_right : (d : Data) → All HasGalleries (member_at (all_elements screen) (codes "screens") [] d)
+galleries_right d = any_at (all_elements screen) (All HasGalleries) (get (codes "screens") d) (All-nil HasGalleries) (λ x. any_list screen HasGalleries (elements x) screen_galleries)
 
 -- ---- properties
 -- each property of a kind is one of it
@@ -197,7 +197,7 @@ control_properties before d =
     any_at (properties (kind_at d)) (All (IsIts (kind_at d))) (get (codes "properties") d) (All-nil (IsIts (kind_at d))) (λ x. these_properties (kind_at d) x (property_names (kind_at d)) (own_properties (kind_at d)))
 
 screen_properties : (before : List Data) (d : Data) → HasProperties (screen before d)
-screen_properties before d = any_at (all control_shape) (All HasIts) (get (codes "controls") d) (All-nil HasIts) (λ x. any_list control_shape HasIts (elements x) control_properties)
+screen_properties before d = any_at (all_elements control_shape) (All HasIts) (get (codes "controls") d) (All-nil HasIts) (λ x. any_list control_shape HasIts (elements x) control_properties)
 
-pub properties_right : (d : Data) → All HasProperties (at (all screen) (codes "screens") [] d)
-properties_right d = any_at (all screen) (All HasProperties) (get (codes "screens") d) (All-nil HasProperties) (λ x. any_list screen HasProperties (elements x) screen_properties)
+pub properties_right : (d : Data) → All HasProperties (member_at (all_elements screen) (codes "screens") [] d)
+properties_right d = any_at (all_elements screen) (All HasProperties) (get (codes "screens") d) (All-nil HasProperties) (λ x. any_list screen HasProperties (elements x) screen_properties)

@@ -16,7 +16,7 @@ use Rattle.app_cells.specs.declared.frame.Frame.{Frame}
 use Rattle.app_cells.specs.Spots.{IsSpot}
 use Rattle.app_texts.proofs.Formed.{AreProperties, own_properties}
 use Rattle.app_texts.proofs.Galleries.{slice_behind}
-use Rattle.app_texts.specs.Frames.{frame_of}
+use Rattle.app_texts.specs.Frames.{app_frame}
 use Rattle.app_texts.specs.Places.{control_spots, has_address, named_spot, property_spots, screen_spots, spot_of, spots, spots_in}
 
 -- the place of a property

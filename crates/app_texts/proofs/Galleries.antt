@@ -8,7 +8,7 @@ use Rattle.fx_core.specs.Lawful.{IsGallery, IsLawfulGallery}
 use Rattle.fx_core.specs.declared.names.ControlName.{ControlName}
 use Rattle.app_file.specs.declared.file.ControlShape.{ControlShape}
 use Rattle.app_file.specs.declared.file.ScreenShape.{ScreenShape}
-use Rattle.app_texts.specs.Files.{HasGalleries, IsGalleryAt, IsGalleryShape, control_of, controls_from}
+use Rattle.app_texts.specs.Files.{HasGalleries, IsGalleryShapeAt, IsGalleryShape, control_of, controls_from}
 
 pub slice_behind : {A : Type 0} (xs ys : List A) (k m : ℕ) → m ≡ length xs + k → slice_get (xs ++ ys) m ≡ slice_get ys k
 slice_behind [] ys k m e = ap (slice_get ys) (omega (arith, e))
@@ -23,7 +23,7 @@ gallery_here screen first (suc g) (c ∷ cs) more h = gallery_here screen first 
 abbrev Stands : ℕ → List ControlName → ControlName → Type 0
 Stands n every c = (c.screen < n) × IsLawfulGallery every c.gallery
 
-gallery_of : (screen first : ℕ) (o : Option ℕ) (before : List ControlName) (shapes : List ControlShape) (more : List ControlName) → first ≡ length before → IsGalleryAt shapes o
+gallery_of : (screen first : ℕ) (o : Option ℕ) (before : List ControlName) (shapes : List ControlShape) (more : List ControlName) → first ≡ length before → IsGalleryShapeAt shapes o
     → IsLawfulGallery (before ++ (map (control_of screen first) shapes ++ more)) (option_map (λ g. first + g) o)
 gallery_of screen first None before shapes more e h = tt
 gallery_of screen first (Some g) before shapes more e h =
@@ -31,12 +31,12 @@ gallery_of screen first (Some g) before shapes more e h =
     (subst IsGallery (sym (slice_behind before (map (control_of screen first) shapes ++ more) g (length before + g) refl)) (gallery_here screen first g shapes more h))
 
 these_stand : (n screen first : ℕ) (every before : List ControlName) (shapes these : List ControlShape) (more : List ControlName) → screen < n → first ≡ length before
-    → every ≡ before ++ (map (control_of screen first) shapes ++ more) → All (λ (c : ControlShape). IsGalleryAt shapes c.gallery) these → All (Stands n every) (map (control_of screen first) these)
+    → every ≡ before ++ (map (control_of screen first) shapes ++ more) → All (λ (c : ControlShape). IsGalleryShapeAt shapes c.gallery) these → All (Stands n every) (map (control_of screen first) these)
 these_stand n screen first every before shapes [] more l e is h = All-nil (Stands n every)
 these_stand n screen first every before shapes (c ∷ cs) more l e is h =
     All-cons (Stands n every) (control_of screen first c) (map (control_of screen first) cs)
-    (l, subst (λ xs. IsLawfulGallery xs (option_map (λ g. first + g) c.gallery)) (sym is) (gallery_of screen first c.gallery before shapes more e (All-head (λ (d : ControlShape). IsGalleryAt shapes d.gallery) c cs h)))
-    (these_stand n screen first every before shapes cs more l e is (All-tail (λ (d : ControlShape). IsGalleryAt shapes d.gallery) c cs h))
+    (l, subst (λ xs. IsLawfulGallery xs (option_map (λ g. first + g) c.gallery)) (sym is) (gallery_of screen first c.gallery before shapes more e (All-head (λ (d : ControlShape). IsGalleryShapeAt shapes d.gallery) c cs h)))
+    (these_stand n screen first every before shapes cs more l e is (All-tail (λ (d : ControlShape). IsGalleryShapeAt shapes d.gallery) c cs h))
 
 -- all controls stand on screens, and in galleries where they stand in something
 pub all_stand : (n screen first : ℕ) (every before : List ControlName) (ss : List ScreenShape) → screen + length ss ≤ n → first ≡ length before → every ≡ before ++ controls_from screen first ss → All HasGalleries ss

@@ -8,9 +8,9 @@ use Rattle.serde_json.specs.Find.{as_object, get}
 use Rattle.app_file.specs.declared.steps.Step.{Step}
 use Rattle.app_file.specs.declared.steps.Step.TheVariants.{Element, Member}
 use Rattle.fx_types.specs.Words.{scalars_of}
-use Rattle.app_file.specs.Contents.{all, all_behind, at}
+use Rattle.app_file.specs.Contents.{all_elements, all_behind, member_at}
 use Rattle.app_file.specs.FormOfApp.{leaf}
-use Rattle.app_file.specs.Forms.{Form, such, in_turn, members, by_itself, Fields, IsField, IsBad, IsFine, elements, bad_by_itself, bad_element, bad_member, no_member, no_object, not_such}
+use Rattle.app_file.specs.Forms.{Form, such, in_turn, members, by_itself, Fields, IsField, BreaksForm, IsFine, elements, bad_by_itself, bad_element, bad_member, no_member, no_object, not_such}
 
 -- a member that stands has its form
 pub member_fine : (fs : Fields) (d x : Data) (needed : Bool) (key : List ℕ) (f : Form) → IsFine (members fs) d → IsField needed key f fs → get key d ≡ Some x → IsFine f x
@@ -33,7 +33,7 @@ pub element_fine : (f : List Data → Form) (d x : Data) (ds : List Data) (k : �
 element_fine f d x ds k fine is e path bad = fine (Element k ∷ path) (bad_element f d x ds k path is e bad)
 
 pub list_holds : {A : Type 0} (f : List Data → Form) (h : List Data → Data → A) (P : A → Type 0) (d : Data) → IsFine (in_turn f) d
-    → ((before : List Data) (x : Data) → IsFine (f before) x → P (h before x)) → All P (all h d)
+    → ((before : List Data) (x : Data) → IsFine (f before) x → P (h before x)) → All P (all_elements h d)
 list_holds f h P d fine each = go (elements d) refl
   where
     go : (o : Option (List Data)) → elements d ≡ o → All P (all_behind h [] (unwrap_or o []))
@@ -42,7 +42,7 @@ list_holds f h P d fine each = go (elements d) refl
 
 -- what a member holds that is a list
 pub at_holds : {A : Type 0} (fs : Fields) (d : Data) (needed : Bool) (key : List ℕ) (f : Form) (h : Data → List A) (P : List A → Type 0) → P [] → IsFine (members fs) d → IsField needed key f fs
-    → ((x : Data) → IsFine f x → P (h x)) → P (at h key [] d)
+    → ((x : Data) → IsFine f x → P (h x)) → P (member_at h key [] d)
 at_holds fs d needed key f h P none fine i each = go (get key d) refl
   where
     go : (o : Option Data) → get key d ≡ o → P (unwrap_or (option_map h o) [])
@@ -58,7 +58,7 @@ some_object fs d fine = go (as_object d) refl
     go (Some ms) e = refl
 
 pub must_hold : {A : Type 0} (fs : Fields) (d : Data) (key : List ℕ) (f : Form) (h : Data → A) (default : A) (P : A → Type 0) → IsFine (members fs) d → IsField true key f fs
-    → ((x : Data) → IsFine f x → P (h x)) → P (at h key default d)
+    → ((x : Data) → IsFine f x → P (h x)) → P (member_at h key default d)
 must_hold fs d key f h default P fine i each = go (get key d) refl
   where
     go : (o : Option Data) → get key d ≡ o → P (unwrap_or (option_map h o) default)

@@ -13,9 +13,9 @@ use Rattle.std.proofs.lemmas.List.Folds.{find_at, position_or_len_push}
 use Rattle.std.proofs.lemmas.List.Sums.{prefix_len-le-length}
 use Rattle.std.proofs.lemmas.Map.Text.{is_eq-slice_cmp}
 use Rattle.std.proofs.lemmas.Option.{slice_get_past}
-use Rattle.app_texts.specs.Places.{is_same}
+use Rattle.app_texts.specs.Places.{is_same_spot}
 use Rattle.app_texts.proofs.Counts.{same_is}
-use Rattle.app_texts.specs.Numbers.{AreNumbers, IsNoted, in_order, is_written_at, number_at, or_numbered, place_of}
+use Rattle.app_texts.specs.Numbers.{AreNumbers, IsNumberNoted, in_order, is_written_at, spot_number, or_numbered, spot_order}
 use Rattle.app_cells.specs.declared.app.CellInfo.{CellInfo}
 use Rattle.app_cells.specs.declared.cell.Spot.{Spot}
 use Rattle.app_cells.specs.declared.cell.Spot.TheVariants as spot
@@ -31,7 +31,7 @@ is_eq_then Less q = refl
 is_eq_then Equal q = refl
 is_eq_then Greater q = refl
 
-pub tells : (r s : Spot) → is_eq (in_order (place_of r) (place_of s)) ≡ is_same s r
+pub tells : (r s : Spot) → is_eq (in_order (spot_order r) (spot_order s)) ≡ is_same_spot s r
 tells (spot.Formula y) (spot.Formula x) = is_eq-slice_cmp y x
 tells (spot.Formula y) spot.OnStart = refl
 tells (spot.Formula y) (spot.OnVisible s) = refl
@@ -57,7 +57,7 @@ spot_of place.OnStart = spot.OnStart
 spot_of (place.OnVisible s) = spot.OnVisible s
 spot_of (place.Property k p) = spot.Property k p
 
-back : (p : Place) → place_of (spot_of p) ≡ p
+back : (p : Place) → spot_order (spot_of p) ≡ p
 back (place.Formula x) = refl
 back place.OnStart = refl
 back (place.OnVisible s) = refl
@@ -65,9 +65,9 @@ back (place.Property k p) = refl
 
 one_place : (p q : Place) → is_eq (in_order p q) ≡ true → p ≡ q
 one_place p q e =
-    let at : is_eq (in_order (place_of (spot_of p)) (place_of (spot_of q))) ≡ true =
-    ap (λ x. is_eq (in_order x (place_of (spot_of q)))) (back p) ∙ ap (λ y. is_eq (in_order p y)) (back q) ∙ e in
-    sym (back p) ∙ ap place_of (same_is (spot_of q) (spot_of p) (sym (tells (spot_of p) (spot_of q)) ∙ at)) ∙ back q
+    let at : is_eq (in_order (spot_order (spot_of p)) (spot_order (spot_of q))) ≡ true =
+    ap (λ x. is_eq (in_order x (spot_order (spot_of q)))) (back p) ∙ ap (λ y. is_eq (in_order p y)) (back q) ∙ e in
+    sym (back p) ∙ ap spot_order (same_is (spot_of q) (spot_of p) (sym (tells (spot_of p) (spot_of q)) ∙ at)) ∙ back q
 
 -- ---- a place gets a number
 either_number : (b : Bool) (o : Option ℕ) (k : ℕ) → (b ≡ true → o ≡ None) → cond b (Some k) o ≡ or_numbered o (cond b (Some k) None)
@@ -75,13 +75,13 @@ either_number true o k h = sym (ap (λ p. or_numbered p (Some k)) (h refl))
 either_number false None k h = refl
 either_number false (Some j) k h = refl
 
-pub noted : (old new : BTreeMap Place ℕ) (p : Place) (k : ℕ) → number_at old p ≡ None
-    → ((q : Place) → number_at new q ≡ cond (is_at (in_order p) q) (Some k) (number_at old q)) → IsNoted old new p k
+pub noted : (old new : BTreeMap Place ℕ) (p : Place) (k : ℕ) → spot_number old p ≡ None
+    → ((q : Place) → spot_number new q ≡ cond (is_at (in_order p) q) (Some k) (spot_number old q)) → IsNumberNoted old new p k
 noted old new p k none updates = λ q.
-    updates q ∙ either_number (is_eq (in_order p q)) (number_at old q) k (λ e. ap (number_at old) (sym (one_place p q e)) ∙ none)
+    updates q ∙ either_number (is_eq (in_order p q)) (spot_number old q) k (λ e. ap (spot_number old) (sym (one_place p q e)) ∙ none)
 
-pub kept : (numbers : BTreeMap Place ℕ) (p : Place) (k : ℕ) → (number_at numbers p ≡ None → ⊥) → IsNoted numbers numbers p k
-kept numbers p k some = λ q. kept_at (is_eq (in_order p q)) (number_at numbers q) (λ e. λ n. some (ap (number_at numbers) (one_place p q e) ∙ n))
+pub kept : (numbers : BTreeMap Place ℕ) (p : Place) (k : ℕ) → (spot_number numbers p ≡ None → ⊥) → IsNumberNoted numbers numbers p k
+kept numbers p k some = λ q. kept_at (is_eq (in_order p q)) (spot_number numbers q) (λ e. λ n. some (ap (spot_number numbers) (one_place p q e) ∙ n))
   where
     kept_at : (b : Bool) (o : Option ℕ) → (b ≡ true → o ≡ None → ⊥) → o ≡ or_numbered o (cond b (Some k) None)
     kept_at b (Some j) h = refl
@@ -117,18 +117,18 @@ position_push {X} p xs y =
     grind (arith, nat_tests, common_steps, position_or_len_push p xs y, prefix_len-le-length (λ x. not (p x)) xs)
 
 -- ---- one formula more
-numbered_push : (old new : BTreeMap Place ℕ) (is : List CellInfo) (i : CellInfo) → AreNumbers old is → IsNoted old new (place_of i.cell.spot) (length is)
+numbered_push : (old new : BTreeMap Place ℕ) (is : List CellInfo) (i : CellInfo) → AreNumbers old is → IsNumberNoted old new (spot_order i.cell.spot) (length is)
     → AreNumbers new (is ++ i ∷ [])
 numbered_push old new is i h n = λ s.
-    n (place_of s) ∙ ap (λ o. or_numbered o (cond (is_eq (in_order (place_of i.cell.spot) (place_of s))) (Some (length is)) None)) (h s)
+    n (spot_order s) ∙ ap (λ o. or_numbered o (cond (is_eq (in_order (spot_order i.cell.spot) (spot_order s))) (Some (length is)) None)) (h s)
     ∙ ap (λ b. or_numbered (position (is_written_at s) is) (cond b (Some (length is)) None)) (tells i.cell.spot s)
     ∙ sym (position_push (is_written_at s) is i)
 
-pub numbered_more : (old new : BTreeMap Place ℕ) (is : List CellInfo) (k : ℕ) (i : CellInfo) (p : Place) → k < length is → i ≡ get_or is k i → p ≡ place_of i.cell.spot
-    → AreNumbers old (take k is) → IsNoted old new p k → AreNumbers new (take (k + 1) is)
+pub numbered_more : (old new : BTreeMap Place ℕ) (is : List CellInfo) (k : ℕ) (i : CellInfo) (p : Place) → k < length is → i ≡ get_or is k i → p ≡ spot_order i.cell.spot
+    → AreNumbers old (take k is) → IsNumberNoted old new p k → AreNumbers new (take (k + 1) is)
 numbered_more old new is k i p l g e h n =
     let same : take (k + 1) is ≡ take k is ++ i ∷ [] = take_more is k i l ∙ ap (λ j. take k is ++ j ∷ []) (sym g) in
     let size : length (take k is) ≡ k = length-take-le k is (omega (arith, l)) in
-    let noted_here : IsNoted old new (place_of i.cell.spot) (length (take k is)) =
-    subst (IsNoted old new (place_of i.cell.spot)) (sym size) (subst (λ q. IsNoted old new q k) e n) in
+    let noted_here : IsNumberNoted old new (spot_order i.cell.spot) (length (take k is)) =
+    subst (IsNumberNoted old new (spot_order i.cell.spot)) (sym size) (subst (λ q. IsNumberNoted old new q k) e n) in
     subst (AreNumbers new) (sym same) (numbered_push old new (take k is) i h noted_here)

@@ -10,8 +10,8 @@ use Rattle.app_cells.specs.declared.cell.Cell.{Cell}
 use Rattle.app_cells.specs.declared.frame.Frame.{Frame}
 use Rattle.app_cells.specs.Spots.{IsPlaced}
 use Rattle.app_texts.specs.declared.file_texts.Text.{Text}
-use Rattle.app_texts.specs.Steps.{IsPut, IsPutBehind}
-use Rattle.app_texts.specs.Texts.{AreNamedAt, AreNamedCells, AreReadAt, IsNamedCell, IsReadAt, IsTold, IsUnreadAt, TellsBreak, in_text}
+use Rattle.app_texts.specs.Steps.{ArePutBehind, IsPutBehind}
+use Rattle.app_texts.specs.Texts.{AreNamedAt, AreNamedCells, AreReadAt, IsNamedCell, IsReadAt, IsToldOfText, IsUnreadAt, TellsBreak, in_text}
 use Rattle.std.specs.Str.{chars}
 use Rattle.fx_lexer.specs.declared.token.LexErr.{LexErr}
 use Rattle.fx_lexer.specs.declared.token.LexWhat.{LexWhat}
@@ -78,14 +78,14 @@ abbrev pub AreNamedOnward : Frame → List Named → List Named → List Cell �
 AreNamedOnward f all rest cs = (ds : List Cell) → AreNamedCells f rest ds → AreNamedCells f all (cs ++ ds)
 
 pub named_step : (f : Frame) (all rest : List Named) (n : Named) (old now next : List Cell) (c : Cell)
-    → IsPut (AreNamedOnward f all (n ∷ rest)) old now → next ≡ now ++ c ∷ [] → IsNamedCell f n c → IsPut (AreNamedOnward f all rest) old next
+    → ArePutBehind (AreNamedOnward f all (n ∷ rest)) old now → next ≡ now ++ c ∷ [] → IsNamedCell f n c → ArePutBehind (AreNamedOnward f all rest) old next
 named_step f all rest n old now next c h e k = record {
   more = h.more ++ c ∷ [];
   behind = e ∙ ap (λ xs. xs ++ c ∷ []) h.behind ∙ append_assoc old h.more (c ∷ []);
   holds = λ ds r. subst (AreNamedCells f all) (sym (append_assoc h.more (c ∷ []) ds)) (h.holds (c ∷ ds) (c, ds, refl, k, r));
 }
 
-pub named_end : (f : Frame) (all : List Named) (old now : List Cell) → IsPut (AreNamedOnward f all []) old now → IsPut (AreNamedCells f all) old now
+pub named_end : (f : Frame) (all : List Named) (old now : List Cell) → ArePutBehind (AreNamedOnward f all []) old now → ArePutBehind (AreNamedCells f all) old now
 named_end f all old now h = record { more = h.more; behind = h.behind; holds = subst (AreNamedCells f all) (append-nil h.more) (h.holds [] refl) }
 
 -- all of these stand where they say
@@ -116,22 +116,22 @@ unfolding chars
 formulas_words_plain = refl
 
 pub tells_bad : (cell source : List ℕ) (end : ParseEnd) (bad : LexErr) (words : List ℕ) → end ≡ Lex bad → words ≡ bad_token_words bad.what → (e : OrMemory Broken)
-    → TellsBreak (λ b. b ≡ in_text cell rule.BadToken bad.at (chars words)) e → TellsBreak (IsTold cell source end) e
+    → TellsBreak (λ b. b ≡ in_text cell rule.BadToken bad.at (chars words)) e → TellsBreak (IsToldOfText cell source end) e
 tells_bad cell source end bad words is same e h =
-    subst (λ x. TellsBreak (IsTold cell source x) e) (sym is)
-    (tells_weaker e _ (IsTold cell source (Lex bad)) (λ b k. k ∙ ap (in_text cell rule.BadToken bad.at) (ap chars same ∙ bad_words_plain bad.what)) h)
+    subst (λ x. TellsBreak (IsToldOfText cell source x) e) (sym is)
+    (tells_weaker e _ (IsToldOfText cell source (Lex bad)) (λ b k. k ∙ ap (in_text cell rule.BadToken bad.at) (ap chars same ∙ bad_words_plain bad.what)) h)
 
 pub tells_syntax : (cell source : List ℕ) (end : ParseEnd) (at : ℕ) (detail : List ℕ) → end ≡ Syntax at → ((ts : List Token) → Lexed (chars source) ts → detail ≡ unexpected_words source at ts) → (e : OrMemory Broken)
-    → TellsBreak (λ b. b ≡ in_text cell rule.Syntax at detail) e → TellsBreak (IsTold cell source end) e
+    → TellsBreak (λ b. b ≡ in_text cell rule.Syntax at detail) e → TellsBreak (IsToldOfText cell source end) e
 tells_syntax cell source end at detail is says e h =
-    subst (λ x. TellsBreak (IsTold cell source x) e) (sym is)
-    (tells_weaker e _ (IsTold cell source (Syntax at)) (λ b k ts lexed. k ∙ ap (in_text cell rule.Syntax at) (says ts lexed)) h)
+    subst (λ x. TellsBreak (IsToldOfText cell source x) e) (sym is)
+    (tells_weaker e _ (IsToldOfText cell source (Syntax at)) (λ b k ts lexed. k ∙ ap (in_text cell rule.Syntax at) (says ts lexed)) h)
 
 pub tells_deep : (cell source : List ℕ) (end : ParseEnd) (at : ℕ) → end ≡ TooDeep at → (e : OrMemory Broken)
-    → TellsBreak (λ b. b ≡ in_text cell rule.TooDeep at (chars (codes "deeper than 64"))) e → TellsBreak (IsTold cell source end) e
+    → TellsBreak (λ b. b ≡ in_text cell rule.TooDeep at (chars (codes "deeper than 64"))) e → TellsBreak (IsToldOfText cell source end) e
 tells_deep cell source end at is e h =
-    subst (λ x. TellsBreak (IsTold cell source x) e) (sym is)
-    (tells_weaker e _ (IsTold cell source (TooDeep at)) (λ b k. k ∙ ap (in_text cell rule.TooDeep at) deep_words_plain) h)
+    subst (λ x. TellsBreak (IsToldOfText cell source x) e) (sym is)
+    (tells_weaker e _ (IsToldOfText cell source (TooDeep at)) (λ b k. k ∙ ap (in_text cell rule.TooDeep at) deep_words_plain) h)
 
 -- what is put behind of one text
 pub put_cell : (f : Frame) (t : Text) (old new : List Cell) (bs : List Broken) (c : Cell) → new ≡ old ++ c ∷ [] → IsReadAt f t.spot t.text c → IsPutBehind (AreReadAt f (t ∷ [])) old new bs bs
@@ -142,7 +142,7 @@ put_broken f t cs old new b e h = record { cells = []; breaks = b ∷ []; cells_
 
 -- what is put behind of a text of named formulas that is none
 pub put_unnamed : (f : Frame) (source : List ℕ) (end : ParseEnd) (cs : List Cell) (old new : List Broken) → AreNamedEnd source end
-    → IsPut (λ bs. (b : Broken) × (bs ≡ b ∷ []) × IsTold (codes "App.Formulas") source end b) old new → IsPutBehind (AreNamedAt f source) cs cs old new
+    → ArePutBehind (λ bs. (b : Broken) × (bs ≡ b ∷ []) × IsToldOfText (codes "App.Formulas") source end b) old new → IsPutBehind (AreNamedAt f source) cs cs old new
 put_unnamed f source end cs old new ends h =
     record {
       cells = [];

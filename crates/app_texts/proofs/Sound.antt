@@ -19,10 +19,10 @@ use Rattle.app_file.specs.FormOfApp.{app_form}
 use Rattle.app_file.specs.Forms.{IsFine}
 use Rattle.app_file.specs.Files.{IsRead, IsReadOf, too_long, no_json, json, bad_part, passed, app}
 use Rattle.app_file.specs.Limits as whole
-use Rattle.app_file.specs.Limits.{bytes_of, controls_in, counted, counts_of, first_passed, limits, most_of, passed_of}
+use Rattle.app_file.specs.Limits.{utf8_length, controls_in, first_limit_passed, counts_of, first_passed, limits, most_allowed, passed_of}
 use Rattle.app_cells.specs.declared.cell.Spot.TheVariants as spot
 use Rattle.app_texts.specs.declared.file_texts.Text.{Text}
-use Rattle.app_texts.specs.Files.{IsSound, ReadIsSound, control_of, control_texts, controls_from, is_written, property_texts, screen_texts, text_at, texts_of}
+use Rattle.app_texts.specs.Files.{IsSoundFile, ReadIsSound, control_of, texts_of_controls, controls_from, is_written, property_texts, texts_of_screens, text_of_spot, formula_texts}
 use Rattle.app_texts.proofs.Formed.{HasTypes, galleries_right, properties_right, tables_typed}
 use Rattle.app_texts.proofs.TextSteps.{count, counts}
 
@@ -31,7 +31,7 @@ abbrev AreKept : List Limit → AppFile → Type 0
 AreKept [] a = Unit {0}
 AreKept (l ∷ ls) a = (passed_of a l ≡ None) × AreKept ls a
 
-none_counted : (l : Limit) (o : Option ℕ) (more : Option (Limit × ℕ)) → counted l o more ≡ None → (o ≡ None) × (more ≡ None)
+none_counted : (l : Limit) (o : Option ℕ) (more : Option (Limit × ℕ)) → first_limit_passed l o more ≡ None → (o ≡ None) × (more ≡ None)
 none_counted l None more e = (refl, e)
 none_counted l (Some n) more e = absurd cc
 
@@ -64,50 +64,50 @@ one m n e = All-head (λ k. k ≤ m) n [] (none_found m (n ∷ []) e)
 abbrev text_in : Text → List ℕ
 text_in t = t.text
 
-property_texts_are : (k : ℕ) (ps : List PropertyText) → map text_in (map (λ (p : PropertyText). text_at (spot.Property k p.name) p.text) ps) ≡ map (λ (p : PropertyText). p.text) ps
+property_texts_are : (k : ℕ) (ps : List PropertyText) → map text_in (map (λ (p : PropertyText). text_of_spot (spot.Property k p.name) p.text) ps) ≡ map (λ (p : PropertyText). p.text) ps
 property_texts_are k [] = refl
 property_texts_are k (p ∷ ps) = ap (λ ts. p.text ∷ ts) (property_texts_are k ps)
 
-control_texts_are : (k : ℕ) (cs : List ControlShape) → map text_in (control_texts k cs) ≡ flat_map whole.control_texts cs
+control_texts_are : (k : ℕ) (cs : List ControlShape) → map text_in (texts_of_controls k cs) ≡ flat_map whole.control_texts cs
 control_texts_are k [] = refl
 control_texts_are k (c ∷ cs) =
-    map-append text_in (property_texts k c) (control_texts (suc k) cs)
-    ∙ ap (λ ts. ts ++ map text_in (control_texts (suc k) cs)) (property_texts_are k c.properties)
+    map-append text_in (property_texts k c) (texts_of_controls (suc k) cs)
+    ∙ ap (λ ts. ts ++ map text_in (texts_of_controls (suc k) cs)) (property_texts_are k c.properties)
     ∙ ap (λ ts. whole.control_texts c ++ ts) (control_texts_are (suc k) cs)
 
-screen_texts_are : (s k : ℕ) (ss : List ScreenShape) → map text_in (screen_texts s k ss) ≡ flat_map whole.screen_texts ss
+screen_texts_are : (s k : ℕ) (ss : List ScreenShape) → map text_in (texts_of_screens s k ss) ≡ flat_map whole.screen_texts ss
 screen_texts_are s k [] = refl
 screen_texts_are s k (x ∷ xs) =
-    let more = screen_texts (suc s) (k + length x.controls) xs in
-    ap (λ ts. x.on_visible ∷ ts) (map-append text_in (control_texts k x.controls) more
+    let more = texts_of_screens (suc s) (k + length x.controls) xs in
+    ap (λ ts. x.on_visible ∷ ts) (map-append text_in (texts_of_controls k x.controls) more
     ∙ ap (λ ts. ts ++ map text_in more) (control_texts_are k x.controls)
     ∙ ap (λ ts. flat_map whole.control_texts x.controls ++ ts) (screen_texts_are (suc s) (k + length x.controls) xs))
 
 abbrev unchosen : AppFile → List Text
-unchosen a = text_at spot.OnStart a.on_start ∷ screen_texts 0 0 a.screens
+unchosen a = text_of_spot spot.OnStart a.on_start ∷ texts_of_screens 0 0 a.screens
 
 texts_are : (a : AppFile) → map text_in (unchosen a) ≡ whole.texts_of a
 texts_are a = ap (λ ts. a.on_start ∷ ts) (screen_texts_are 0 0 a.screens)
 
-short_texts : (a : AppFile) → passed_of a limit.Formula ≡ None → All (λ (t : Text). length (encode_utf8_all t.text) < 2 ^ 32) (texts_of a)
+short_texts : (a : AppFile) → passed_of a limit.Formula ≡ None → All (λ (t : Text). length (encode_utf8_all t.text) < 2 ^ 32) (formula_texts a)
 short_texts a e =
-    let counted = unmapped bytes_of (λ n. n ≤ 8192) (whole.texts_of a) (none_found 8192 (map bytes_of (whole.texts_of a)) e) in
-    let here = unmapped text_in (λ t. bytes_of t ≤ 8192) (unchosen a) (subst (All (λ t. bytes_of t ≤ 8192)) (sym (texts_are a)) counted) in
+    let counted = unmapped utf8_length (λ n. n ≤ 8192) (whole.texts_of a) (none_found 8192 (map utf8_length (whole.texts_of a)) e) in
+    let here = unmapped text_in (λ t. utf8_length t ≤ 8192) (unchosen a) (subst (All (λ t. utf8_length t ≤ 8192)) (sym (texts_are a)) counted) in
     All-filter is_written (λ (t : Text). length (encode_utf8_all t.text) < 2 ^ 32) (unchosen a)
-    (All-weaker (λ (t : Text). bytes_of t.text ≤ 8192) (λ (t : Text). length (encode_utf8_all t.text) < 2 ^ 32) (λ t l. omega (arith, l)) (unchosen a) here)
+    (All-weaker (λ (t : Text). utf8_length t.text ≤ 8192) (λ (t : Text). length (encode_utf8_all t.text) < 2 ^ 32) (λ t l. omega (arith, l)) (unchosen a) here)
 
 -- ---- the controls are those that are counted
 controls_are : (ss : List ScreenShape) → length (flat_map (λ (s : ScreenShape). s.controls) ss) ≡ count ss
 controls_are [] = refl
 controls_are (s ∷ ss) = length-append s.controls (flat_map (λ (x : ScreenShape). x.controls) ss) ∙ ap (λ n. length s.controls + n) (controls_are ss)
 
-sound : (d : Data) → IsFine app_form d → first_passed limits (app_of d) ≡ None → IsSound (app_of d)
+sound : (d : Data) → IsFine app_form d → first_passed limits (app_of d) ≡ None → IsSoundFile (app_of d)
 sound d fine e =
     let a = app_of d in
     let kept = all_kept limits a e in
     let columns = unmapped (λ (t : TableShape). length t.columns) (λ n. n ≤ 63) a.schema.tables (none_found 63 (map (λ (t : TableShape). length t.columns) a.schema.tables) kept.1.1.1.1.1.1.0) in
     let types = tables_typed d fine in
-    let named = one 262144 (bytes_of a.formulas) kept.1.0 in
+    let named = one 262144 (utf8_length a.formulas) kept.1.0 in
     let controls = one 500 (length (controls_in a)) kept.1.1.1.1.0 in
     record {
       few_tables = one 32 (length a.schema.tables) kept.1.1.1.1.1.0;
@@ -120,12 +120,12 @@ sound d fine e =
       named = omega (arith, named);
     }
 
-sound_root : (root : Data) (v : Result AppFile FileBreak) (a : AppFile) → v ≡ Ok a → IsReadOf root v → IsSound a
+sound_root : (root : Data) (v : Result AppFile FileBreak) (a : AppFile) → v ≡ Ok a → IsReadOf root v → IsSoundFile a
 sound_root root _ a e (bad_part _ path bad) = absurd cc
 sound_root root _ a e (passed _ l n fine f) = absurd cc
-sound_root root _ a e (app _ fine f) = let same : app_of root ≡ a = cc in subst IsSound same (sound root fine f)
+sound_root root _ a e (app _ fine f) = let same : app_of root ≡ a = cc in subst IsSoundFile same (sound root fine f)
 
-sound_file : (file : List ℕ) (v : Result AppFile FileBreak) (a : AppFile) → v ≡ Ok a → IsRead file v → IsSound a
+sound_file : (file : List ℕ) (v : Result AppFile FileBreak) (a : AppFile) → v ≡ Ok a → IsRead file v → IsSoundFile a
 sound_file file _ a e (too_long _ l) = absurd cc
 sound_file file _ a e (no_json _ l h) = absurd cc
 sound_file file v a e (json _ root _ h r) = sound_root root v a e r

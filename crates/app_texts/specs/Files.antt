@@ -14,7 +14,7 @@ use Rattle.app_file.specs.Files.{IsRead}
 use Rattle.app_cells.specs.declared.cell.Spot.{Spot}
 use Rattle.app_cells.specs.declared.cell.Spot.TheVariants as spot
 use Rattle.app_cells.specs.declared.frame.Frame.{Frame}
-use Rattle.app_cells.specs.Spots.{IsTable}
+use Rattle.app_cells.specs.Spots.{IsTableInLimits}
 use Rattle.app_texts.specs.declared.file_texts.Text.{Text}
 
 -- the controls of a screen, of which the first has this number among the controls of all screens
@@ -38,49 +38,49 @@ screen_names ss = map (λ (s : ScreenShape). s.name) ss
 abbrev pub frame_by : Schema → ℕ → List ScreenShape → Frame
 frame_by s limit ss = record { schema = s; limit = limit; screens = screen_names ss; controls = controls_from 0 0 ss }
 
-abbrev pub frame_of : AppFile → Frame
-frame_of a = frame_by a.schema a.row_limit a.screens
+abbrev pub file_frame : AppFile → Frame
+file_frame a = frame_by a.schema a.row_limit a.screens
 
-abbrev pub text_at : Spot → List ℕ → Text
-text_at s t = record { spot = s; text = t }
+abbrev pub text_of_spot : Spot → List ℕ → Text
+text_of_spot s t = record { spot = s; text = t }
 
 -- the texts of a control's properties, and those of controls that are numbered from this number on
 abbrev pub property_texts : ℕ → ControlShape → List Text
-property_texts number c = map (λ (p : PropertyText). text_at (spot.Property number p.name) p.text) c.properties
+property_texts number c = map (λ (p : PropertyText). text_of_spot (spot.Property number p.name) p.text) c.properties
 
-abbrev pub control_texts : ℕ → List ControlShape → List Text
-control_texts number [] = []
-control_texts number (c ∷ cs) = property_texts number c ++ control_texts (suc number) cs
+abbrev pub texts_of_controls : ℕ → List ControlShape → List Text
+texts_of_controls number [] = []
+texts_of_controls number (c ∷ cs) = property_texts number c ++ texts_of_controls (suc number) cs
 
 -- for each screen what runs when it is shown, and the properties of its controls
-abbrev pub screen_texts : ℕ → ℕ → List ScreenShape → List Text
-screen_texts screen first [] = []
-screen_texts screen first (s ∷ ss) =
-    text_at (spot.OnVisible screen) s.on_visible ∷ (control_texts first s.controls ++ screen_texts (suc screen) (first + length s.controls) ss)
+abbrev pub texts_of_screens : ℕ → ℕ → List ScreenShape → List Text
+texts_of_screens screen first [] = []
+texts_of_screens screen first (s ∷ ss) =
+    text_of_spot (spot.OnVisible screen) s.on_visible ∷ (texts_of_controls first s.controls ++ texts_of_screens (suc screen) (first + length s.controls) ss)
 
 -- an empty text is no formula
-abbrev pub is_empty : List ℕ → Bool
-is_empty [] = true
-is_empty (c ∷ cs) = false
+abbrev pub is_empty_text : List ℕ → Bool
+is_empty_text [] = true
+is_empty_text (c ∷ cs) = false
 
 abbrev pub is_written : Text → Bool
-is_written t = not (is_empty (encode_utf8_all t.text))
+is_written t = not (is_empty_text (encode_utf8_all t.text))
 
 -- THE FORMULAS THAT A FILE HAS BESIDE ITS NAMED ONES, in the order of the app
-abbrev pub texts_of : AppFile → List Text
-texts_of a = filter is_written (text_at spot.OnStart a.on_start ∷ screen_texts 0 0 a.screens)
+abbrev pub formula_texts : AppFile → List Text
+formula_texts a = filter is_written (text_of_spot spot.OnStart a.on_start ∷ texts_of_screens 0 0 a.screens)
 
 -- a gallery's place is that of a gallery
 abbrev pub IsGalleryShape : Option ControlShape → Type 0
 IsGalleryShape (Some c) = c.kind ≡ control.Gallery
 IsGalleryShape None = ⊥
 
-abbrev pub IsGalleryAt : List ControlShape → Option ℕ → Type 0
-IsGalleryAt cs (Some g) = IsGalleryShape (slice_get cs g)
-IsGalleryAt cs None = Unit {0}
+abbrev pub IsGalleryShapeAt : List ControlShape → Option ℕ → Type 0
+IsGalleryShapeAt cs (Some g) = IsGalleryShape (slice_get cs g)
+IsGalleryShapeAt cs None = Unit {0}
 
 abbrev pub HasGalleries : ScreenShape → Type 0
-HasGalleries s = All (λ (c : ControlShape). IsGalleryAt s.controls c.gallery) s.controls
+HasGalleries s = All (λ (c : ControlShape). IsGalleryShapeAt s.controls c.gallery) s.controls
 
 -- each property is one of its control's kind
 abbrev pub HasProperties : ScreenShape → Type 0
@@ -88,15 +88,15 @@ HasProperties s = All (λ (c : ControlShape). All (λ (p : PropertyText). has_pr
 
 -- What a file has once it is read: so many tables, columns, screens and controls, columns of such types, galleries and
 -- properties that are some, and texts of fewer than 2^32 bytes.
-pub record IsSound (a : AppFile) : Type 0 where
+pub record IsSoundFile (a : AppFile) : Type 0 where
   pub few_tables : length a.schema.tables ≤ 32
-  pub tables : All IsTable a.schema.tables
+  pub tables : All IsTableInLimits a.schema.tables
   pub few_screens : length a.screens ≤ 64
   pub few_controls : length (controls_from 0 0 a.screens) ≤ 500
   pub galleries : All HasGalleries a.screens
   pub properties : All HasProperties a.screens
-  pub texts : All (λ (t : Text). length (encode_utf8_all t.text) < 2 ^ 32) (texts_of a)
+  pub texts : All (λ (t : Text). length (encode_utf8_all t.text) < 2 ^ 32) (formula_texts a)
   pub named : length (encode_utf8_all a.formulas) < 2 ^ 32
 
 abbrev pub ReadIsSound : Type 0
-ReadIsSound = (file : List ℕ) (a : AppFile) → IsRead file (Ok a) → IsSound a
+ReadIsSound = (file : List ℕ) (a : AppFile) → IsRead file (Ok a) → IsSoundFile a

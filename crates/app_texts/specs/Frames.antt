@@ -12,9 +12,9 @@ abbrev pub without_items : ControlName → ControlName
 without_items c = record c { items = ty.Blank }
 
 -- what it has beside its formulas
-abbrev pub frame_of : App → Frame
-frame_of a = record { schema = a.names.schema; limit = a.limit; screens = a.names.screens; controls = map without_items a.names.controls }
+abbrev pub app_frame : App → Frame
+app_frame a = record { schema = a.names.schema; limit = a.limit; screens = a.names.screens; controls = map without_items a.names.controls }
 
 -- its formulas, as they are written
-abbrev pub written : App → List Cell
-written a = map (λ (i : CellInfo). i.cell) a.cells
+abbrev pub written_texts : App → List Cell
+written_texts a = map (λ (i : CellInfo). i.cell) a.cells

@@ -10,7 +10,7 @@ use Rattle.app_cells.specs.declared.cell.Spot.{Spot}
 use Rattle.app_cells.specs.declared.cell.Spot.TheVariants as spot
 use Rattle.app_cells.specs.declared.frame.Frame.{Frame}
 use Rattle.app_cells.specs.Spots.{address}
-use Rattle.app_texts.specs.Frames.{frame_of}
+use Rattle.app_texts.specs.Frames.{app_frame}
 
 -- a named formula stands where it is written
 abbrev pub named_spot : Spot → List Spot
@@ -36,19 +36,19 @@ abbrev pub spots_in : Frame → List CellInfo → List Spot
 spots_in f is = flat_map (λ (i : CellInfo). named_spot i.cell.spot) is ++ spot.OnStart ∷ screen_spots f.controls 0 f.screens
 
 abbrev pub spots : App → List Spot
-spots a = spots_in (frame_of a) a.cells
+spots a = spots_in (app_frame a) a.cells
 
 -- two places are the same
-abbrev pub is_same : Spot → Spot → Bool
-is_same (spot.Formula x) (spot.Formula y) = bytes_eq y x
-is_same spot.OnStart spot.OnStart = true
-is_same (spot.OnVisible s) (spot.OnVisible r) = nat_eq r s
-is_same (spot.Property k p) (spot.Property j q) = nat_eq j k && bytes_eq q p
-is_same s r = false
+abbrev pub is_same_spot : Spot → Spot → Bool
+is_same_spot (spot.Formula x) (spot.Formula y) = bytes_eq y x
+is_same_spot spot.OnStart spot.OnStart = true
+is_same_spot (spot.OnVisible s) (spot.OnVisible r) = nat_eq r s
+is_same_spot (spot.Property k p) (spot.Property j q) = nat_eq j k && bytes_eq q p
+is_same_spot s r = false
 
 abbrev pub has_address : Frame → List ℕ → Spot → Bool
 has_address f x s = bytes_eq (address f s) x
 
 -- the place that an address names
 abbrev pub spot_of : App → List ℕ → Option Spot
-spot_of a x = find (has_address (frame_of a) x) (spots a)
+spot_of a x = find (has_address (app_frame a) x) (spots a)

@@ -10,10 +10,10 @@ use Rattle.app_cells.specs.declared.cell.Cell.{Cell}
 use Rattle.app_cells.specs.declared.frame.Frame.{Frame}
 use Rattle.app_cells.specs.Spots.{IsSpot}
 use Rattle.app_texts.specs.declared.file_texts.Text.{Text}
-use Rattle.app_texts.specs.Texts.{first_at}
+use Rattle.app_texts.specs.Texts.{first_token_at}
 
 -- things of which this holds are put behind others
-pub record IsPut {A : Type 0} (R : List A → Type 0) (old new : List A) : Type 0 where
+pub record ArePutBehind {A : Type 0} (R : List A → Type 0) (old new : List A) : Type 0 where
   pub more : List A
   pub behind : new ≡ old ++ more
   pub holds : R more
@@ -42,4 +42,4 @@ abbrev pub HasSomeTree : List ℕ → Type 0
 HasSomeTree source = (t : Tree) × HasTree 64 (chars source) t
 
 abbrev pub BeginsAt : List ℕ → ℕ → Type 0
-BeginsAt source at = (ts : List Token) × Lexed (chars source) ts × (at ≡ first_at ts)
+BeginsAt source at = (ts : List Token) × Lexed (chars source) ts × (at ≡ first_token_at ts)

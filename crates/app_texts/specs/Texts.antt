@@ -25,33 +25,33 @@ use Rattle.app_cells.specs.declared.cell.Spot.TheVariants as spot
 use Rattle.app_cells.specs.declared.frame.Frame.{Frame}
 use Rattle.app_cells.specs.Spots.{IsCell, address}
 use Rattle.app_texts.specs.declared.file_texts.Text.{Text}
-use Rattle.app_texts.specs.Files.{frame_of, texts_of}
+use Rattle.app_texts.specs.Files.{file_frame, formula_texts}
 
 -- a rule that a text breaks, of which this cell is told, counted from the text's start
 abbrev pub in_text : List ℕ → Rule → ℕ → List ℕ → Broken
 in_text cell r at detail = record { cell = cell; rule = r; at = at; detail = detail }
 
 -- what is told of a text that has no tree: a bad token, tokens that are none of its kind, or ones that are too deep
-abbrev pub IsTold : List ℕ → List ℕ → ParseEnd → Broken → Type 0
-IsTold cell source (Lex bad) b = b ≡ in_text cell rule.BadToken bad.at (bad_token_words bad.what)
-IsTold cell source (Syntax at) b = (ts : List Token) → Lexed (chars source) ts → b ≡ in_text cell rule.Syntax at (unexpected_words source at ts)
-IsTold cell source (TooDeep at) b = b ≡ in_text cell rule.TooDeep at (codes "deeper than 64")
-IsTold cell source Memory b = ⊥
+abbrev pub IsToldOfText : List ℕ → List ℕ → ParseEnd → Broken → Type 0
+IsToldOfText cell source (Lex bad) b = b ≡ in_text cell rule.BadToken bad.at (bad_token_words bad.what)
+IsToldOfText cell source (Syntax at) b = (ts : List Token) → Lexed (chars source) ts → b ≡ in_text cell rule.Syntax at (unexpected_words source at ts)
+IsToldOfText cell source (TooDeep at) b = b ≡ in_text cell rule.TooDeep at (codes "deeper than 64")
+IsToldOfText cell source Memory b = ⊥
 
 -- this is why a text is none of its kind, and what is told of it
-pub record IsUnread (Ends : List ℕ → ParseEnd → Type 0) (cell source : List ℕ) (b : Broken) : Type 0 where
+pub record IsUnparsed (Ends : List ℕ → ParseEnd → Type 0) (cell source : List ℕ) (b : Broken) : Type 0 where
   pub end : ParseEnd
   pub ends : Ends source end
-  pub told : IsTold cell source end b
+  pub told : IsToldOfText cell source end b
 
 -- where the first of these tokens begins
-abbrev pub first_at : List Token → ℕ
-first_at [] = 0
-first_at (t ∷ ts) = t.at
+abbrev pub first_token_at : List Token → ℕ
+first_token_at [] = 0
+first_token_at (t ∷ ts) = t.at
 
 -- Where positions of a formula are told from: the start of its text, and for a named formula its first token.
 abbrev pub IsStart : Spot → List ℕ → ℕ → Type 0
-IsStart (spot.Formula x) source at = (ts : List Token) × Lexed (chars source) ts × (at ≡ first_at ts)
+IsStart (spot.Formula x) source at = (ts : List Token) × Lexed (chars source) ts × (at ≡ first_token_at ts)
 IsStart s source at = at ≡ 0
 
 -- the formula of a text that stands by itself
@@ -64,7 +64,7 @@ pub record IsReadAt (f : Frame) (s : Spot) (text : List ℕ) (c : Cell) : Type 0
 
 -- what is broken of it
 abbrev pub IsUnreadAt : Frame → Spot → List ℕ → Broken → Type 0
-IsUnreadAt f s text b = IsUnread IsFormulaEnd (address f s) (encode_utf8_all text) b
+IsUnreadAt f s text b = IsUnparsed IsFormulaEnd (address f s) (encode_utf8_all text) b
 
 -- Texts in order: these are the formulas of those that are some, and these the breaks of the others.
 abbrev pub AreReadAt : Frame → List Text → List Cell → List Broken → Type 0
@@ -85,7 +85,7 @@ AreNamedCells f (n ∷ ns) cs = (c : Cell) × (more : List Cell) × (cs ≡ c �
 abbrev pub AreNamedAt : Frame → List ℕ → List Cell → List Broken → Type 0
 AreNamedAt f source cs bs =
     ((ns : List Named) × IsNamedText 64 source ns × AreNamedCells f ns cs × (bs ≡ []))
-    ⊎ ((b : Broken) × IsUnread AreNamedEnd (codes "App.Formulas") source b × (cs ≡ []) × (bs ≡ b ∷ []))
+    ⊎ ((b : Broken) × IsUnparsed AreNamedEnd (codes "App.Formulas") source b × (cs ≡ []) × (bs ≡ b ∷ []))
 
 -- THE FORMULAS OF AN APP FILE, and its breaks: the named ones first, and then the others in the order of the app.
 pub record AreFormulasOf (a : AppFile) (f : Frame) (cs : List Cell) (bs : List Broken) : Type 0 where
@@ -94,23 +94,23 @@ pub record AreFormulasOf (a : AppFile) (f : Frame) (cs : List Cell) (bs : List B
   pub named : AreNamedAt f (encode_utf8_all a.formulas) named_cells named_breaks
   pub other_cells : List Cell
   pub other_breaks : List Broken
-  pub others : AreReadAt f (texts_of a) other_cells other_breaks
+  pub others : AreReadAt f (formula_texts a) other_cells other_breaks
   pub cells : cs ≡ named_cells ++ other_cells
   pub breaks : bs ≡ named_breaks ++ other_breaks
 
 -- WHAT IS READ OF A FILE: its formulas beside its frame, or the breaks of its texts.
 pub data IsReading (a : AppFile) : Result (Frame × List Cell) (List Broken) → Type 0 where
-  formulas : (cs : List Cell) → AreFormulasOf a (frame_of a) cs [] → IsReading a (Ok (frame_of a, cs))
-  broken : (cs : List Cell) (b : Broken) (bs : List Broken) → AreFormulasOf a (frame_of a) cs (b ∷ bs) → IsReading a (Err (b ∷ bs))
+  formulas : (cs : List Cell) → AreFormulasOf a (file_frame a) cs [] → IsReading a (Ok (file_frame a, cs))
+  broken : (cs : List Cell) (b : Broken) (bs : List Broken) → AreFormulasOf a (file_frame a) cs (b ∷ bs) → IsReading a (Err (b ∷ bs))
 
 -- an app without tables and screens, and the row limit of one of which nothing else is said
-abbrev pub bare : Frame
-bare = record { schema = record { tables = [] }; limit = 500; screens = []; controls = [] }
+abbrev pub bare_frame : Frame
+bare_frame = record { schema = record { tables = [] }; limit = 500; screens = []; controls = [] }
 
 -- the same of a text of named formulas alone
 pub data IsNamedReading (source : List ℕ) : Result (Frame × List Cell) (List Broken) → Type 0 where
-  named_formulas : (cs : List Cell) → AreNamedAt bare source cs [] → IsNamedReading source (Ok (bare, cs))
-  named_broken : (cs : List Cell) (b : Broken) (bs : List Broken) → AreNamedAt bare source cs (b ∷ bs) → IsNamedReading source (Err (b ∷ bs))
+  named_formulas : (cs : List Cell) → AreNamedAt bare_frame source cs [] → IsNamedReading source (Ok (bare_frame, cs))
+  named_broken : (cs : List Cell) (b : Broken) (bs : List Broken) → AreNamedAt bare_frame source cs (b ∷ bs) → IsNamedReading source (Err (b ∷ bs))
 
 -- an end tells of this; of want of memory nothing is said
 abbrev pub TellsBreak : (Broken → Type 0) → OrMemory Broken → Type 0

@@ -86,7 +86,7 @@ fn controls_of(alloc: Global, controls: &[ControlName]) -> Result<ControlList, M
 
 /// What an app has beside its formulas.
 pub fn frame_of(alloc: Global, app: &App) -> Result<Frame, Memory>
-    ensures { IfOk result (λ f. f ≡ frames.frame_of app.now) }
+    ensures { IfOk result (λ f. f ≡ frames.app_frame app.now) }
 {
     let tables = copy_tables(alloc, app.names.schema.tables.as_slice())?;
     Ok(Frame {

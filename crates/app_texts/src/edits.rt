@@ -5,8 +5,8 @@ ghost use Rattle.app_cells.specs.Spots.{IsFrame, IsPlaced, IsSpot};
 ghost use Rattle.app_cells.specs.declared.app.CellInfo.{CellInfo as Info};
 ghost use Rattle.app_texts.specs.Texts.{TellsBreak};
 ghost use Rattle.app_texts.specs.Edits as edits;
-ghost use Rattle.app_texts.specs.Edits.{IsEdited, IsFormula, IsGiven};
-ghost use Rattle.app_texts.specs.Frames.{frame_of, written};
+ghost use Rattle.app_texts.specs.Edits.{IsEdited, IsFormulaAt, TextGives};
+ghost use Rattle.app_texts.specs.Frames.{app_frame, written_texts};
 ghost use Rattle.app_texts.specs.Numbers.{AreNumbers};
 
 use crate::copies::{copy_cell, copy_spot, frame_of};
@@ -23,7 +23,7 @@ use std::collections::BTreeMap;
 
 // Whether a place is a named formula's.
 fn is_named(spot: &Spot) -> bool
-    ensures { result ≡ edits.is_named spot.now }
+    ensures { result ≡ edits.is_named_formula spot.now }
 {
     matches!(spot, Spot::Formula(_))
 }
@@ -48,9 +48,9 @@ fn read_cell(
     text: &Words,
 ) -> Result<Option<Cell>, OrMemory<Broken>>
     requires spot { IsSpot frame.now spot.now }
-    requires formula { IsFormula spot.now text.now }
-    ensures given { IfOk result (λ o. IsGiven frame.now spot.now text.now (Ok o)) }
-    ensures unread { IfErr result (TellsBreak (λ b. IsGiven frame.now spot.now text.now (Err b))) }
+    requires formula { IsFormulaAt spot.now text.now }
+    ensures given { IfOk result (λ o. TextGives frame.now spot.now text.now (Ok o)) }
+    ensures unread { IfErr result (TellsBreak (λ b. TextGives frame.now spot.now text.now (Err b))) }
 {
     // So long a text has no room beside its tokens.
     if u32::try_from(text.as_str().len()).is_err() {
@@ -70,8 +70,8 @@ fn given_cell(
     text: &Words,
 ) -> Result<Option<Cell>, OrMemory<Broken>>
     requires { IsSpot frame.now spot.now }
-    ensures given { IfOk result (λ o. IsGiven frame.now spot.now text.now (Ok o)) }
-    ensures broken { IfErr result (TellsBreak (λ b. IsGiven frame.now spot.now text.now (Err b))) }
+    ensures given { IfOk result (λ o. TextGives frame.now spot.now text.now (Ok o)) }
+    ensures broken { IfErr result (TellsBreak (λ b. TextGives frame.now spot.now text.now (Err b))) }
 {
     let count = text.as_str().len();
     if is_named(spot) {
@@ -107,7 +107,7 @@ fn standing_at<'a>(
     here: &Spot,
 ) -> Result<Option<&'a Cell>, Memory>
     requires { AreNumbers numbers.now cells.now }
-    ensures { IfOk result (λ o. option_map (λ c. c.now) o ≡ edits.standing (map (λ (i : Info). i.cell) cells.now) spot.now given.now here.now) }
+    ensures { IfOk result (λ o. option_map (λ c. c.now) o ≡ edits.edited_cell (map (λ (i : Info). i.cell) cells.now) spot.now given.now here.now) }
 {
     if is_same(here, spot) {
         return Ok(given.as_ref());
@@ -123,7 +123,7 @@ fn standing_cells(
     spot: &Spot,
     given: &Option<Cell>,
 ) -> Result<Vec<Cell>, Memory>
-    ensures { IfOk result (λ v. v.items ≡ filter_map (edits.standing (map (λ (i : Info). i.cell) cells.now) spot.now given.now) spots.now) }
+    ensures { IfOk result (λ v. v.items ≡ filter_map (edits.edited_cell (map (λ (i : Info). i.cell) cells.now) spot.now given.now) spots.now) }
 {
     let numbers = numbers_of(alloc, cells)?;
     let mut standing = Vec::new(alloc);
@@ -143,11 +143,11 @@ pub fn edit_cells(
     address: &Words,
     text: &Words,
 ) -> Result<(Frame, Vec<Cell>), OrMemory<Broken>>
-    requires frame { IsFrame (frame_of app.now) }
-    requires placed { All (IsPlaced (frame_of app.now)) (written app.now) }
+    requires frame { IsFrame (app_frame app.now) }
+    requires placed { All (IsPlaced (app_frame app.now)) (written_texts app.now) }
     ensures cells { IfOk result (λ r. IsEdited app.now address.now text.now (Ok r.1.items)) }
-    ensures frame { IfOk result (λ r. r.0 ≡ frame_of app.now) }
-    ensures placed { IfOk result (λ r. All (IsPlaced (frame_of app.now)) r.1.items) }
+    ensures frame { IfOk result (λ r. r.0 ≡ app_frame app.now) }
+    ensures placed { IfOk result (λ r. All (IsPlaced (app_frame app.now)) r.1.items) }
     ensures broken { IfErr result (TellsBreak (λ b. IsEdited app.now address.now text.now (Err b))) }
 {
     let frame = frame_of(alloc, app)?;

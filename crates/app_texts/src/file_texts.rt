@@ -2,7 +2,7 @@
 ghost use Rattle.std.specs.Prelude.{◌≡◌, ◌≤◌, ◌+◌, ◌++◌, ◌∷◌, [], IfOk, OnOk, encode_utf8_all, length};
 ghost use Rattle.std.specs.List.{filter};
 ghost use Rattle.app_texts.specs.Files as files;
-ghost use Rattle.app_texts.specs.Files.{IsSound, texts_of};
+ghost use Rattle.app_texts.specs.Files.{IsSoundFile, formula_texts};
 
 use app_cells::Spot;
 use app_file::{AppFile, ControlShape, ScreenShape};
@@ -18,14 +18,14 @@ pub struct Text {
 }
 
 fn is_empty(text: &Words) -> bool
-    ensures { result ≡ files.is_empty (encode_utf8_all text.now) }
+    ensures { result ≡ files.is_empty_text (encode_utf8_all text.now) }
 {
     text.as_str().is_empty()
 }
 
 // Adds a text, if it is a formula's.
 fn put_text(alloc: Global, spot: Spot, text: &Words, texts: &mut Vec<Text>) -> Result<(), Memory>
-    ensures { OnOk result (texts.new.items ≡ texts.old.items ++ filter files.is_written (files.text_at spot text.now ∷ [])) }
+    ensures { OnOk result (texts.new.items ≡ texts.old.items ++ filter files.is_written (files.text_of_spot spot text.now ∷ [])) }
 {
     if !is_empty(text) {
         let text = text.copy(alloc)?;
@@ -58,7 +58,7 @@ fn put_controls(
     texts: &mut Vec<Text>,
 ) -> Result<(), Memory>
     requires { first + length controls.now ≤ 500 }
-    ensures { OnOk result (texts.new.items ≡ texts.old.items ++ filter files.is_written (files.control_texts first controls.now)) }
+    ensures { OnOk result (texts.new.items ≡ texts.old.items ++ filter files.is_written (files.texts_of_controls first controls.now)) }
 {
     let mut number = first;
     for control in controls {
@@ -72,7 +72,7 @@ fn put_controls(
 fn put_screens(alloc: Global, screens: &[ScreenShape], texts: &mut Vec<Text>) -> Result<(), Memory>
     requires few { length screens.now ≤ 64 }
     requires few_controls { length (files.controls_from 0 0 screens.now) ≤ 500 }
-    ensures { OnOk result (texts.new.items ≡ texts.old.items ++ filter files.is_written (files.screen_texts 0 0 screens.now)) }
+    ensures { OnOk result (texts.new.items ≡ texts.old.items ++ filter files.is_written (files.texts_of_screens 0 0 screens.now)) }
 {
     let mut number = 0;
     let mut first = 0;
@@ -87,8 +87,8 @@ fn put_screens(alloc: Global, screens: &[ScreenShape], texts: &mut Vec<Text>) ->
 
 /// The texts of the formulas that a file has beside its named ones, in the order of the app.
 pub fn texts_of(alloc: Global, file: &AppFile) -> Result<Vec<Text>, Memory>
-    requires { IsSound file.now }
-    ensures { IfOk result (λ v. v.items ≡ texts_of file.now) }
+    requires { IsSoundFile file.now }
+    ensures { IfOk result (λ v. v.items ≡ formula_texts file.now) }
 {
     let mut texts = Vec::new(alloc);
     put_text(alloc, Spot::OnStart, &file.on_start, &mut texts)?;

@@ -43,7 +43,7 @@ fn put_controls(
     controls: &mut ControlList,
 ) -> Result<(), Memory>
     requires few { first + length shapes.now ≤ 500 }
-    requires galleries { All (λ (c : Shape). files.IsGalleryAt shapes.now c.gallery) shapes.now }
+    requires galleries { All (λ (c : Shape). files.IsGalleryShapeAt shapes.now c.gallery) shapes.now }
     ensures { OnOk result (controls.new ≡ controls.old ++ map (files.control_of screen first) shapes.now) }
 {
     for shape in shapes {

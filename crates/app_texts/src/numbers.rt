@@ -3,7 +3,7 @@ ghost use Rattle.std.specs.Prelude.{◌≡◌, IfOk, OnOk, map, option_map, slic
 ghost use Rattle.app_cells.specs.declared.app.CellInfo.{CellInfo as Info};
 ghost use Rattle.app_texts.specs.Edits as edits;
 ghost use Rattle.app_texts.specs.Numbers as numbers;
-ghost use Rattle.app_texts.specs.Numbers.{AreNumbers, IsNoted};
+ghost use Rattle.app_texts.specs.Numbers.{AreNumbers, IsNumberNoted};
 
 use app_cells::{Cell, CellInfo, Spot};
 use fx_base::Memory;
@@ -22,7 +22,7 @@ pub(crate) enum Place {
 
 // A place, in the order of places.
 fn place_of(alloc: Global, spot: &Spot) -> Result<Place, Memory>
-    ensures { IfOk result (λ p. p ≡ numbers.place_of spot.now) }
+    ensures { IfOk result (λ p. p ≡ numbers.spot_order spot.now) }
 {
     Ok(match spot {
         Spot::Formula(name) => Place::Formula(name.copy(alloc)?),
@@ -34,7 +34,7 @@ fn place_of(alloc: Global, spot: &Spot) -> Result<Place, Memory>
 
 // Notes the number of the formula at a place that has none.
 fn note(numbers: &mut BTreeMap<Place, usize>, place: Place, number: usize) -> Result<(), Memory>
-    ensures { OnOk result (IsNoted numbers.old numbers.new place number) }
+    ensures { OnOk result (IsNumberNoted numbers.old numbers.new place number) }
 {
     if !numbers.contains_key(&place) {
         numbers.insert(place, number)?;

@@ -102,7 +102,7 @@ pub fn spots_of(alloc: Global, frame: &Frame, cells: &[CellInfo]) -> Result<Vec<
 
 /// Whether two places are the same.
 pub(crate) fn is_same(one: &Spot, other: &Spot) -> bool
-    ensures { result ≡ places.is_same one.now other.now }
+    ensures { result ≡ places.is_same_spot one.now other.now }
 {
     match one {
         Spot::Formula(name) => match other {

@@ -2,9 +2,9 @@
 ghost use Rattle.std.specs.Prelude.{◌≡◌, ◌<◌, ◌^◌, ◌∷◌, [], All, Err, IfErr, IfOk, Ok, OnOk, codes, encode_utf8_all, length};
 ghost use Rattle.fx_core.specs.declared.broken.Broken.{Broken as Break};
 ghost use Rattle.app_cells.specs.Spots.{IsFrame, IsPlaced, IsSpot};
-ghost use Rattle.app_texts.specs.Files.{IsSound};
-ghost use Rattle.app_texts.specs.Texts.{AreNamedAt, AreNamedCells, AreReadAt, IsNamedCell, IsNamedReading, IsReadAt, IsReading, IsStart, IsTold, IsUnreadAt, TellsBreak, TellsBreaks, bare};
-ghost use Rattle.app_texts.specs.Steps.{AreReadable, BeginsAt, HasSomeTree, IsFilled, IsPut, IsPutBehind};
+ghost use Rattle.app_texts.specs.Files.{IsSoundFile};
+ghost use Rattle.app_texts.specs.Texts.{AreNamedAt, AreNamedCells, AreReadAt, IsNamedCell, IsNamedReading, IsReadAt, IsReading, IsStart, IsToldOfText, IsUnreadAt, TellsBreak, TellsBreaks, bare_frame};
+ghost use Rattle.app_texts.specs.Steps.{AreReadable, BeginsAt, HasSomeTree, IsFilled, ArePutBehind, IsPutBehind};
 
 use crate::file_texts::{Text, texts_of};
 use crate::frames::frame_of;
@@ -150,7 +150,7 @@ fn put_named(
     all: Vec<Named>,
     cells: &mut Vec<Cell>,
 ) -> Result<(), Memory>
-    ensures { OnOk result (IsPut (AreNamedCells frame.now all.items) cells.old.items cells.new.items) }
+    ensures { OnOk result (ArePutBehind (AreNamedCells frame.now all.items) cells.old.items cells.new.items) }
 {
     for named in all {
         cells.push(named_cell(alloc, frame, named)?)?;
@@ -166,7 +166,7 @@ fn put_unread(
     breaks: &mut Vec<Broken>,
 ) -> Result<(), Memory>
     requires { length source.now < 2 ^ 32 }
-    ensures { OnOk result (IsPut (λ bs. (b : Break) × (bs ≡ b ∷ []) × IsTold (codes "App.Formulas") source.now end b) breaks.old.items breaks.new.items) }
+    ensures { OnOk result (ArePutBehind (λ bs. (b : Break) × (bs ≡ b ∷ []) × IsToldOfText (codes "App.Formulas") source.now end b) breaks.old.items breaks.new.items) }
 {
     let cell = Words::of(alloc, "App.Formulas")?;
     match break_of_text(alloc, cell, source, end) {
@@ -194,7 +194,7 @@ fn unless_broken(
 /// The formulas of an app file and what it has beside them, or the breaks of its texts: of the text of named formulas, and
 /// of each other text, one break at most.
 pub fn read_texts(alloc: Global, file: AppFile) -> Result<(Frame, Vec<Cell>), AppEnd>
-    requires { IsSound file }
+    requires { IsSoundFile file }
     ensures formulas { IfOk result (λ r. IsReading file (Ok (r.0, r.1.items))) }
     ensures frame { IfOk result (λ r. IsFrame r.0) }
     ensures placed { IfOk result (λ r. All (IsPlaced r.0) r.1.items) }
@@ -218,7 +218,7 @@ pub fn read_texts(alloc: Global, file: AppFile) -> Result<(Frame, Vec<Cell>), Ap
 
 // An app without tables and screens.
 fn bare(alloc: Global) -> Frame
-    ensures { result ≡ bare }
+    ensures { result ≡ bare_frame }
 {
     Frame {
         schema: Schema {

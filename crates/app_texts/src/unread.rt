@@ -1,7 +1,7 @@
 //! Why a text is no formula.
 ghost use Rattle.std.specs.Prelude.{◌≡◌, ◌<◌, ◌^◌, length};
 ghost use Rattle.fx_types.specs.Words.{scalars_of};
-ghost use Rattle.app_texts.specs.Texts.{IsTold, TellsBreak, in_text};
+ghost use Rattle.app_texts.specs.Texts.{IsToldOfText, TellsBreak, in_text};
 
 use fx_base::{Memory, OrMemory};
 use fx_core::{Broken, Rule};
@@ -33,7 +33,7 @@ fn in_text(alloc: Global, cell: Words, rule: Rule, at: u32, detail: &str) -> OrM
 /// What is told of a text that has no tree, as this cell's.
 pub fn break_of_text(alloc: Global, cell: Words, source: &str, end: ParseEnd) -> OrMemory<Broken>
     requires { length source.now < 2 ^ 32 }
-    ensures { TellsBreak (IsTold cell source.now end) result }
+    ensures { TellsBreak (IsToldOfText cell source.now end) result }
 {
     match end {
         ParseEnd::Lex(bad) => in_text(alloc, cell, Rule::BadToken, bad.at, bad_token(bad.what)),

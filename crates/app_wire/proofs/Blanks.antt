@@ -4,7 +4,7 @@ use Rattle.std.specs.List.{ends_with}
 use Rattle.std.proofs.lemmas.Bool.Decides.{Decides-eqb}
 use Rattle.std.proofs.lemmas.Slice.Eq.{ends_is}
 use Rattle.std.proofs.lemmas.List.{take-append-le, length-append}
-use Rattle.app_wire.specs.Framing.{EndsBlank, HasNoBlank, IsFront, IsOpen}
+use Rattle.app_wire.specs.Framing.{EndsBlank, HasNoBlank, IsHeadEnd, IsStillOpen}
 
 -- what a test of the end says
 pub end_is : (p s : List ℕ) (r : Bool) → r ≡ ends_with nat_eq s p → (r ≡ true → (before : List ℕ) × (s ≡ before ++ p)) × ((before : List ℕ) → s ≡ before ++ p → r ≡ true)
@@ -28,10 +28,10 @@ pub none_within_none : (bytes : List ℕ) → HasNoBlank bytes 0
 none_within_none bytes k le = not_empty (take k bytes) (take_none bytes k le)
 
 -- a front has a byte
-pub front_some : (bytes : List ℕ) (n : ℕ) → IsFront bytes n → bytes ≡ [] → ⊥
+pub front_some : (bytes : List ℕ) (n : ℕ) → IsHeadEnd bytes n → bytes ≡ [] → ⊥
 front_some bytes n f e = not_empty (take n bytes) (take_none bytes n (omega (arith, f.within, ap length e))) f.blank
 
-pub front_byte : (bytes : List ℕ) (n : ℕ) → IsFront bytes n → 0 < length bytes
+pub front_byte : (bytes : List ℕ) (n : ℕ) → IsHeadEnd bytes n → 0 < length bytes
 front_byte [] n f = absurd (front_some [] n f refl)
 front_byte (b ∷ bytes) n f = omega arith
 
@@ -42,7 +42,7 @@ one_more bytes n none here k le =
     below_more (λ j. EndsBlank (take j bytes) → ⊥) (n + 1) earlier here k (omega arith)
 
 -- without a blank line in what came, and with room for more
-pub open_short : (bytes : List ℕ) → length bytes < 8192 → HasNoBlank bytes (min (length bytes) 8192) → IsOpen bytes
+pub open_short : (bytes : List ℕ) → length bytes < 8192 → HasNoBlank bytes (min (length bytes) 8192) → IsStillOpen bytes
 open_short [] short none = inl refl
 open_short (b ∷ bytes) short none = inr (refl, inl (record { some = omega arith; short = short; none = λ k le. none k (omega arith) }))
 
@@ -51,10 +51,10 @@ pub none_more : (bytes more : List ℕ) (n : ℕ) → n ≤ length bytes → Has
 none_more bytes more n le none k below =
     let h : k ≤ length bytes = omega arith in rw (take-append-le k bytes more h) (none k below)
 
-pub take_front : {bytes : List ℕ} (more : List ℕ) {n : ℕ} → IsFront bytes n → take n (bytes ++ more) ≡ take n bytes
+pub take_front : {bytes : List ℕ} (more : List ℕ) {n : ℕ} → IsHeadEnd bytes n → take n (bytes ++ more) ≡ take n bytes
 take_front {bytes} more {n} f = let h : n ≤ length bytes = f.within in take-append-le n bytes more h
 
-pub front_more : {bytes : List ℕ} (more : List ℕ) {n : ℕ} → IsFront bytes n → IsFront (bytes ++ more) n
+pub front_more : {bytes : List ℕ} (more : List ℕ) {n : ℕ} → IsHeadEnd bytes n → IsHeadEnd (bytes ++ more) n
 front_more {bytes} more {n} f = record {
   within = omega (arith, f.within, length-append bytes more);
   near = f.near;
@@ -63,7 +63,7 @@ front_more {bytes} more {n} f = record {
 }
 
 -- what fewer bytes leave
-pub front_less : (bytes more : List ℕ) (n : ℕ) → n ≤ length bytes → IsFront (bytes ++ more) n → IsFront bytes n
+pub front_less : (bytes more : List ℕ) (n : ℕ) → n ≤ length bytes → IsHeadEnd (bytes ++ more) n → IsHeadEnd bytes n
 front_less bytes more n le f = record {
   within = le;
   near = f.near;

@@ -3,7 +3,7 @@ use Rattle.std.proofs.Common.{◌≡◌, ℕ, ◌+◌, ◌-◌, ◌<◌, List, [
 use Rattle.std.proofs.lemmas.List.{append-nil, take-append-drop, take_all, length-drop}
 use Rattle.std.proofs.Math.Seq.{take-add}
 use Rattle.fx_base.specs.Telling.{Stays}
-use Rattle.app_wire.specs.Doorway.{Doorway, Takes, Talk, Writes, WritesPart, with_last, with_taken, with_written}
+use Rattle.app_wire.specs.Doorway.{Doorway, DoorsTake, Talk, Writes, WritesPart, with_last, with_taken, with_written}
 
 -- one change of the last talk after another
 pub last_join : (f g h : Talk → Talk) → ((t : Talk) → g (f t) ≡ h t) → (ts : List Talk) → with_last g (with_last f ts) ≡ with_last h ts
@@ -45,13 +45,13 @@ writes_join x y a b c h k =
     k ∙ ap (λ (d : Doorway). record d { begun = with_last (with_written y) d.begun }) h
     ∙ ap (λ (ts : List Talk). record a { begun = ts }) (last_join (with_written x) (with_written y) (with_written (x ++ y)) (written_join x y) a.begun)
 
-pub takes_none : (a : Doorway) → Takes [] a a
+pub takes_none : (a : Doorway) → DoorsTake [] a a
 takes_none a = record {
   front = refl;
   rest = ap (λ (ts : List Talk). record a { begun = ts }) (sym (last_same (with_taken []) taken_none a.begun));
 }
 
-pub takes_join : (x y : List ℕ) (a b c : Doorway) → Takes x a b → Takes y b c → Takes (x ++ y) a c
+pub takes_join : (x y : List ℕ) (a b c : Doorway) → DoorsTake x a b → DoorsTake y b c → DoorsTake (x ++ y) a c
 takes_join x y a b c h k = record {
   front = h.front ∙ ap (λ s. x ++ s) k.front ∙ sym (append_assoc x y c.unread);
   rest = k.rest ∙ ap (λ (d : Doorway). record d { unread = c.unread; begun = with_last (with_taken y) d.begun }) h.rest

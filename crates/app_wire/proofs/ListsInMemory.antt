@@ -1,7 +1,7 @@
 -- The lists that doors in memory keep.
 use Rattle.std.proofs.Common.{◌≡◌, ℕ, zero, suc, ◌+◌, ◌<◌, true, List, [], ◌∷◌, ◌++◌, length, map, get_or, slice_set, ap, sym, ◌∙◌, arith}
 use Rattle.std.specs.List.{remove}
-use Rattle.app_wire.specs.Doorway.{Comes, Doorway, Talk, fresh_talk, with_last}
+use Rattle.app_wire.specs.Doorway.{NextComes, Doorway, Talk, fresh_talk, with_last}
 
 -- the last talk, changed in its place
 pub set_last : (f : Talk → Talk) (ts : List Talk) (t d : Talk) (i : ℕ) → i + 1 ≡ length ts → t ≡ f (get_or ts i d) → slice_set ts i t ≡ with_last f ts
@@ -17,7 +17,7 @@ first_taken f [] rest first e h k = absurd (omega (arith, e))
 first_taken f (x ∷ xs) rest first e h k = ap (λ z. f z ∷ map f xs) (sym h) ∙ ap (λ z. f first ∷ map f z) (sym k)
 
 pub comes : (old : Doorway) (first : List ℕ) (rest : List (List ℕ)) (begun : List Talk) (a : Doorway) → old ≡ a → old.coming ≡ first ∷ rest → begun ≡ old.begun ++ fresh_talk ∷ []
-    → Comes true a (record { port = old.port; coming = rest; unread = first; begun = begun })
+    → NextComes true a (record { port = old.port; coming = rest; unread = first; begun = begun })
 comes old first rest begun a e h k = (
   first,
   rest,

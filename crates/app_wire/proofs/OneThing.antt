@@ -5,21 +5,21 @@ use Rattle.std.proofs.lemmas.Bool.{cond-true, cond-false, le-leb, lt-leb}
 use Rattle.httparse.specs.Grammar.{RequestHead}
 use Rattle.httparse.proofs.GrammarLemmas.{request_unique}
 use Rattle.app_wire.proofs.Blanks.{front_some}
-use Rattle.app_wire.specs.Head.{IsHead, body_of}
-use Rattle.app_wire.specs.Framing.{Announces, Asked, HasNoBlank, IsFront, IsBegun, IsInHead, IsTooLong, IsWhole, Frame, nothing, need, refused, whole, Refuses, Framing, Finds, request_of}
+use Rattle.app_wire.specs.Head.{IsHead, length_of_body}
+use Rattle.app_wire.specs.Framing.{Announces, Asked, HasNoBlank, IsHeadEnd, IsRequestBegun, IsInHead, IsTooLong, IsWholeRequest, FramingResult, nothing, need, refused, whole, Refuses, Framing, LookFinds, request_of}
 use Rattle.app_wire.specs.declared.body.BodyLength.{BodyLength}
 use Rattle.app_wire.specs.declared.body.BodyLength.TheVariants.{NotOffered, Bad, TooLong, Bytes}
 use Rattle.app_wire.specs.declared.framer.Look.{Look}
 use Rattle.app_wire.specs.declared.framer.Look.TheVariants.{Need, Refused, Whole}
 
 -- a front, and a stretch with no blank line that holds it
-front_in : (bytes : List ℕ) (n m : ℕ) → IsFront bytes n → HasNoBlank bytes m → n ≤ m → ⊥
+front_in : (bytes : List ℕ) (n m : ℕ) → IsHeadEnd bytes n → HasNoBlank bytes m → n ≤ m → ⊥
 front_in bytes n m f none le = none n le f.blank
 
-front_first : (bytes : List ℕ) (m n : ℕ) → IsFront bytes m → IsFront bytes n → (m < n → ⊥)
+front_first : (bytes : List ℕ) (m n : ℕ) → IsHeadEnd bytes m → IsHeadEnd bytes n → (m < n → ⊥)
 front_first bytes m n f g lt = g.first m lt f.blank
 
-front_same : (bytes : List ℕ) (m n : ℕ) → IsFront bytes m → IsFront bytes n → m ≡ n
+front_same : (bytes : List ℕ) (m n : ℕ) → IsHeadEnd bytes m → IsHeadEnd bytes n → m ≡ n
 front_same bytes m n f g =
     let a : m < n → ⊥ = front_first bytes m n f g in
     let b : n < m → ⊥ = front_first bytes n m g f in
@@ -29,7 +29,7 @@ head_same : (front : List ℕ) (h k : RequestHead) → IsHead front h → IsHead
 head_same front h k a b = (request_unique front h k [] [] a.reads b.reads).0
 
 -- what a head makes of the bytes, by what its fields say of its body
-abbrev framed : List ℕ → Bool → ℕ → RequestHead → BodyLength → Frame
+abbrev framed : List ℕ → Bool → ℕ → RequestHead → BodyLength → FramingResult
 framed bytes ended n h Bad = refused 3
 framed bytes ended n h TooLong = refused 4
 framed bytes ended n h NotOffered = refused 5
@@ -37,26 +37,26 @@ framed bytes ended n h (Bytes size) =
     cond (nat_le (n + size) (length bytes)) (whole (request_of h (slice_range bytes n (n + size))) (n + size)) (cond ended (refused 6) need)
 
 -- what a front makes of them
-Judged : List ℕ → Bool → ℕ → Frame → Type 0
+Judged : List ℕ → Bool → ℕ → FramingResult → Type 0
 Judged bytes ended n frame =
     (((h : RequestHead) → IsHead (take n bytes) h → ⊥) × (frame ≡ refused 1))
-    ⊎ ((h : RequestHead) × IsHead (take n bytes) h × (frame ≡ framed bytes ended n h (body_of h)))
+    ⊎ ((h : RequestHead) × IsHead (take n bytes) h × (frame ≡ framed bytes ended n h (length_of_body h)))
 
-judged_same : (bytes : List ℕ) (ended : Bool) (n : ℕ) (a b : Frame) → Judged bytes ended n a → Judged bytes ended n b → a ≡ b
+judged_same : (bytes : List ℕ) (ended : Bool) (n : ℕ) (a b : FramingResult) → Judged bytes ended n a → Judged bytes ended n b → a ≡ b
 unfolding Judged
 judged_same bytes ended n a b (inl x) (inl y) = x.1 ∙ sym y.1
 judged_same bytes ended n a b (inl x) (inr y) = absurd (x.0 y.0 y.1)
 judged_same bytes ended n a b (inr x) (inl y) = absurd (y.0 x.0 x.1)
-judged_same bytes ended n a b (inr x) (inr y) = x.2 ∙ ap (λ h. framed bytes ended n h (body_of h)) (head_same (take n bytes) x.0 y.0 x.1 y.1) ∙ sym y.2
+judged_same bytes ended n a b (inr x) (inr y) = x.2 ∙ ap (λ h. framed bytes ended n h (length_of_body h)) (head_same (take n bytes) x.0 y.0 x.1 y.1) ∙ sym y.2
 
-Sorted : List ℕ → Bool → Frame → Type 0
+Sorted : List ℕ → Bool → FramingResult → Type 0
 Sorted bytes ended frame =
-    ((n : ℕ) × IsFront bytes n × Judged bytes ended n frame)
+    ((n : ℕ) × IsHeadEnd bytes n × Judged bytes ended n frame)
     ⊎ (IsInHead bytes × (frame ≡ cond ended (refused 6) need))
     ⊎ (IsTooLong bytes × (frame ≡ refused 2))
     ⊎ ((bytes ≡ []) × (frame ≡ nothing))
 
-sorted_same : (bytes : List ℕ) (ended : Bool) (a b : Frame) → Sorted bytes ended a → Sorted bytes ended b → a ≡ b
+sorted_same : (bytes : List ℕ) (ended : Bool) (a b : FramingResult) → Sorted bytes ended a → Sorted bytes ended b → a ≡ b
 unfolding Sorted
 sorted_same bytes ended a b (inl x) (inl y) =
     judged_same bytes ended y.0 a b (subst (λ n. Judged bytes ended n a) (front_same bytes x.0 y.0 x.1 y.1) x.2) y.2
@@ -77,11 +77,11 @@ sorted_same bytes ended a b (inr (inr (inr x))) (inr (inr (inl y))) = absurd (om
 sorted_same bytes ended a b (inr (inr (inr x))) (inr (inr (inr y))) = x.1 ∙ sym y.1
 
 -- where a head says this of its body
-announced : (bytes : List ℕ) (ended : Bool) (body : BodyLength) (a : Announces bytes body) (frame : Frame) → frame ≡ framed bytes ended a.start a.head body → Sorted bytes ended frame
+announced : (bytes : List ℕ) (ended : Bool) (body : BodyLength) (a : Announces bytes body) (frame : FramingResult) → frame ≡ framed bytes ended a.start a.head body → Sorted bytes ended frame
 unfolding Sorted Judged
 announced bytes ended body a frame e = inl (a.start, a.front, inr (a.head, a.is, e ∙ ap (framed bytes ended a.start a.head) (sym a.body_is)))
 
-begun : (bytes : List ℕ) (ended : Bool) (frame : Frame) → IsBegun bytes → frame ≡ cond ended (refused 6) need → Sorted bytes ended frame
+begun : (bytes : List ℕ) (ended : Bool) (frame : FramingResult) → IsRequestBegun bytes → frame ≡ cond ended (refused 6) need → Sorted bytes ended frame
 unfolding Sorted
 begun bytes ended frame (inl h) e = inr (inl (h, e))
 begun bytes ended frame (inr h) e =
@@ -89,7 +89,7 @@ begun bytes ended frame (inr h) e =
     (e ∙ sym (cond-false (nat_le (h.head.start + h.size) (length bytes)) (whole (request_of h.head.head (slice_range bytes h.head.start (h.head.start + h.size))) (h.head.start + h.size))
     (cond ended (refused 6) need) (lt-leb (h.head.start + h.size) (length bytes) h.short)))
 
-whole_sorted : (bytes : List ℕ) (ended : Bool) (request : Asked) (len : ℕ) → IsWhole bytes request len → Sorted bytes ended (whole request len)
+whole_sorted : (bytes : List ℕ) (ended : Bool) (request : Asked) (len : ℕ) → IsWholeRequest bytes request len → Sorted bytes ended (whole request len)
 whole_sorted bytes ended request len w =
     let within : w.head.start + w.size ≤ length bytes = omega (arith, w.len_is, w.within) in
     announced bytes ended (Bytes w.size) w.head (whole request len)
@@ -106,18 +106,18 @@ refused_sorted bytes ended code (inr (inr (inr (inl x)))) = announced bytes ende
 refused_sorted bytes ended code (inr (inr (inr (inr (inl x))))) = announced bytes ended NotOffered x.1 (refused code) (ap refused x.0)
 refused_sorted bytes ended code (inr (inr (inr (inr (inr x))))) = begun bytes ended (refused code) x.2 (ap refused x.0 ∙ ap (λ b. cond b (refused 6) need) (sym x.1))
 
-sorted_of : (bytes : List ℕ) (ended : Bool) (frame : Frame) → Framing bytes ended frame → Sorted bytes ended frame
+sorted_of : (bytes : List ℕ) (ended : Bool) (frame : FramingResult) → Framing bytes ended frame → Sorted bytes ended frame
 unfolding Sorted
 sorted_of bytes ended nothing x = inr (inr (inr (x, refl)))
 sorted_of bytes ended need x = begun bytes ended need x.1 (ap (λ b. cond b (refused 6) need) (sym x.0))
 sorted_of bytes ended (refused code) x = refused_sorted bytes ended code x
 sorted_of bytes ended (whole request len) x = whole_sorted bytes ended request len x
 
-pub one_thing : (bytes : List ℕ) (ended : Bool) (a b : Frame) → Framing bytes ended a → Framing bytes ended b → a ≡ b
+pub one_thing : (bytes : List ℕ) (ended : Bool) (a b : FramingResult) → Framing bytes ended a → Framing bytes ended b → a ≡ b
 one_thing bytes ended a b x y = sorted_same bytes ended a b (sorted_of bytes ended a x) (sorted_of bytes ended b y)
 
 -- where a request is begun, a look finds that more is needed
-pub begun_needs : (bytes : List ℕ) (found : Look) → Finds bytes found → IsBegun bytes → found ≡ Need
+pub begun_needs : (bytes : List ℕ) (found : Look) → LookFinds bytes found → IsRequestBegun bytes → found ≡ Need
 begun_needs bytes Need f begun = refl
 begun_needs bytes (Refused code) f begun = let same : refused code ≡ need = one_thing bytes false (refused code) need f (refl, begun) in cc
 begun_needs bytes (Whole method path body len) f begun =
@@ -125,7 +125,7 @@ begun_needs bytes (Whole method path body len) f begun =
     let same : whole request len ≡ need = one_thing bytes false (whole request len) need f (refl, begun) in cc
 
 -- the one refusal that only the end of the input makes
-pub cut_begun : (bytes : List ℕ) → Framing bytes true (refused 6) → IsBegun bytes
+pub cut_begun : (bytes : List ℕ) → Framing bytes true (refused 6) → IsRequestBegun bytes
 cut_begun bytes (inl h) = cc
 cut_begun bytes (inr (inl h)) = cc
 cut_begun bytes (inr (inr (inl h))) = cc

@@ -8,27 +8,27 @@ use Rattle.std.proofs.lemmas.List.{length-append}
 use Rattle.std.proofs.Math.Seq.{take-length, take-append_seam}
 use Rattle.std.proofs.lemmas.Str.{IsUtf8-from_ascii, IsUtf8-append}
 use Rattle.matchit.specs.Seek.{has_slash}
-use Rattle.app_wire.specs.Routing.{parts_of}
-use Rattle.app_wire.specs.RouteTable.{Kind, Takes, text, caller, title, number, tokens}
+use Rattle.app_wire.specs.Routing.{path_parts}
+use Rattle.app_wire.specs.RouteTable.{Kind, RoutePartTakes, text, caller, title, number, tokens}
 use Rattle.app_wire.proofs.RouteSteps.{split, tail_plain}
 use Rattle.app_wire.proofs.RoutePaths.{IsPlain, Matches}
 
 -- the parts of a path, by its first slash
-pub parts_plain : (w : List ℕ) → has_slash w ≡ false → parts_of w ≡ w ∷ []
+pub parts_plain : (w : List ℕ) → has_slash w ≡ false → path_parts w ≡ w ∷ []
 parts_plain [] h = refl
 parts_plain (x ∷ w) h = let t = tail_plain x w h in rw (t.0, parts_plain w t.1) refl
 
-pub parts_cut : (w rest : List ℕ) → has_slash w ≡ false → parts_of (w ++ 47 ∷ rest) ≡ w ∷ parts_of rest
+pub parts_cut : (w rest : List ℕ) → has_slash w ≡ false → path_parts (w ++ 47 ∷ rest) ≡ w ∷ path_parts rest
 parts_cut [] rest h = refl
 parts_cut (x ∷ w) rest h = let t = tail_plain x w h in rw (t.0, parts_cut w rest t.1) refl
 
-pub first_of : (p : List ℕ) → (part : List ℕ) × (more : List (List ℕ)) × (parts_of p ≡ part ∷ more) × (has_slash part ≡ false)
+pub first_of : (p : List ℕ) → (part : List ℕ) × (more : List (List ℕ)) × (path_parts p ≡ part ∷ more) × (has_slash part ≡ false)
 first_of p = by (split p)
   where
     by : ((has_slash p ≡ false) ⊎ ((name : List ℕ) × (rest : List ℕ) × (p ≡ name ++ 47 ∷ rest) × (has_slash name ≡ false)))
-        → (part : List ℕ) × (more : List (List ℕ)) × (parts_of p ≡ part ∷ more) × (has_slash part ≡ false)
+        → (part : List ℕ) × (more : List (List ℕ)) × (path_parts p ≡ part ∷ more) × (has_slash part ≡ false)
     by (inl h) = (p, [], parts_plain p h, h)
-    by (inr s) = (s.0, parts_of s.1, ap parts_of s.2 ∙ parts_cut s.0 s.1 s.3, s.3)
+    by (inr s) = (s.0, path_parts s.1, ap path_parts s.2 ∙ parts_cut s.0 s.1 s.3, s.3)
 
 -- the words of a place are bytes without a slash
 abbrev pub are_plain : List Kind → Bool
@@ -79,7 +79,7 @@ before_word (x ∷ word) t rest h m =
 
 -- what stands in the first part behind the slash
 abbrev pub Behind : Kind → List Kind → List ℕ → Type 0
-Behind k ks path = (part : List ℕ) × (rest : List ℕ) × (has_slash part ≡ false) × Takes part k × (path ≡ part ++ rest) × Matches (tokens ks) rest
+Behind k ks path = (part : List ℕ) × (rest : List ℕ) × (has_slash part ≡ false) × RoutePartTakes part k × (path ≡ part ++ rest) × Matches (tokens ks) rest
 
 kind_before : (k : Kind) (ks : List Kind) (path : List ℕ) → are_plain (k ∷ ks) ≡ true → Matches (tokens (k ∷ ks)) path → (rest : List ℕ) × (path ≡ 47 ∷ rest) × Behind k ks rest
 kind_before (text word) ks path h m =
@@ -108,24 +108,24 @@ plain_rest number ks h = h
 
 -- the parts of a path that matches the pattern
 parts_behind : (ks : List Kind) (w path : List ℕ) → are_plain ks ≡ true → has_slash w ≡ false → Matches (tokens ks) path
-    → (more : List (List ℕ)) × (parts_of (w ++ path) ≡ w ∷ more) × AllZip Takes more ks
-parts_behind [] w path h plain m = ([], ap (λ z. parts_of (w ++ z)) m ∙ ap parts_of (append-nil w) ∙ parts_plain w plain, tt)
+    → (more : List (List ℕ)) × (path_parts (w ++ path) ≡ w ∷ more) × AllZip RoutePartTakes more ks
+parts_behind [] w path h plain m = ([], ap (λ z. path_parts (w ++ z)) m ∙ ap path_parts (append-nil w) ∙ parts_plain w plain, tt)
 parts_behind (k ∷ ks) w path h plain m =
     let s = kind_before k ks path h m in
     let b = s.2 in
     let r = parts_behind ks b.0 b.1 (plain_rest k ks h) b.2 b.5 in (
       b.0 ∷ r.0,
-      ap (λ z. parts_of (w ++ z)) s.1 ∙ parts_cut w s.0 plain ∙ ap (λ z. w ∷ parts_of z) b.4 ∙ ap (λ z. w ∷ z) r.1,
+      ap (λ z. path_parts (w ++ z)) s.1 ∙ parts_cut w s.0 plain ∙ ap (λ z. w ∷ path_parts z) b.4 ∙ ap (λ z. w ∷ z) r.1,
       (b.3, r.2),
     )
 
-pub parts_of_match : (ks : List Kind) (path : List ℕ) → are_plain ks ≡ true → Matches (tokens ks) path → AllZip Takes (parts_of path) (text [] ∷ ks)
+pub parts_of_match : (ks : List Kind) (path : List ℕ) → are_plain ks ≡ true → Matches (tokens ks) path → AllZip RoutePartTakes (path_parts path) (text [] ∷ ks)
 parts_of_match ks path h m =
     let r = parts_behind ks [] path h refl m in
-    subst (λ ps. AllZip Takes ps (text [] ∷ ks)) (sym r.1) (refl, r.2)
+    subst (λ ps. AllZip RoutePartTakes ps (text [] ∷ ks)) (sym r.1) (refl, r.2)
 
 -- and the other way
-match_kind : (k : Kind) (ks : List Kind) (part rest : List ℕ) → are_plain (k ∷ ks) ≡ true → has_slash part ≡ false → Takes part k → Matches (tokens ks) rest
+match_kind : (k : Kind) (ks : List Kind) (part rest : List ℕ) → are_plain (k ∷ ks) ≡ true → has_slash part ≡ false → RoutePartTakes part k → Matches (tokens ks) rest
     → Matches (tokens (k ∷ ks)) (47 ∷ (part ++ rest))
 match_kind (text word) ks part rest h plain takes m =
     inl (part ++ rest, lit< tt, refl, subst (λ z. Matches (word ++ tokens ks) (z ++ rest)) (sym takes) (before_word word (tokens ks) rest (word_plain word ks h).1 m))
@@ -135,9 +135,9 @@ match_kind number ks part rest h plain takes m = inl (part ++ rest, lit< tt, ref
 
 -- a path is its first part and what stands behind it
 abbrev pub Cut : List ℕ → List ℕ → List (List ℕ) → Type 0
-Cut p part more = ((p ≡ part) × (more ≡ [])) ⊎ ((rest : List ℕ) × (p ≡ part ++ 47 ∷ rest) × (more ≡ parts_of rest))
+Cut p part more = ((p ≡ part) × (more ≡ [])) ⊎ ((rest : List ℕ) × (p ≡ part ++ 47 ∷ rest) × (more ≡ path_parts rest))
 
-cut_of : (p part : List ℕ) (more : List (List ℕ)) → parts_of p ≡ part ∷ more → Cut p part more
+cut_of : (p part : List ℕ) (more : List (List ℕ)) → path_parts p ≡ part ∷ more → Cut p part more
 cut_of p part more e = by (split p)
   where
     by : ((has_slash p ≡ false) ⊎ ((name : List ℕ) × (rest : List ℕ) × (p ≡ name ++ 47 ∷ rest) × (has_slash name ≡ false))) → Cut p part more
@@ -147,35 +147,35 @@ cut_of p part more e = by (split p)
         let back : [] ≡ more = cc in
         inl (front, sym back)
     by (inr s) =
-        let same : s.0 ∷ parts_of s.1 ≡ part ∷ more = sym (parts_cut s.0 s.1 s.3) ∙ sym (ap parts_of s.2) ∙ e in
+        let same : s.0 ∷ path_parts s.1 ≡ part ∷ more = sym (parts_cut s.0 s.1 s.3) ∙ sym (ap path_parts s.2) ∙ e in
         let front : s.0 ≡ part = cc in
-        let back : parts_of s.1 ≡ more = cc in
+        let back : path_parts s.1 ≡ more = cc in
         inr (s.1, s.2 ∙ ap (λ z. z ++ 47 ∷ s.1) front, sym back)
 
-match_behind : (ks : List Kind) (p part : List ℕ) (more : List (List ℕ)) → are_plain ks ≡ true → parts_of p ≡ part ∷ more → AllZip Takes more ks
+match_behind : (ks : List Kind) (p part : List ℕ) (more : List (List ℕ)) → are_plain ks ≡ true → path_parts p ≡ part ∷ more → AllZip RoutePartTakes more ks
     → (rest : List ℕ) × (p ≡ part ++ rest) × Matches (tokens ks) rest
 match_behind [] p part more h e z = by (cut_of p part more e) z
   where
-    by : Cut p part more → AllZip Takes more [] → (rest : List ℕ) × (p ≡ part ++ rest) × Matches [] rest
+    by : Cut p part more → AllZip RoutePartTakes more [] → (rest : List ℕ) × (p ≡ part ++ rest) × Matches [] rest
     by (inl c) z = ([], c.0 ∙ sym (append-nil part), refl)
     by (inr c) z =
         let f = first_of c.0 in
-        absurd (subst (λ ps. AllZip Takes ps []) (c.2 ∙ f.2) z)
+        absurd (subst (λ ps. AllZip RoutePartTakes ps []) (c.2 ∙ f.2) z)
 match_behind (k ∷ ks) p part more h e z = by (λ r x xs plain same rest. match_behind ks r x xs (plain_rest k ks h) same rest) (cut_of p part more e) z
   where
-    by : ((r x : List ℕ) (xs : List (List ℕ)) → has_slash x ≡ false → parts_of r ≡ x ∷ xs → AllZip Takes xs ks → (rest : List ℕ) × (r ≡ x ++ rest) × Matches (tokens ks) rest)
-        → Cut p part more → AllZip Takes more (k ∷ ks) → (rest : List ℕ) × (p ≡ part ++ rest) × Matches (tokens (k ∷ ks)) rest
-    by again (inl c) z = absurd (subst (λ ps. AllZip Takes ps (k ∷ ks)) c.1 z)
+    by : ((r x : List ℕ) (xs : List (List ℕ)) → has_slash x ≡ false → path_parts r ≡ x ∷ xs → AllZip RoutePartTakes xs ks → (rest : List ℕ) × (r ≡ x ++ rest) × Matches (tokens ks) rest)
+        → Cut p part more → AllZip RoutePartTakes more (k ∷ ks) → (rest : List ℕ) × (p ≡ part ++ rest) × Matches (tokens (k ∷ ks)) rest
+    by again (inl c) z = absurd (subst (λ ps. AllZip RoutePartTakes ps (k ∷ ks)) c.1 z)
     by again (inr c) z =
         let f = first_of c.0 in
-        let w = subst (λ ps. AllZip Takes ps (k ∷ ks)) (c.2 ∙ f.2) z in
+        let w = subst (λ ps. AllZip RoutePartTakes ps (k ∷ ks)) (c.2 ∙ f.2) z in
         let r = again c.0 f.0 f.1 f.3 f.2 w.1 in
         (47 ∷ (f.0 ++ r.0), c.1 ∙ ap (λ q. part ++ 47 ∷ q) r.1, match_kind k ks f.0 r.0 h f.3 w.0 r.2)
 
-pub match_of_parts : (ks : List Kind) (path : List ℕ) → are_plain ks ≡ true → AllZip Takes (parts_of path) (text [] ∷ ks) → Matches (tokens ks) path
+pub match_of_parts : (ks : List Kind) (path : List ℕ) → are_plain ks ≡ true → AllZip RoutePartTakes (path_parts path) (text [] ∷ ks) → Matches (tokens ks) path
 match_of_parts ks path h z =
     let f = first_of path in
-    let w = subst (λ ps. AllZip Takes ps (text [] ∷ ks)) f.2 z in
+    let w = subst (λ ps. AllZip RoutePartTakes ps (text [] ∷ ks)) f.2 z in
     let r = match_behind ks path f.0 f.1 h f.2 w.1 in
     let same : path ≡ r.0 = r.1 ∙ ap (λ q. q ++ r.0) w.0 in
     subst (Matches (tokens ks)) (sym same) r.2
@@ -192,19 +192,19 @@ abbrev pub AreTexts : List (List ℕ) → Type 0
 AreTexts [] = Unit {0}
 AreTexts (part ∷ parts) = IsUtf8 part × AreTexts parts
 
-text_at : (p : List ℕ) → ((q : List ℕ) → length q < length p → AreTexts (parts_of q) → IsUtf8 q)
-    → ((has_slash p ≡ false) ⊎ ((name : List ℕ) × (rest : List ℕ) × (p ≡ name ++ 47 ∷ rest) × (has_slash name ≡ false))) → AreTexts (parts_of p) → IsUtf8 p
+text_at : (p : List ℕ) → ((q : List ℕ) → length q < length p → AreTexts (path_parts q) → IsUtf8 q)
+    → ((has_slash p ≡ false) ⊎ ((name : List ℕ) × (rest : List ℕ) × (p ≡ name ++ 47 ∷ rest) × (has_slash name ≡ false))) → AreTexts (path_parts p) → IsUtf8 p
 text_at p again (inl h) t = (subst AreTexts (parts_plain p h) t).0
 text_at p again (inr s) t =
-    let two = subst AreTexts (ap parts_of s.2 ∙ parts_cut s.0 s.1 s.3) t in
+    let two = subst AreTexts (ap path_parts s.2 ∙ parts_cut s.0 s.1 s.3) t in
     let less : length s.1 < length p = omega (arith, ap length s.2, length-append s.0 (47 ∷ s.1)) in
     subst IsUtf8 (sym s.2) (IsUtf8-append s.0 (47 ∷ s.1) two.0 (IsUtf8-append (47 ∷ []) s.1 slash_text (again s.1 less two.1)))
 
-text_within : (n : ℕ) (p : List ℕ) → length p ≤ n → AreTexts (parts_of p) → IsUtf8 p
+text_within : (n : ℕ) (p : List ℕ) → length p ≤ n → AreTexts (path_parts p) → IsUtf8 p
 text_within zero p fits h = text_at p (λ q less t. absurd (omega (arith, fits, less))) (split p) h
 text_within (suc n) p fits h = text_at p (λ q less t. text_within n q (omega (arith, fits, less)) t) (split p) h
 
-pub path_text : (p : List ℕ) → AreTexts (parts_of p) → IsUtf8 p
+pub path_text : (p : List ℕ) → AreTexts (path_parts p) → IsUtf8 p
 path_text p h = text_within (length p) p (omega arith) h
 
 -- the part before the first slash, and the parts behind it
@@ -232,23 +232,23 @@ no_part : (i : ℕ) → get_or {A = List ℕ} ([] ∷ []) i [] ≡ []
 no_part zero = refl
 no_part (suc i) = refl
 
-pub first_part : (p : List ℕ) → before_first (λ b. b == 47) p ≡ get_or (parts_of p) 0 []
+pub first_part : (p : List ℕ) → before_first (λ b. b == 47) p ≡ get_or (path_parts p) 0 []
 first_part p = by (split p)
   where
     by : ((has_slash p ≡ false) ⊎ ((name : List ℕ) × (rest : List ℕ) × (p ≡ name ++ 47 ∷ rest) × (has_slash name ≡ false)))
-        → before_first (λ b. b == 47) p ≡ get_or (parts_of p) 0 []
+        → before_first (λ b. b == 47) p ≡ get_or (path_parts p) 0 []
     by (inl h) = ap (λ n. take n p) (stop_plain p h) ∙ take-length p ∙ sym (ap (λ ps. get_or ps 0 []) (parts_plain p h))
     by (inr s) =
         ap (before_first (λ b. b == 47)) s.2 ∙ ap (λ n. take n (s.0 ++ 47 ∷ s.1)) (stop_slash s.0 s.1 s.3) ∙ take-append_seam s.0 (47 ∷ s.1)
-        ∙ sym (ap (λ ps. get_or ps 0 []) (ap parts_of s.2 ∙ parts_cut s.0 s.1 s.3))
+        ∙ sym (ap (λ ps. get_or ps 0 []) (ap path_parts s.2 ∙ parts_cut s.0 s.1 s.3))
 
-pub next_part : (p : List ℕ) (i : ℕ) → get_or (parts_of (after_first (λ b. b == 47) p)) i [] ≡ get_or (parts_of p) (suc i) []
+pub next_part : (p : List ℕ) (i : ℕ) → get_or (path_parts (after_first (λ b. b == 47) p)) i [] ≡ get_or (path_parts p) (suc i) []
 next_part p i = by (split p)
   where
     by : ((has_slash p ≡ false) ⊎ ((name : List ℕ) × (rest : List ℕ) × (p ≡ name ++ 47 ∷ rest) × (has_slash name ≡ false)))
-        → get_or (parts_of (after_first (λ b. b == 47) p)) i [] ≡ get_or (parts_of p) (suc i) []
+        → get_or (path_parts (after_first (λ b. b == 47) p)) i [] ≡ get_or (path_parts p) (suc i) []
     by (inl h) =
-        ap (λ q. get_or (parts_of q) i []) (ap (λ n. drop (n + 1) p) (stop_plain p h) ∙ drop_all p) ∙ no_part i ∙ sym (ap (λ ps. get_or ps (suc i) []) (parts_plain p h))
+        ap (λ q. get_or (path_parts q) i []) (ap (λ n. drop (n + 1) p) (stop_plain p h) ∙ drop_all p) ∙ no_part i ∙ sym (ap (λ ps. get_or ps (suc i) []) (parts_plain p h))
     by (inr s) =
-        ap (λ q. get_or (parts_of q) i []) (ap (after_first (λ b. b == 47)) s.2 ∙ ap (λ n. drop (n + 1) (s.0 ++ 47 ∷ s.1)) (stop_slash s.0 s.1 s.3) ∙ drop_past s.0 s.1)
-        ∙ sym (ap (λ ps. get_or ps (suc i) []) (ap parts_of s.2 ∙ parts_cut s.0 s.1 s.3))
+        ap (λ q. get_or (path_parts q) i []) (ap (after_first (λ b. b == 47)) s.2 ∙ ap (λ n. drop (n + 1) (s.0 ++ 47 ∷ s.1)) (stop_slash s.0 s.1 s.3) ∙ drop_past s.0 s.1)
+        ∙ sym (ap (λ ps. get_or ps (suc i) []) (ap path_parts s.2 ∙ parts_cut s.0 s.1 s.3))

@@ -10,9 +10,9 @@ use Rattle.std.proofs.lemmas.Str.{IsUtf8-from_ascii}
 use Rattle.matchit.specs.Rows.{RowsOf}
 use Rattle.matchit.specs.Router.{RouteOf}
 use Rattle.matchit.specs.Seek.{first}
-use Rattle.app_wire.specs.Routing.{HasPath, IsCallerName, IsNumber, IsOneRoute, IsTitle, Part, Routing, Says, is_name_byte, method_of, parts_of, path_of, word}
+use Rattle.app_wire.specs.Routing.{HasPath, IsCallerName, IsRouteNumber, IsOneRoute, IsTitle, RoutePart, Routing, SaysPart, is_name_byte, method_of, path_parts, route_path, word}
 use Rattle.app_wire.specs.Routing as part
-use Rattle.app_wire.specs.RouteTable.{Finds, Is, Kind, Placed, Reads, Takes, text, caller, title, number, kinds, place_in, place_of, places, row_of, table, tokens}
+use Rattle.app_wire.specs.RouteTable.{RouterFinds, Is, Kind, Placed, RoutePartReads, RoutePartTakes, text, caller, title, number, kinds, found_place, route_index, places, route_row, route_table, tokens}
 use Rattle.app_wire.specs.declared.head.Method.{Method}
 use Rattle.app_wire.specs.declared.head.Method.TheVariants as method
 use Rattle.app_wire.specs.declared.route.Place.{Place}
@@ -57,39 +57,39 @@ plain_words place.Graph = refl
 
 -- the rows are those of the places
 rows : List Place → RowsOf (RouteOf Place)
-rows l = map (λ p. (tokens (kinds p), row_of p)) l
+rows l = map (λ p. (tokens (kinds p), route_row p)) l
 
-row_among : (p : Place) (l : List Place) → Among p l → Has (rows l) (tokens (kinds p)) (row_of p)
+row_among : (p : Place) (l : List Place) → Among p l → Has (rows l) (tokens (kinds p)) (route_row p)
 unfolding rows
 row_among p [] h = h
-row_among p (q ∷ l) (inl e) = inl (ap (λ z. tokens (kinds z)) e, ap row_of e)
+row_among p (q ∷ l) (inl e) = inl (ap (λ z. tokens (kinds z)) e, ap route_row e)
 row_among p (q ∷ l) (inr h) = inr (row_among p l h)
 
-place_among : (l : List Place) (t : List ℕ) (r : RouteOf Place) → Has (rows l) t r → (p : Place) × (tokens (kinds p) ≡ t) × (row_of p ≡ r)
+place_among : (l : List Place) (t : List ℕ) (r : RouteOf Place) → Has (rows l) t r → (p : Place) × (tokens (kinds p) ≡ t) × (route_row p ≡ r)
 unfolding rows
 place_among [] t r h = absurd h
 place_among (q ∷ l) t r (inl e) = (q, e.0, e.1)
 place_among (q ∷ l) t r (inr h) = place_among l t r h
 
 -- what the router finds is the place of the path
-pub placed : (path : List ℕ) → AreBytes path → (found : Option (RouteOf Place)) → first table path ≡ found → Placed path (place_in found)
-unfolding table rows
+pub placed : (path : List ℕ) → AreBytes path → (found : Option (RouteOf Place)) → first route_table path ≡ found → Placed path (found_place found)
+unfolding route_table rows
 placed path bytes None e = λ p z.
-    none_matches (length path) (row_of p) table path (tokens (kinds p)) (omega arith) refl bytes e (row_among p places (among p)) (match_of_parts (kinds p) path (plain_words p) z)
+    none_matches (length path) (route_row p) route_table path (tokens (kinds p)) (omega arith) refl bytes e (row_among p places (among p)) (match_of_parts (kinds p) path (plain_words p) z)
 placed path bytes (Some r) e =
-    let f = found_matches (length path) r table path (omega arith) refl bytes e in
+    let f = found_matches (length path) r route_table path (omega arith) refl bytes e in
     let q = place_among places f.0 r f.1 in
-    subst (λ k. AllZip Takes (parts_of path) (text [] ∷ kinds (k.value))) q.2
+    subst (λ k. AllZip RoutePartTakes (path_parts path) (text [] ∷ kinds (k.value))) q.2
     (parts_of_match (kinds q.0) path (plain_words q.0) (subst (λ t. Matches t path) (sym q.1) f.2))
 
 -- what a part of a route says
-abbrev pub kind_of : Part → Kind
+abbrev pub kind_of : RoutePart → Kind
 kind_of (part.word w) = text w
 kind_of (part.caller n) = caller
 kind_of (part.title n) = title
 kind_of (part.number n) = number
 
-pub kinds_are : (r : Route) → map kind_of (path_of r) ≡ kinds (place_of r)
+pub kinds_are : (r : Route) → map kind_of (route_path r) ≡ kinds (route_index r)
 kinds_are (Begin n) = refl
 kinds_are (End n) = refl
 kinds_are (View n) = refl
@@ -103,13 +103,13 @@ kinds_are (Page t a) = refl
 kinds_are Plan = refl
 kinds_are Graph = refl
 
-says_is : (bytes : List ℕ) (p : Part) → Says bytes p → Is (kind_of p) bytes
+says_is : (bytes : List ℕ) (p : RoutePart) → SaysPart bytes p → Is (kind_of p) bytes
 says_is bytes (part.word w) h = h
 says_is bytes (part.caller n) h = h.0
 says_is bytes (part.title n) h = h.0
 says_is bytes (part.number n) h = h.0
 
-is_takes : (bytes : List ℕ) (k : Kind) → Is k bytes → Takes bytes k
+is_takes : (bytes : List ℕ) (k : Kind) → Is k bytes → RoutePartTakes bytes k
 is_takes bytes (text w) h = h
 is_takes bytes caller h = h.some
 is_takes bytes title h = h.some
@@ -119,23 +119,23 @@ is_takes bytes number h = h.some
 abbrev pub AreOf : List (List ℕ) → List Kind → Type 0
 AreOf parts ks = AllZip (λ bytes k. Is k bytes) parts ks
 
-all_of : (parts : List (List ℕ)) (ps : List Part) → AllZip Says parts ps → AreOf parts (map kind_of ps)
+all_of : (parts : List (List ℕ)) (ps : List RoutePart) → AllZip SaysPart parts ps → AreOf parts (map kind_of ps)
 all_of [] [] h = tt
 all_of [] (p ∷ ps) h = h
 all_of (b ∷ parts) [] h = h
 all_of (b ∷ parts) (p ∷ ps) h = (says_is b p h.0, all_of parts ps h.1)
 
-all_taken : (parts : List (List ℕ)) (ks : List Kind) → AreOf parts ks → AllZip Takes parts ks
+all_taken : (parts : List (List ℕ)) (ks : List Kind) → AreOf parts ks → AllZip RoutePartTakes parts ks
 all_taken [] [] h = tt
 all_taken [] (k ∷ ks) h = h
 all_taken (b ∷ parts) [] h = h
 all_taken (b ∷ parts) (k ∷ ks) h = (is_takes b k h.0, all_taken parts ks h.1)
 
-pub path_kinds : (path : List ℕ) (r : Route) → HasPath path r → AreOf (parts_of path) (text [] ∷ kinds (place_of r))
-path_kinds path r h = subst (λ ks. AreOf (parts_of path) (text [] ∷ ks)) (kinds_are r) (all_of (parts_of path) (word [] ∷ path_of r) h)
+pub path_kinds : (path : List ℕ) (r : Route) → HasPath path r → AreOf (path_parts path) (text [] ∷ kinds (route_index r))
+path_kinds path r h = subst (λ ks. AreOf (path_parts path) (text [] ∷ ks)) (kinds_are r) (all_of (path_parts path) (word [] ∷ route_path r) h)
 
-pub path_placed : (path : List ℕ) (r : Route) → HasPath path r → Placed path (Some (place_of r))
-path_placed path r h = all_taken (parts_of path) (text [] ∷ kinds (place_of r)) (path_kinds path r h)
+pub path_placed : (path : List ℕ) (r : Route) → HasPath path r → Placed path (Some (route_index r))
+path_placed path r h = all_taken (path_parts path) (text [] ∷ kinds (route_index r)) (path_kinds path r h)
 
 pub kind_at : (parts : List (List ℕ)) (ks : List Kind) (i : ℕ) → i < length ks → AreOf parts ks → Is (get_or ks i (text [])) (get_or parts i [])
 kind_at [] [] i l h = absurd (omega (arith, l))
@@ -158,7 +158,7 @@ clash_words a b bytes h e f =
     let no : not true ≡ true = sym (ap not yes) ∙ h in
     cc
 
-no_clash : (parts : List (List ℕ)) (ks ls : List Kind) → AllZip Takes parts ks → AllZip Takes parts ls → clash ks ls ≡ true → ⊥
+no_clash : (parts : List (List ℕ)) (ks ls : List Kind) → AllZip RoutePartTakes parts ks → AllZip RoutePartTakes parts ls → clash ks ls ≡ true → ⊥
 unfolding clash
 no_clash [] [] [] h g c = cc
 no_clash [] [] (l ∷ ls) h g c = g
@@ -216,7 +216,7 @@ one_place path p q h g = by (one_among p q places refl (among p) (among q))
   where
     by : (p ≡ q) ⊎ (clash (kinds p) (kinds q) ≡ true) → p ≡ q
     by (inl e) = e
-    by (inr c) = absurd (no_clash (parts_of path) (text [] ∷ kinds p) (text [] ∷ kinds q) h g c)
+    by (inr c) = absurd (no_clash (path_parts path) (text [] ∷ kinds p) (text [] ∷ kinds q) h g c)
 
 -- a path of a route is text
 small : (b : ℕ) → is_name_byte b ≡ true → b < 128
@@ -256,25 +256,25 @@ all_texts (b ∷ parts) [] p h = absurd h
 all_texts (b ∷ parts) (k ∷ ks) p h = (kind_text b k ks p h.0, all_texts parts ks (plain_rest k ks p) h.1)
 
 pub route_text : (path : List ℕ) (r : Route) → HasPath path r → IsUtf8 path
-route_text path r h = path_text path (all_texts (parts_of path) (text [] ∷ kinds (place_of r)) (plain_words (place_of r)) (path_kinds path r h))
+route_text path r h = path_text path (all_texts (path_parts path) (text [] ∷ kinds (route_index r)) (plain_words (route_index r)) (path_kinds path r h))
 
 -- the route of what is said at a place
-name_in : Part → List ℕ
+name_in : RoutePart → List ℕ
 name_in (part.word w) = w
 name_in (part.caller n) = n
 name_in (part.title n) = n
 name_in (part.number n) = []
 
-count_in : Part → ℕ
+count_in : RoutePart → ℕ
 count_in (part.word w) = 0
 count_in (part.caller n) = 0
 count_in (part.title n) = 0
 count_in (part.number n) = n
 
-name_at : List Part → ℕ → List ℕ
+name_at : List RoutePart → ℕ → List ℕ
 name_at ps i = name_in (get_or ps i (word []))
 
-count_at : List Part → ℕ → ℕ
+count_at : List RoutePart → ℕ → ℕ
 count_at ps i = count_in (get_or ps i (word []))
 
 session_by : Method → List ℕ → Route
@@ -284,7 +284,7 @@ session_by method.Put n = Begin n
 session_by method.Post n = Begin n
 session_by method.Other n = Begin n
 
-route_by : Place → Method → List Part → Route
+route_by : Place → Method → List RoutePart → Route
 route_by place.Session m ps = session_by m (name_at ps 1)
 route_by place.View m ps = View (name_at ps 1)
 route_by place.Named m ps = Named (name_at ps 1)
@@ -297,7 +297,7 @@ route_by place.Page m ps = Page (name_at ps 1) (count_at ps 2)
 route_by place.Plan m ps = Plan
 route_by place.Graph m ps = Graph
 
-by_parts : (r : Route) → route_by (place_of r) (method_of r) (path_of r) ≡ r
+by_parts : (r : Route) → route_by (route_index r) (method_of r) (route_path r) ≡ r
 unfolding route_by session_by name_at count_at name_in count_in
 by_parts (Begin n) = refl
 by_parts (End n) = refl
@@ -313,7 +313,7 @@ by_parts Plan = refl
 by_parts Graph = refl
 
 -- bytes say one thing of a kind
-says_one : (bytes : List ℕ) (p q : Part) → kind_of p ≡ kind_of q → Says bytes p → Says bytes q → p ≡ q
+says_one : (bytes : List ℕ) (p q : RoutePart) → kind_of p ≡ kind_of q → SaysPart bytes p → SaysPart bytes q → p ≡ q
 says_one bytes (part.word a) (part.word b) e h g = ap part.word (sym h ∙ g)
 says_one bytes (part.word a) (part.caller b) e h g = cc
 says_one bytes (part.word a) (part.title b) e h g = cc
@@ -331,7 +331,7 @@ says_one bytes (part.number a) (part.caller b) e h g = cc
 says_one bytes (part.number a) (part.title b) e h g = cc
 says_one bytes (part.number a) (part.number b) e h g = ap part.number (h.1 ∙ sym g.1)
 
-all_one : (parts : List (List ℕ)) (ps qs : List Part) → map kind_of ps ≡ map kind_of qs → AllZip Says parts ps → AllZip Says parts qs → ps ≡ qs
+all_one : (parts : List (List ℕ)) (ps qs : List RoutePart) → map kind_of ps ≡ map kind_of qs → AllZip SaysPart parts ps → AllZip SaysPart parts qs → ps ≡ qs
 all_one [] [] [] e h g = refl
 all_one [] [] (q ∷ qs) e h g = absurd g
 all_one [] (p ∷ ps) qs e h g = absurd h
@@ -344,17 +344,17 @@ all_one (b ∷ parts) (p ∷ ps) (q ∷ qs) e h g =
     let more = all_one parts ps qs rest h.1 g.1 in
     ap (λ x. x ∷ ps) same ∙ ap (λ xs. q ∷ xs) more
 
-pub same_place : (path : List ℕ) (r s : Route) → HasPath path r → HasPath path s → place_of r ≡ place_of s
-same_place path r s h g = one_place path (place_of r) (place_of s) (path_placed path r h) (path_placed path s g)
+pub same_place : (path : List ℕ) (r s : Route) → HasPath path r → HasPath path s → route_index r ≡ route_index s
+same_place path r s h g = one_place path (route_index r) (route_index s) (path_placed path r h) (path_placed path s g)
 
 -- a path has one route for a method
 same_route : (path : List ℕ) (r s : Route) → HasPath path r → HasPath path s → method_of r ≡ method_of s → r ≡ s
 same_route path r s h g m =
     let p = same_place path r s h g in
-    let k : map kind_of (path_of r) ≡ map kind_of (path_of s) = kinds_are r ∙ ap kinds p ∙ sym (kinds_are s) in
-    let all = all_one (parts_of path) (word [] ∷ path_of r) (word [] ∷ path_of s) (ap (λ ks. text [] ∷ ks) k) h g in
-    let ps : path_of r ≡ path_of s = cc in
-    sym (by_parts r) ∙ ap (λ z. route_by z (method_of r) (path_of r)) p ∙ ap (λ z. route_by (place_of s) z (path_of r)) m ∙ ap (route_by (place_of s) (method_of s)) ps
+    let k : map kind_of (route_path r) ≡ map kind_of (route_path s) = kinds_are r ∙ ap kinds p ∙ sym (kinds_are s) in
+    let all = all_one (path_parts path) (word [] ∷ route_path r) (word [] ∷ route_path s) (ap (λ ks. text [] ∷ ks) k) h g in
+    let ps : route_path r ≡ route_path s = cc in
+    sym (by_parts r) ∙ ap (λ z. route_by z (method_of r) (route_path r)) p ∙ ap (λ z. route_by (route_index s) z (route_path r)) m ∙ ap (route_by (route_index s) (method_of s)) ps
     ∙ by_parts s
 
 pub one_route : IsOneRoute
@@ -373,12 +373,12 @@ one_route m path (Err WrongMethod) (Err Memory) x y h g = absurd (y refl)
 one_route m path (Err Memory) b x y h g = absurd (x refl)
 
 -- where a place is known
-pub ends_known : (p : Place) (m : Method) (path : List ℕ) (e : RouteEnd) → Placed path (Some p) → Finds p m path (Err e) → Routing m path (Err e)
-ends_known p m path NoRoute at f = λ r h. f r (one_place path (place_of r) p (path_placed path r h) at) h
+pub ends_known : (p : Place) (m : Method) (path : List ℕ) (e : RouteEnd) → Placed path (Some p) → RouterFinds p m path (Err e) → Routing m path (Err e)
+ends_known p m path NoRoute at f = λ r h. f r (one_place path (route_index r) p (path_placed path r h) at) h
 ends_known p m path WrongMethod at f = absurd f
 ends_known p m path Memory at f = tt
 
-pub ends_wrong : (p : Place) (m : Method) (path : List ℕ) (r : Route) → Finds p m path (Ok r) → method_of r ≢ m → Routing m path (Err WrongMethod)
+pub ends_wrong : (p : Place) (m : Method) (path : List ℕ) (r : Route) → RouterFinds p m path (Ok r) → method_of r ≢ m → Routing m path (Err WrongMethod)
 ends_wrong p m path r f differ = ((r, f.0), λ other h is. differ (f.2 other (same_place path other r h f.0 ∙ f.1) is))
 
 -- what is read at a place
@@ -408,7 +408,7 @@ method_at place.Page = method.Get
 method_at place.Plan = method.Get
 method_at place.Graph = method.Get
 
-one_method : (r : Route) → is_session (place_of r) ≡ false → method_of r ≡ method_at (place_of r)
+one_method : (r : Route) → is_session (route_index r) ≡ false → method_of r ≡ method_at (route_index r)
 unfolding method_at
 one_method (Begin n) e = refl
 one_method (End n) e = cc
@@ -423,25 +423,25 @@ one_method (Page t a) e = refl
 one_method Plan e = refl
 one_method Graph e = refl
 
-same_method : (r other : Route) (m : Method) → is_session (place_of r) ≡ false → place_of other ≡ place_of r → method_of other ≡ m → method_of r ≡ m
+same_method : (r other : Route) (m : Method) → is_session (route_index r) ≡ false → route_index other ≡ route_index r → method_of other ≡ m → method_of r ≡ m
 same_method r other m e p is = one_method r e ∙ sym (ap method_at p) ∙ sym (one_method other (ap is_session p ∙ e)) ∙ is
 
 -- the parts of a route that are no words
-abbrev pub SaidFrom : ℕ → List Part → List (List ℕ) → Type 0
+abbrev pub SaidFrom : ℕ → List RoutePart → List (List ℕ) → Type 0
 SaidFrom i [] parts = Unit {0}
 SaidFrom i (part.word w ∷ ps) parts = SaidFrom (suc i) ps parts
-SaidFrom i (part.caller n ∷ ps) parts = Says (get_or parts i []) (part.caller n) × SaidFrom (suc i) ps parts
-SaidFrom i (part.title n ∷ ps) parts = Says (get_or parts i []) (part.title n) × SaidFrom (suc i) ps parts
-SaidFrom i (part.number n ∷ ps) parts = Says (get_or parts i []) (part.number n) × SaidFrom (suc i) ps parts
+SaidFrom i (part.caller n ∷ ps) parts = SaysPart (get_or parts i []) (part.caller n) × SaidFrom (suc i) ps parts
+SaidFrom i (part.title n ∷ ps) parts = SaysPart (get_or parts i []) (part.title n) × SaidFrom (suc i) ps parts
+SaidFrom i (part.number n ∷ ps) parts = SaysPart (get_or parts i []) (part.number n) × SaidFrom (suc i) ps parts
 
-said_behind : (i : ℕ) (ps : List Part) (b : List ℕ) (parts : List (List ℕ)) → SaidFrom (suc i) ps (b ∷ parts) → SaidFrom i ps parts
+said_behind : (i : ℕ) (ps : List RoutePart) (b : List ℕ) (parts : List (List ℕ)) → SaidFrom (suc i) ps (b ∷ parts) → SaidFrom i ps parts
 said_behind i [] b parts h = tt
 said_behind i (part.word w ∷ ps) b parts h = said_behind (suc i) ps b parts h
 said_behind i (part.caller n ∷ ps) b parts h = (h.0, said_behind (suc i) ps b parts h.1)
 said_behind i (part.title n ∷ ps) b parts h = (h.0, said_behind (suc i) ps b parts h.1)
 said_behind i (part.number n ∷ ps) b parts h = (h.0, said_behind (suc i) ps b parts h.1)
 
-all_said : (ps : List Part) (parts : List (List ℕ)) → AllZip Takes parts (map kind_of ps) → SaidFrom 0 ps parts → AllZip Says parts ps
+all_said : (ps : List RoutePart) (parts : List (List ℕ)) → AllZip RoutePartTakes parts (map kind_of ps) → SaidFrom 0 ps parts → AllZip SaysPart parts ps
 all_said [] [] t h = tt
 all_said [] (b ∷ parts) t h = absurd t
 all_said (p ∷ ps) [] t h = absurd t
@@ -450,23 +450,23 @@ all_said (part.caller n ∷ ps) (b ∷ parts) t h = (h.0, all_said ps parts t.1 
 all_said (part.title n ∷ ps) (b ∷ parts) t h = (h.0, all_said ps parts t.1 (said_behind 0 ps b parts h.1))
 all_said (part.number n ∷ ps) (b ∷ parts) t h = (h.0, all_said ps parts t.1 (said_behind 0 ps b parts h.1))
 
-pub said_path : (path : List ℕ) (r : Route) → Placed path (Some (place_of r)) → SaidFrom 1 (path_of r) (parts_of path) → HasPath path r
+pub said_path : (path : List ℕ) (r : Route) → Placed path (Some (route_index r)) → SaidFrom 1 (route_path r) (path_parts path) → HasPath path r
 said_path path r at h =
-    all_said (word [] ∷ path_of r) (parts_of path) (subst (λ ks. AllZip Takes (parts_of path) (text [] ∷ ks)) (sym (kinds_are r)) at) h
+    all_said (word [] ∷ route_path r) (path_parts path) (subst (λ ks. AllZip RoutePartTakes (path_parts path) (text [] ∷ ks)) (sym (kinds_are r)) at) h
 
-pub reads : (path : List ℕ) (r : Route) (m : Method) → Placed path (Some (place_of r)) → is_session (place_of r) ≡ false → SaidFrom 1 (path_of r) (parts_of path)
-    → Finds (place_of r) m path (Ok r)
+pub reads : (path : List ℕ) (r : Route) (m : Method) → Placed path (Some (route_index r)) → is_session (route_index r) ≡ false → SaidFrom 1 (route_path r) (path_parts path)
+    → RouterFinds (route_index r) m path (Ok r)
 reads path r m at e h = (said_path path r at h, refl, λ other p is. same_method r other m e p is)
 
-pub reads_end : (path : List ℕ) (name : List ℕ) (m : Method) → Placed path (Some place.Session) → m ≡ method.Delete → Says (get_or (parts_of path) 2 []) (part.caller name)
-    → Finds place.Session m path (Ok (End name))
+pub reads_end : (path : List ℕ) (name : List ℕ) (m : Method) → Placed path (Some place.Session) → m ≡ method.Delete → SaysPart (get_or (path_parts path) 2 []) (part.caller name)
+    → RouterFinds place.Session m path (Ok (End name))
 reads_end path name m at e h = (said_path path (End name) at (h, tt), refl, λ other p is. sym e)
 
-pub reads_begin : (path : List ℕ) (name : List ℕ) (m : Method) → Placed path (Some place.Session) → m ≢ method.Delete → Says (get_or (parts_of path) 2 []) (part.caller name)
-    → Finds place.Session m path (Ok (Begin name))
+pub reads_begin : (path : List ℕ) (name : List ℕ) (m : Method) → Placed path (Some place.Session) → m ≢ method.Delete → SaysPart (get_or (path_parts path) 2 []) (part.caller name)
+    → RouterFinds place.Session m path (Ok (Begin name))
 reads_begin path name m at e h = (said_path path (Begin name) at (h, tt), refl, λ other p is. by other p is)
   where
-    by : (other : Route) → place_of other ≡ place.Session → method_of other ≡ m → method.Put ≡ m
+    by : (other : Route) → route_index other ≡ place.Session → method_of other ≡ m → method.Put ≡ m
     by (Begin n) p is = is
     by (End n) p is = absurd (e (sym is))
     by (View n) p is = cc
@@ -481,19 +481,19 @@ reads_begin path name m at e h = (said_path path (Begin name) at (h, tt), refl, 
     by Graph p is = cc
 
 -- a part that is not of its kind
-pub misses : (p : Place) (i : ℕ) (m : Method) (path : List ℕ) → i < suc (length (kinds p)) → (Is (get_or (text [] ∷ kinds p) i (text [])) (get_or (parts_of path) i []) → ⊥)
-    → Finds p m path (Err NoRoute)
+pub misses : (p : Place) (i : ℕ) (m : Method) (path : List ℕ) → i < suc (length (kinds p)) → (Is (get_or (text [] ∷ kinds p) i (text [])) (get_or (path_parts path) i []) → ⊥)
+    → RouterFinds p m path (Err NoRoute)
 misses p i m path l differ = λ r at h.
-    differ (kind_at (parts_of path) (text [] ∷ kinds p) i l (subst (λ q. AreOf (parts_of path) (text [] ∷ kinds q)) at (path_kinds path r h)))
+    differ (kind_at (path_parts path) (text [] ∷ kinds p) i l (subst (λ q. AreOf (path_parts path) (text [] ∷ kinds q)) at (path_kinds path r h)))
 
 -- the end of a part that was not read is the end at its place
-pub ends : {A : Type 0} (k : Kind) (part : A → Part) (p : Place) (i : ℕ) (m : Method) (path : List ℕ) (e : RouteEnd) → get_or (text [] ∷ kinds p) i (text []) ≡ k → i < suc (length (kinds p))
-    → Reads k part (get_or (parts_of path) i []) (Err e) → Finds p m path (Err e)
-ends k part p i m path NoRoute same l differ = misses p i m path l (λ is. differ (subst (λ q. Is q (get_or (parts_of path) i [])) same is))
+pub ends : {A : Type 0} (k : Kind) (part : A → RoutePart) (p : Place) (i : ℕ) (m : Method) (path : List ℕ) (e : RouteEnd) → get_or (text [] ∷ kinds p) i (text []) ≡ k → i < suc (length (kinds p))
+    → RoutePartReads k part (get_or (path_parts path) i []) (Err e) → RouterFinds p m path (Err e)
+ends k part p i m path NoRoute same l differ = misses p i m path l (λ is. differ (subst (λ q. Is q (get_or (path_parts path) i [])) same is))
 ends k part p i m path WrongMethod same l e = e
 ends k part p i m path Memory same l e = tt
 
 -- the same at a place that is known to be this one
-pub reads_at : (p : Place) (m : Method) (path : List ℕ) (r : Route) → p ≡ place_of r → Placed path (Some p) → is_session (place_of r) ≡ false → SaidFrom 1 (path_of r) (parts_of path)
-    → Finds p m path (Ok r)
-reads_at p m path r same at e h = subst (λ q. Finds q m path (Ok r)) (sym same) (reads path r m (subst (λ q. Placed path (Some q)) same at) e h)
+pub reads_at : (p : Place) (m : Method) (path : List ℕ) (r : Route) → p ≡ route_index r → Placed path (Some p) → is_session (route_index r) ≡ false → SaidFrom 1 (route_path r) (path_parts path)
+    → RouterFinds p m path (Ok r)
+reads_at p m path r same at e h = subst (λ q. RouterFinds q m path (Ok r)) (sym same) (reads path r m (subst (λ q. Placed path (Some q)) same at) e h)

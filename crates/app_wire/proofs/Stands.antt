@@ -3,7 +3,7 @@ use Rattle.std.proofs.Common.{◌≡◌, ℕ, ◌-◌, ◌≤◌, inl, inr, Bool
 use Rattle.std.specs.List.{slice_range}
 use Rattle.std.proofs.lemmas.List.{drop-append-le, length-append, length-drop, take-append-le}
 use Rattle.app_wire.specs.Head.{IsHead}
-use Rattle.app_wire.specs.Framing.{Announces, Asked, IsWhole, Frame, refused, whole, nothing, need, Refuses, Framing, IsFinal, request_of}
+use Rattle.app_wire.specs.Framing.{Announces, Asked, IsWholeRequest, FramingResult, refused, whole, nothing, need, Refuses, Framing, IsFinalFrame, request_of}
 use Rattle.app_wire.specs.declared.body.BodyLength.{BodyLength}
 use Rattle.app_wire.proofs.Blanks.{none_more, take_front, front_less, front_more}
 
@@ -32,7 +32,7 @@ announces_less bytes more a le = record {
   body_is = a.body_is;
 }
 
-pub whole_more : {bytes : List ℕ} (more : List ℕ) {r : Asked} {n : ℕ} → IsWhole bytes r n → IsWhole (bytes ++ more) r n
+pub whole_more : {bytes : List ℕ} (more : List ℕ) {r : Asked} {n : ℕ} → IsWholeRequest bytes r n → IsWholeRequest (bytes ++ more) r n
 whole_more {bytes} more {r} {n} w = record {
   size = w.size;
   head = announces_more more w.head;
@@ -42,7 +42,7 @@ whole_more {bytes} more {r} {n} w = record {
 }
 
 -- a request that ends within the first bytes is one of them
-pub whole_less : (bytes more : List ℕ) {r : Asked} {n : ℕ} → IsWhole (bytes ++ more) r n → n ≤ length bytes → IsWhole bytes r n
+pub whole_less : (bytes more : List ℕ) {r : Asked} {n : ℕ} → IsWholeRequest (bytes ++ more) r n → n ≤ length bytes → IsWholeRequest bytes r n
 whole_less bytes more {r} {n} w le = record {
   size = w.size;
   head = announces_less bytes more w.head (omega (arith, w.len_is, le));
@@ -59,7 +59,7 @@ refusal_more bytes more ended code (inr (inr (inr (inl h)))) = inr (inr (inr (in
 refusal_more bytes more ended code (inr (inr (inr (inr (inl h))))) = inr (inr (inr (inr (inl (h.0, announces_more more h.1)))))
 refusal_more bytes more ended code (inr (inr (inr (inr (inr h))))) = let no : false ≡ true = h.1 in absurd (cc)
 
-pub stands : (bytes more : List ℕ) (ended : Bool) (frame : Frame) → IsFinal frame → Framing bytes false frame → Framing (bytes ++ more) ended frame
+pub stands : (bytes more : List ℕ) (ended : Bool) (frame : FramingResult) → IsFinalFrame frame → Framing bytes false frame → Framing (bytes ++ more) ended frame
 stands bytes more ended nothing f h = absurd f
 stands bytes more ended need f h = absurd f
 stands bytes more ended (refused code) f h = refusal_more bytes more ended code h

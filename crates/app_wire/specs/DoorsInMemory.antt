@@ -1,6 +1,6 @@
 -- Doors in memory, as contracts see them.
 use Rattle.std.specs.Prelude.{ℕ, Bool, List, [], None, Option, option_map, slice_get}
-use Rattle.fx_base.specs.Faults.{Plan, planned}
+use Rattle.fx_base.specs.Faults.{FaultPlan, fault_plan}
 use Rattle.app_wire.specs.Doorway.{Doorway, Talk}
 
 pub record DoorsInMemory : Type 0 where
@@ -9,14 +9,14 @@ pub record DoorsInMemory : Type 0 where
   -- a conversation ends after one reply
   pub single : Bool
   -- which calls fail, and the count of faults
-  pub plan : Plan
+  pub plan : FaultPlan
 
 -- before any call
 abbrev pub at_first : List (List ℕ) → Bool → List ℕ → DoorsInMemory
 at_first conversations one fails = record {
   way = record { port = None; coming = conversations; unread = []; begun = [] };
   single = one;
-  plan = planned fails;
+  plan = fault_plan fails;
 }
 
 -- what was written to a conversation, counted from 0, if it has become the present one

@@ -46,20 +46,20 @@ abbrev pub Listens : ℕ → Doorway → Doorway → Type 0
 Listens port a b = b ≡ record a { port = Some port }
 
 -- the first that was still to come is now the present one, or none is left
-abbrev pub Comes : Bool → Doorway → Doorway → Type 0
-Comes true a b =
+abbrev pub NextComes : Bool → Doorway → Doorway → Type 0
+NextComes true a b =
     (first : List ℕ) × (rest : List (List ℕ)) × (a.coming ≡ first ∷ rest)
     × (b ≡ record a { coming = rest; unread = first; begun = a.begun ++ fresh_talk ∷ [] })
-Comes false a b = (a.coming ≡ []) × (b ≡ a)
+NextComes false a b = (a.coming ≡ []) × (b ≡ a)
 
 -- these bytes were read of the present conversation, and nothing else was done
-pub record Takes (bytes : List ℕ) (a b : Doorway) : Type 0 where
+pub record DoorsTake (bytes : List ℕ) (a b : Doorway) : Type 0 where
   pub front : a.unread ≡ bytes ++ b.unread
   pub rest : b ≡ record a { unread = b.unread; begun = with_last (with_taken bytes) a.begun }
 
 -- these bytes were read; none, into some room, only at the end of the input
-pub record Reads (bytes : List ℕ) (room : ℕ) (a b : Doorway) : Type 0 where
-  pub takes : Takes bytes a b
+pub record DoorsRead (bytes : List ℕ) (room : ℕ) (a b : Doorway) : Type 0 where
+  pub takes : DoorsTake bytes a b
   pub end : length bytes ≡ 0 → 0 < room → b.unread ≡ []
 
 -- these bytes were written to the present conversation
@@ -67,7 +67,7 @@ abbrev pub Writes : List ℕ → Doorway → Doorway → Type 0
 Writes bytes a b = b ≡ record a { begun = with_last (with_written bytes) a.begun }
 
 -- a first part of these bytes, and not all of them
-pub record IsCutOff (part bytes : List ℕ) : Type 0 where
+pub record IsProperPrefix (part bytes : List ℕ) : Type 0 where
   pub rest : List ℕ
   pub is : bytes ≡ part ++ rest
   pub short : 0 < length rest
@@ -75,7 +75,7 @@ pub record IsCutOff (part bytes : List ℕ) : Type 0 where
 -- such a part of these bytes was written
 pub record WritesPart (bytes : List ℕ) (a b : Doorway) : Type 0 where
   pub part : List ℕ
-  pub cut : IsCutOff part bytes
+  pub cut : IsProperPrefix part bytes
   pub sent : Writes part a b
 
 -- the present conversation is over

@@ -15,12 +15,12 @@ pub record IsHead (front : List ℕ) (h : RequestHead) : Type 0 where
   pub few : length h.fields ≤ 64
 
 -- what its fields say of its body
-abbrev pub body_of : RequestHead → BodyLength
-body_of h = body_length (map name_and_value h.fields)
+abbrev pub length_of_body : RequestHead → BodyLength
+length_of_body h = body_length (map name_and_value h.fields)
 
 -- the method of this name
-abbrev pub method_of : List ℕ → Method
-method_of name =
+abbrev pub method_named : List ℕ → Method
+method_named name =
     if bytes_eq name (codes "GET") then Get
     else (if bytes_eq name (codes "PUT") then Put
     else (if bytes_eq name (codes "POST") then Post
@@ -28,11 +28,11 @@ method_of name =
     else Other)))
 
 -- the target up to its first question mark
-abbrev pub path_of : List ℕ → List ℕ
-path_of target = take (unwrap_or (position (λ b. b == 63) target) (length target)) target
+abbrev pub target_path : List ℕ → List ℕ
+target_path target = take (unwrap_or (position (λ b. b == 63) target) (length target)) target
 
 -- what was read of a front
-abbrev pub Reads : List ℕ → Head → Type 0
-Reads front Bad = (h : RequestHead) → IsHead front h → ⊥
-Reads front (Whole method path body) =
-    (h : RequestHead) × IsHead front h × (body ≡ body_of h) × (method ≡ method_of h.method) × (path.now ≡ path_of h.target)
+abbrev pub HeadReads : List ℕ → Head → Type 0
+HeadReads front Bad = (h : RequestHead) → IsHead front h → ⊥
+HeadReads front (Whole method path body) =
+    (h : RequestHead) × IsHead front h × (body ≡ length_of_body h) × (method ≡ method_named h.method) × (path.now ≡ target_path h.target)

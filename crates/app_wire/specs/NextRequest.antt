@@ -1,31 +1,31 @@
 -- The next request of a conversation over doors.
 use Rattle.std.specs.Prelude.{◌≡◌, ◌⊎◌, ◌<◌, ◌≤◌, ℕ, true, List, [], ◌++◌, length, drop, Option, Some, None, Result, Ok, Err}
 use Rattle.fx_number.specs.declared.memory.Memory.{Memory}
-use Rattle.app_wire.specs.Doorway.{Doorway, Takes}
-use Rattle.app_wire.specs.Framing.{asked, nothing, refused, whole, Framing, IsOpen}
+use Rattle.app_wire.specs.Doorway.{Doorway, DoorsTake}
+use Rattle.app_wire.specs.Framing.{asked, nothing, refused, whole, Framing, IsStillOpen}
 use Rattle.app_wire.specs.declared.framer.Fed.{Fed}
 use Rattle.app_wire.specs.declared.framer.Fed.TheVariants as fed
 use Rattle.app_wire.specs.declared.next.Found.{Found}
 use Rattle.app_wire.specs.declared.next.Found.TheVariants as next
 
 -- what an answer of the framer found, if it did
-abbrev pub found_in : Result Fed Memory → Option Found
-found_in (Ok fed.Need) = None
-found_in (Ok (fed.Whole request)) = Some (next.Whole request)
-found_in (Ok (fed.Refused code)) = Some (next.Refused code)
-found_in (Err e) = Some next.Memory
+abbrev pub frame_found : Result Fed Memory → Option Found
+frame_found (Ok fed.Need) = None
+frame_found (Ok (fed.Whole request)) = Some (next.Whole request)
+frame_found (Ok (fed.Refused code)) = Some (next.Refused code)
+frame_found (Err e) = Some next.Memory
 
 -- what was read is held after what was held
 pub record Keeps (held held' : List ℕ) (a b : Doorway) : Type 0 where
   pub read : List ℕ
   pub held_is : held' ≡ held ++ read
-  pub takes : Takes read a b
+  pub takes : DoorsTake read a b
 
 -- nothing was read, or the last read, of at most 512 bytes, was made while no request was whole and none refused
 abbrev pub ReadsLittle : List ℕ → List ℕ → Type 0
 ReadsLittle held read =
     (read ≡ [])
-    ⊎ ((earlier : List ℕ) × (last : List ℕ) × IsOpen (held ++ earlier) × (length last ≤ 512) × (read ≡ earlier ++ last))
+    ⊎ ((earlier : List ℕ) × (last : List ℕ) × IsStillOpen (held ++ earlier) × (length last ≤ 512) × (read ≡ earlier ++ last))
 
 -- What the rest of the conversation, to its end, begins with, where these bytes of it came, and what of them is held then.
 -- Memory runs out only where a byte is left.
@@ -35,12 +35,12 @@ Begins (next.Whole request) rest came held' =
 Begins (next.Refused code) rest came held' = Framing rest true (refused code) × (held' ≡ came)
 Begins next.Quiet rest came held' = Framing rest true nothing × (held' ≡ came)
 Begins next.Memory rest came held' = 0 < length rest
-Begins next.Failed rest came held' = IsOpen came × (held' ≡ came)
+Begins next.Failed rest came held' = IsStillOpen came × (held' ≡ came)
 
 -- it was found by reading this, and nothing else was done with the doors
 pub record FindsNext (found : Found) (held held' : List ℕ) (a b : Doorway) : Type 0 where
   pub read : List ℕ
-  pub takes : Takes read a b
+  pub takes : DoorsTake read a b
   pub little : ReadsLittle held read
   pub begins : Begins found (held ++ a.unread) (held ++ read) held'
 

@@ -1,6 +1,6 @@
 -- The bytes of a reply.
 use Rattle.std.specs.Prelude.{ℕ, ◌==◌, ◌||◌, Bool, List, ◌++◌, length, codes, decimal}
-use Rattle.view_text.specs.Refusals.{name_of, status_of}
+use Rattle.view_text.specs.Refusals.{name_of_code, refusal_status}
 use Rattle.view_text.specs.Statuses.{reason_of}
 
 -- the status line and the fields, for a body of so many bytes
@@ -17,11 +17,11 @@ reply status body = reply_head status (reason_of status) (length body) ++ body
 -- the body of a refusal with no detail
 abbrev pub refusal_body : ℕ → List ℕ
 refusal_body code =
-    codes "{\"refused\":{\"code\":" ++ decimal code ++ codes ",\"detail\":null,\"name\":\"" ++ name_of code ++ codes "\"}}"
+    codes "{\"refused\":{\"code\":" ++ decimal code ++ codes ",\"detail\":null,\"name\":\"" ++ name_of_code code ++ codes "\"}}"
 
 -- the whole reply of a refusal with no detail
 unfoldable pub refusal : ℕ → List ℕ
-refusal code = reply (status_of code) (refusal_body code)
+refusal code = reply (refusal_status code) (refusal_body code)
 
 -- the refusals whose replies take no memory
 abbrev pub is_fixed : ℕ → Bool

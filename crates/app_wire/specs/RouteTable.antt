@@ -3,7 +3,7 @@ use Rattle.std.specs.Prelude.{◌≡◌, ℕ, ◌≤◌, List, [], ◌∷◌, �
 use Rattle.std.specs.List.{AllZip}
 use Rattle.matchit.specs.Rows.{RowsOf, param_token}
 use Rattle.matchit.specs.Router.{RouteOf}
-use Rattle.app_wire.specs.Routing.{IsCallerName, IsNumber, IsTitle, HasPath, Part, Says, method_of, parts_of}
+use Rattle.app_wire.specs.Routing.{IsCallerName, IsRouteNumber, IsTitle, HasPath, RoutePart, SaysPart, method_of, path_parts}
 use Rattle.app_wire.specs.declared.head.Method.{Method}
 use Rattle.app_wire.specs.declared.route.Place.{Place}
 use Rattle.app_wire.specs.declared.route.Place.TheVariants as place
@@ -42,21 +42,21 @@ tokens (title ∷ rest) = 47 ∷ param_token ∷ tokens rest
 tokens (number ∷ rest) = 47 ∷ param_token ∷ tokens rest
 
 -- a place as the router's route is written, and where the names of its parameters stand in that
-abbrev pub written : Place → List ℕ × List (ℕ × ℕ)
-written place.Session = (codes "/s/{name}", (4, 8) ∷ [])
-written place.View = (codes "/s/{name}/view", (4, 8) ∷ [])
-written place.Named = (codes "/s/{name}/named", (4, 8) ∷ [])
-written place.Items = (codes "/s/{name}/items/{gallery}/{from}", (4, 8) ∷ (17, 24) ∷ (27, 31) ∷ [])
-written place.Event = (codes "/s/{name}/event", (4, 8) ∷ [])
-written place.Input = (codes "/s/{name}/input", (4, 8) ∷ [])
-written place.Rows = (codes "/desk/{name}/rows", (7, 11) ∷ [])
-written place.Edit = (codes "/desk/{name}/edit", (7, 11) ∷ [])
-written place.Page = (codes "/rows/{table}/{after}", (7, 12) ∷ (15, 20) ∷ [])
-written place.Plan = (codes "/plan", [])
-written place.Graph = (codes "/graph", [])
+abbrev pub route_pattern : Place → List ℕ × List (ℕ × ℕ)
+route_pattern place.Session = (codes "/s/{name}", (4, 8) ∷ [])
+route_pattern place.View = (codes "/s/{name}/view", (4, 8) ∷ [])
+route_pattern place.Named = (codes "/s/{name}/named", (4, 8) ∷ [])
+route_pattern place.Items = (codes "/s/{name}/items/{gallery}/{from}", (4, 8) ∷ (17, 24) ∷ (27, 31) ∷ [])
+route_pattern place.Event = (codes "/s/{name}/event", (4, 8) ∷ [])
+route_pattern place.Input = (codes "/s/{name}/input", (4, 8) ∷ [])
+route_pattern place.Rows = (codes "/desk/{name}/rows", (7, 11) ∷ [])
+route_pattern place.Edit = (codes "/desk/{name}/edit", (7, 11) ∷ [])
+route_pattern place.Page = (codes "/rows/{table}/{after}", (7, 12) ∷ (15, 20) ∷ [])
+route_pattern place.Plan = (codes "/plan", [])
+route_pattern place.Graph = (codes "/graph", [])
 
-abbrev pub row_of : Place → RouteOf Place
-row_of p = record { pattern = tokens (kinds p); text = (written p).0; names = (written p).1; value = p }
+abbrev pub route_row : Place → RouteOf Place
+route_row p = record { pattern = tokens (kinds p); text = (route_pattern p).0; names = (route_pattern p).1; value = p }
 
 -- all places, in the router's order: a pattern stands after those that go on from it
 abbrev pub places : List Place
@@ -65,59 +65,59 @@ places =
     ∷ place.View ∷ place.Session ∷ []
 
 -- the router's rows
-unfoldable pub table : RowsOf (RouteOf Place)
-table = map (λ p. (tokens (kinds p), row_of p)) places
+unfoldable pub route_table : RowsOf (RouteOf Place)
+route_table = map (λ p. (tokens (kinds p), route_row p)) places
 
 -- the place of a row that was found
-abbrev pub place_in : Option (RouteOf Place) → Option Place
-place_in None = None
-place_in (Some r) = Some r.value
+abbrev pub found_place : Option (RouteOf Place) → Option Place
+found_place None = None
+found_place (Some r) = Some r.value
 
 -- the router takes these bytes there: a word as it is, and for anything else at least one byte
-abbrev pub Takes : List ℕ → Kind → Type 0
-Takes bytes (text word) = bytes ≡ word
-Takes bytes caller = 1 ≤ length bytes
-Takes bytes title = 1 ≤ length bytes
-Takes bytes number = 1 ≤ length bytes
+abbrev pub RoutePartTakes : List ℕ → Kind → Type 0
+RoutePartTakes bytes (text word) = bytes ≡ word
+RoutePartTakes bytes caller = 1 ≤ length bytes
+RoutePartTakes bytes title = 1 ≤ length bytes
+RoutePartTakes bytes number = 1 ≤ length bytes
 
 -- the path is that of a place, or of none, whatever stands in its parts
 abbrev pub Placed : List ℕ → Option Place → Type 0
-Placed path (Some p) = AllZip Takes (parts_of path) (text [] ∷ kinds p)
-Placed path None = (p : Place) → AllZip Takes (parts_of path) (text [] ∷ kinds p) → ⊥
+Placed path (Some p) = AllZip RoutePartTakes (path_parts path) (text [] ∷ kinds p)
+Placed path None = (p : Place) → AllZip RoutePartTakes (path_parts path) (text [] ∷ kinds p) → ⊥
 
 -- the bytes are of this kind
 abbrev pub Is : Kind → List ℕ → Type 0
 Is (text word) bytes = bytes ≡ word
 Is caller bytes = IsCallerName bytes
 Is title bytes = IsTitle bytes
-Is number bytes = IsNumber bytes
+Is number bytes = IsRouteNumber bytes
 
 -- a part is read: it says the value, or is not of its kind
-abbrev pub Reads : {A : Type 0} → Kind → (A → Part) → List ℕ → Result A RouteEnd → Type 0
-Reads kind part bytes (Ok value) = Says bytes (part value)
-Reads kind part bytes (Err NoRoute) = Is kind bytes → ⊥
-Reads kind part bytes (Err WrongMethod) = ⊥
-Reads kind part bytes (Err Memory) = Unit {0}
+abbrev pub RoutePartReads : {A : Type 0} → Kind → (A → RoutePart) → List ℕ → Result A RouteEnd → Type 0
+RoutePartReads kind part bytes (Ok value) = SaysPart bytes (part value)
+RoutePartReads kind part bytes (Err NoRoute) = Is kind bytes → ⊥
+RoutePartReads kind part bytes (Err WrongMethod) = ⊥
+RoutePartReads kind part bytes (Err Memory) = Unit {0}
 
 -- the place of a route
-abbrev pub place_of : Route → Place
-place_of (Begin name) = place.Session
-place_of (End name) = place.Session
-place_of (View name) = place.View
-place_of (Named name) = place.Named
-place_of (Items name gallery from) = place.Items
-place_of (Event name) = place.Event
-place_of (Input name) = place.Input
-place_of (Rows name) = place.Rows
-place_of (Edit name) = place.Edit
-place_of (Page name after) = place.Page
-place_of Plan = place.Plan
-place_of Graph = place.Graph
+abbrev pub route_index : Route → Place
+route_index (Begin name) = place.Session
+route_index (End name) = place.Session
+route_index (View name) = place.View
+route_index (Named name) = place.Named
+route_index (Items name gallery from) = place.Items
+route_index (Event name) = place.Event
+route_index (Input name) = place.Input
+route_index (Rows name) = place.Rows
+route_index (Edit name) = place.Edit
+route_index (Page name after) = place.Page
+route_index Plan = place.Plan
+route_index Graph = place.Graph
 
 -- A route is read at its place: of the routes of this path the one with this method, where one has it; or the path has none there.
-abbrev pub Finds : Place → Method → List ℕ → Result Route RouteEnd → Type 0
-Finds p method path (Ok route) =
-    HasPath path route × (place_of route ≡ p) × ((other : Route) → place_of other ≡ p → method_of other ≡ method → method_of route ≡ method)
-Finds p method path (Err NoRoute) = (route : Route) → place_of route ≡ p → HasPath path route → ⊥
-Finds p method path (Err WrongMethod) = ⊥
-Finds p method path (Err Memory) = Unit {0}
+abbrev pub RouterFinds : Place → Method → List ℕ → Result Route RouteEnd → Type 0
+RouterFinds p method path (Ok route) =
+    HasPath path route × (route_index route ≡ p) × ((other : Route) → route_index other ≡ p → method_of other ≡ method → method_of route ≡ method)
+RouterFinds p method path (Err NoRoute) = (route : Route) → route_index route ≡ p → HasPath path route → ⊥
+RouterFinds p method path (Err WrongMethod) = ⊥
+RouterFinds p method path (Err Memory) = Unit {0}

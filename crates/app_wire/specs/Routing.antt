@@ -18,9 +18,9 @@ abbrev pub with_byte : ℕ → List (List ℕ) → List (List ℕ)
 with_byte b [] = (b ∷ []) ∷ []
 with_byte b (part ∷ parts) = (b ∷ part) ∷ parts
 
-abbrev pub parts_of : List ℕ → List (List ℕ)
-parts_of [] = [] ∷ []
-parts_of (b ∷ path) = if b == 47 then [] ∷ parts_of path else with_byte b (parts_of path)
+abbrev pub path_parts : List ℕ → List (List ℕ)
+path_parts [] = [] ∷ []
+path_parts (b ∷ path) = if b == 47 then [] ∷ path_parts path else with_byte b (path_parts path)
 
 -- A to Z, a to z, 0 to 9, `_` or `-`
 abbrev pub is_name_byte : ℕ → Bool
@@ -46,44 +46,44 @@ pub record IsTitle (bytes : List ℕ) : Type 0 where
   pub decoded : IsUtf8 (percent_decode bytes)
 
 -- a number: 1 to 10 digits, of 32 bits
-pub record IsNumber (bytes : List ℕ) : Type 0 where
+pub record IsRouteNumber (bytes : List ℕ) : Type 0 where
   pub some : 1 ≤ length bytes
   pub few : length bytes ≤ 10
   pub digits : list_all is_ascii_digit bytes ≡ true
   pub within : digits_value 10 bytes ≤ 4294967295
 
 -- what a part of a path may say: a word of the route, the name of a caller, that of a gallery or a table, or a number
-pub data Part : Type 0 where
-  word : List ℕ → Part
-  caller : List ℕ → Part
-  title : List ℕ → Part
-  number : ℕ → Part
+pub data RoutePart : Type 0 where
+  word : List ℕ → RoutePart
+  caller : List ℕ → RoutePart
+  title : List ℕ → RoutePart
+  number : ℕ → RoutePart
 
 -- These bytes say it. A caller's name is taken as it stands, and a title is decoded once.
-abbrev pub Says : List ℕ → Part → Type 0
-Says bytes (word text) = bytes ≡ text
-Says bytes (caller name) = IsCallerName bytes × (name ≡ bytes)
-Says bytes (title name) = IsTitle bytes × (name ≡ scalars_of (percent_decode bytes))
-Says bytes (number n) = IsNumber bytes × (n ≡ digits_value 10 bytes)
+abbrev pub SaysPart : List ℕ → RoutePart → Type 0
+SaysPart bytes (word text) = bytes ≡ text
+SaysPart bytes (caller name) = IsCallerName bytes × (name ≡ bytes)
+SaysPart bytes (title name) = IsTitle bytes × (name ≡ scalars_of (percent_decode bytes))
+SaysPart bytes (number n) = IsRouteNumber bytes × (n ≡ digits_value 10 bytes)
 
 -- THE routes: what their paths say, part by part behind the first slash
-abbrev pub path_of : Route → List Part
-path_of (Begin name) = word (codes "s") ∷ caller name ∷ []
-path_of (End name) = word (codes "s") ∷ caller name ∷ []
-path_of (View name) = word (codes "s") ∷ caller name ∷ word (codes "view") ∷ []
-path_of (Named name) = word (codes "s") ∷ caller name ∷ word (codes "named") ∷ []
-path_of (Items name gallery from) = word (codes "s") ∷ caller name ∷ word (codes "items") ∷ title gallery ∷ number from ∷ []
-path_of (Event name) = word (codes "s") ∷ caller name ∷ word (codes "event") ∷ []
-path_of (Input name) = word (codes "s") ∷ caller name ∷ word (codes "input") ∷ []
-path_of (Rows name) = word (codes "desk") ∷ caller name ∷ word (codes "rows") ∷ []
-path_of (Edit name) = word (codes "desk") ∷ caller name ∷ word (codes "edit") ∷ []
-path_of (Page name after) = word (codes "rows") ∷ title name ∷ number after ∷ []
-path_of Plan = word (codes "plan") ∷ []
-path_of Graph = word (codes "graph") ∷ []
+abbrev pub route_path : Route → List RoutePart
+route_path (Begin name) = word (codes "s") ∷ caller name ∷ []
+route_path (End name) = word (codes "s") ∷ caller name ∷ []
+route_path (View name) = word (codes "s") ∷ caller name ∷ word (codes "view") ∷ []
+route_path (Named name) = word (codes "s") ∷ caller name ∷ word (codes "named") ∷ []
+route_path (Items name gallery from) = word (codes "s") ∷ caller name ∷ word (codes "items") ∷ title gallery ∷ number from ∷ []
+route_path (Event name) = word (codes "s") ∷ caller name ∷ word (codes "event") ∷ []
+route_path (Input name) = word (codes "s") ∷ caller name ∷ word (codes "input") ∷ []
+route_path (Rows name) = word (codes "desk") ∷ caller name ∷ word (codes "rows") ∷ []
+route_path (Edit name) = word (codes "desk") ∷ caller name ∷ word (codes "edit") ∷ []
+route_path (Page name after) = word (codes "rows") ∷ title name ∷ number after ∷ []
+route_path Plan = word (codes "plan") ∷ []
+route_path Graph = word (codes "graph") ∷ []
 
 -- the route is one of this path, whatever the method
 abbrev pub HasPath : List ℕ → Route → Type 0
-HasPath path route = AllZip Says (parts_of path) (word [] ∷ path_of route)
+HasPath path route = AllZip SaysPart (path_parts path) (word [] ∷ route_path route)
 
 -- and their methods
 abbrev pub method_of : Route → Method

@@ -1,9 +1,9 @@
 //! Conversations.
 ghost use Rattle.std.specs.Prelude.{◌≡◌, ℕ, ◌<◌, ◌≤◌, Bool, IfOk, OnErr, OnOk, Option, length, take};
 ghost use Rattle.std.specs.Io.{ReadsAtMost, WritesAtMost};
-ghost use Rattle.fx_base.specs.Faults.{HasCause};
+ghost use Rattle.fx_base.specs.Faults.{HasFaultCause};
 ghost use Rattle.fx_base.specs.Telling.{Changes, Stays, Tells};
-ghost use Rattle.app_wire.specs.Doorway.{Closes, Comes, Doorway, Listens, Reads, Writes, WritesPart};
+ghost use Rattle.app_wire.specs.Doorway.{Closes, NextComes, Doorway, Listens, DoorsRead, Writes, WritesPart};
 
 use fx_base::Failed;
 
@@ -21,23 +21,23 @@ pub trait Doors {
         ensures ok { OnOk result (Changes (Listens port) (told self.old) (told self.new)) }
         ensures err { OnErr result (Changes Stays (told self.old) (told self.new)) }
         ensures single { single self.new ≡ single self.old }
-        ensures cause { HasCause (faults self.old) (faults self.new) result };
+        ensures cause { HasFaultCause (faults self.old) (faults self.new) result };
 
     /// Goes to the next conversation, if one is left.
     fn next(&mut self) -> Result<bool, Failed>
-        ensures ok { IfOk result (λ more. Changes (Comes more) (told self.old) (told self.new)) }
+        ensures ok { IfOk result (λ more. Changes (NextComes more) (told self.old) (told self.new)) }
         ensures err { OnErr result (Changes Stays (told self.old) (told self.new)) }
         ensures single { single self.new ≡ single self.old }
-        ensures cause { HasCause (faults self.old) (faults self.new) result };
+        ensures cause { HasFaultCause (faults self.old) (faults self.new) result };
 
     /// Reads some bytes of the present conversation. Into room that isn't empty it reads none only at the end of the
     /// input.
     fn read(&mut self, room: &mut [u8]) -> Result<usize, Failed>
         ensures bound { ReadsAtMost result room.new }
-        ensures ok { IfOk result (λ n. Changes (Reads (take n room.new) (length room.old)) (told self.old) (told self.new)) }
+        ensures ok { IfOk result (λ n. Changes (DoorsRead (take n room.new) (length room.old)) (told self.old) (told self.new)) }
         ensures err { OnErr result (Changes Stays (told self.old) (told self.new)) }
         ensures single { single self.new ≡ single self.old }
-        ensures cause { HasCause (faults self.old) (faults self.new) result };
+        ensures cause { HasFaultCause (faults self.old) (faults self.new) result };
 
     /// Writes some bytes to the present conversation, at least one of a piece that isn't empty.
     fn write(&mut self, piece: &[u8]) -> Result<usize, Failed>
@@ -46,7 +46,7 @@ pub trait Doors {
         ensures ok { IfOk result (λ n. Changes (Writes (take n piece.now)) (told self.old) (told self.new)) }
         ensures err { OnErr result (Changes Stays (told self.old) (told self.new)) }
         ensures single { single self.new ≡ single self.old }
-        ensures cause { HasCause (faults self.old) (faults self.new) result };
+        ensures cause { HasFaultCause (faults self.old) (faults self.new) result };
 
     /// Ends the present conversation.
     fn hang_up(&mut self)
@@ -64,7 +64,7 @@ pub fn write_all<D: Doors>(doors: &mut D, bytes: &[u8]) -> Result<(), Failed>
     ensures ok { OnOk result (Tells (Writes bytes.now) (D.told doors.old) (D.told doors.new)) }
     ensures err { OnErr result (Tells (WritesPart bytes.now) (D.told doors.old) (D.told doors.new)) }
     ensures single { D.single doors.new ≡ D.single doors.old }
-    ensures cause { HasCause (D.faults doors.old) (D.faults doors.new) result }
+    ensures cause { HasFaultCause (D.faults doors.old) (D.faults doors.new) result }
 {
     let mut at = 0;
     while at < bytes.len() {

@@ -1,6 +1,6 @@
 //! Requests from the pieces of a conversation.
 ghost use Rattle.std.specs.Prelude.{◌≡◌, ◌<◌, ◌≤◌, ◌++◌, IfOk, OnErr, [], drop, length, vec_len, ◌↔◌, IsTrue, true};
-ghost use Rattle.app_wire.specs.Framing.{Finds, Feeds, Framing, refused};
+ghost use Rattle.app_wire.specs.Framing.{LookFinds, Feeds, Framing, refused};
 
 use crate::body::BodyLength;
 use crate::front::{HEAD_ROOM, head_end};
@@ -40,7 +40,7 @@ pub(crate) enum Look<'a> {
 
 /// Looks at the bytes that came.
 pub(crate) fn look_at(bytes: &[u8]) -> Look<'_>
-    ensures { Finds bytes.now result }
+    ensures { LookFinds bytes.now result }
 {
     match head_end(bytes) {
         Some(start) => match read_head(&bytes[..start]) {

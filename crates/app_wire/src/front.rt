@@ -1,6 +1,6 @@
 //! The front of the bytes, up to their first blank line.
 ghost use Rattle.std.specs.Prelude.{◌≡◌, ◌↔◌, IsTrue, MatchOption, length, min};
-ghost use Rattle.app_wire.specs.Framing.{EndsBlank, HasNoBlank, IsFront};
+ghost use Rattle.app_wire.specs.Framing.{EndsBlank, HasNoBlank, IsHeadEnd};
 
 /// The most bytes of a head.
 pub const HEAD_ROOM: usize = 8192;
@@ -14,7 +14,7 @@ fn ends_blank(bytes: &[u8]) -> bool
 
 /// The length of the head that the bytes begin with.
 pub(crate) fn head_end(bytes: &[u8]) -> Option<usize>
-    ensures { MatchOption result (HasNoBlank bytes.now (min (length bytes.now) HEAD_ROOM)) (IsFront bytes.now) }
+    ensures { MatchOption result (HasNoBlank bytes.now (min (length bytes.now) HEAD_ROOM)) (IsHeadEnd bytes.now) }
 {
     let room = bytes.len().min(HEAD_ROOM);
     for k in 0..room {

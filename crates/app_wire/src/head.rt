@@ -1,6 +1,6 @@
 //! The head of a request.
 ghost use Rattle.std.specs.Prelude.{◌≡◌, ◌==◌, position, ◌≤◌, ◌<◌, ℕ, length, map, take, IsTrue, All};
-ghost use Rattle.app_wire.specs.Head.{method_of, path_of, Reads};
+ghost use Rattle.app_wire.specs.Head.{method_named, target_path, HeadReads};
 
 use crate::body::{BodyLength, body_length};
 use httparse::Status;
@@ -29,7 +29,7 @@ pub(crate) enum Head<'a> {
 }
 
 fn method_of(name: &[u8]) -> Method
-    ensures { result ≡ method_of name.now }
+    ensures { result ≡ method_named name.now }
 {
     if name == b"GET".as_slice() {
         Method::Get
@@ -51,7 +51,7 @@ fn query_start(target: &[u8]) -> Option<usize>
 }
 
 fn path_within(target: &[u8]) -> &[u8]
-    ensures { result.now ≡ path_of target.now }
+    ensures { result.now ≡ target_path target.now }
 {
     match query_start(target) {
         Some(at) => &target[..at],
@@ -61,7 +61,7 @@ fn path_within(target: &[u8]) -> &[u8]
 
 /// Reads a front that ends with its first blank line.
 pub(crate) fn read_head(front: &[u8]) -> Head<'_>
-    ensures { Reads front.now result }
+    ensures { HeadReads front.now result }
 {
     let mut headers = [EMPTY_HEADER_SPAN; FIELD_ROOM];
     match parse_request(front, &mut headers) {

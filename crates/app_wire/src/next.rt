@@ -2,7 +2,7 @@
 ghost use Rattle.std.specs.Prelude.{◌≡◌, ◌≤◌};
 ghost use Rattle.fx_base.specs.Faults.{Rose};
 ghost use Rattle.fx_base.specs.Telling.{Tells};
-ghost use Rattle.app_wire.specs.NextRequest.{FindsNext, HasCode, found_in};
+ghost use Rattle.app_wire.specs.NextRequest.{FindsNext, HasCode, frame_found};
 
 use crate::doors::Doors;
 use crate::framer::{Fed, Framer, Request};
@@ -23,7 +23,7 @@ pub enum Found {
 }
 
 fn found_of(fed: Result<Fed, Memory>) -> Option<Found>
-    ensures { result ≡ found_in fed }
+    ensures { result ≡ frame_found fed }
 {
     match fed {
         Ok(Fed::Need) => None,

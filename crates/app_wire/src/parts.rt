@@ -2,9 +2,9 @@
 ghost use Rattle.std.specs.Prelude.{◌≡◌, ℕ, ◌<◌, ◌+◌, ◌==◌, [], length, slice_index, get_or, true, IsTrue, ◌↔◌};
 ghost use Rattle.std.specs.List.{after_first, before_first, list_all};
 ghost use Rattle.std.specs.Char.{is_digit};
-ghost use Rattle.app_wire.specs.Routing.{HasWholeEscapes, IsCallerName, is_name_byte, parts_of};
+ghost use Rattle.app_wire.specs.Routing.{HasWholeEscapes, IsCallerName, is_name_byte, path_parts};
 ghost use Rattle.app_wire.specs.Routing as part;
-ghost use Rattle.app_wire.specs.RouteTable.{Reads};
+ghost use Rattle.app_wire.specs.RouteTable.{RoutePartReads};
 ghost use Rattle.app_wire.specs.RouteTable as kind;
 
 use crate::body::number_of;
@@ -39,7 +39,7 @@ fn behind_slash(path: &str) -> &str
 
 /// The part of this number; nothing where there are fewer.
 fn part_at(path: &str, number: usize) -> &str
-    ensures { result.now ≡ get_or (parts_of path.now) number [] }
+    ensures { result.now ≡ get_or (path_parts path.now) number [] }
 {
     let mut rest = path;
     for _ in 0..number {
@@ -71,7 +71,7 @@ fn is_caller_name(name: &[u8]) -> bool
 
 /// The caller that a part names. A caller's name is never decoded.
 pub(crate) fn caller_at(alloc: Global, path: &str, number: usize) -> Result<Words, RouteEnd>
-    ensures { Reads kind.caller part.caller (get_or (parts_of path.now) number []) result }
+    ensures { RoutePartReads kind.caller part.caller (get_or (path_parts path.now) number []) result }
 {
     let part = part_at(path, number);
     if !is_caller_name(part.as_bytes()) {
@@ -104,7 +104,7 @@ fn has_whole_escapes(bytes: &[u8]) -> bool
 
 /// The gallery or table that a part names, decoded once.
 pub(crate) fn title_at(alloc: Global, path: &str, number: usize) -> Result<Words, RouteEnd>
-    ensures { Reads kind.title part.title (get_or (parts_of path.now) number []) result }
+    ensures { RoutePartReads kind.title part.title (get_or (path_parts path.now) number []) result }
 {
     let part = part_at(path, number);
     if part.is_empty() || !has_whole_escapes(part.as_bytes()) {
@@ -119,7 +119,7 @@ pub(crate) fn title_at(alloc: Global, path: &str, number: usize) -> Result<Words
 
 /// The number that a part writes.
 pub(crate) fn number_at(path: &str, number: usize) -> Result<u32, RouteEnd>
-    ensures { Reads kind.number part.number (get_or (parts_of path.now) number []) result }
+    ensures { RoutePartReads kind.number part.number (get_or (path_parts path.now) number []) result }
 {
     let part = part_at(path, number).as_bytes();
     if part.len() > MOST_DIGITS {

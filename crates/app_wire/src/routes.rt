@@ -1,7 +1,7 @@
 //! The routes of requests.
 ghost use Rattle.std.specs.Prelude.{◌≡◌, [], IfOk, OnOk, Some};
 ghost use Rattle.app_wire.specs.Routing.{Routing};
-ghost use Rattle.app_wire.specs.RouteTable.{Finds, Placed, table};
+ghost use Rattle.app_wire.specs.RouteTable.{RouterFinds, Placed, route_table};
 
 use crate::framer::Request;
 use crate::head::Method;
@@ -12,7 +12,7 @@ use matchit::{InsertError, Router};
 use std::alloc::Global;
 
 fn make(alloc: Global) -> Result<Router<Place>, InsertError>
-    ensures { IfOk result (λ r. r ≡ table) }
+    ensures { IfOk result (λ r. r ≡ route_table) }
 {
     let mut router = Router::new(alloc);
     add_places(&mut router)?;
@@ -22,7 +22,7 @@ fn make(alloc: Global) -> Result<Router<Place>, InsertError>
 // Apart from what owns the router: a value that is owned is let go at each exit, and each of these calls has one.
 fn add_places(router: &mut Router<Place>) -> Result<(), InsertError>
     requires { router.old ≡ [] }
-    ensures { OnOk result (router.new ≡ table) }
+    ensures { OnOk result (router.new ≡ route_table) }
 {
     router.insert("/s/{name}", Place::Session)?;
     router.insert("/s/{name}/view", Place::View)?;
@@ -39,7 +39,7 @@ fn add_places(router: &mut Router<Place>) -> Result<(), InsertError>
 }
 
 fn place_of(router: &Router<Place>, path: &str) -> Option<Place>
-    requires { router.now ≡ table }
+    requires { router.now ≡ route_table }
     ensures { Placed path.now result }
 {
     match router.at(path) {
@@ -51,7 +51,7 @@ fn place_of(router: &Router<Place>, path: &str) -> Option<Place>
 /// The route of a path at its place: of the two of a session the one with this method, if one has it.
 fn route_at(alloc: Global, place: Place, method: Method, path: &str) -> Result<Route, RouteEnd>
     requires { Placed path.now (Some place) }
-    ensures { Finds place method path.now result }
+    ensures { RouterFinds place method path.now result }
 {
     match place {
         Place::Session => session_at(alloc, method, path),
@@ -74,7 +74,7 @@ fn route_at(alloc: Global, place: Place, method: Method, path: &str) -> Result<R
 
 fn session_at(alloc: Global, method: Method, path: &str) -> Result<Route, RouteEnd>
     requires { Placed path.now (Some Place.Session) }
-    ensures { Finds Place.Session method path.now result }
+    ensures { RouterFinds Place.Session method path.now result }
 {
     let name = caller_at(alloc, path, 2)?;
     match method {
@@ -87,7 +87,7 @@ fn session_at(alloc: Global, method: Method, path: &str) -> Result<Route, RouteE
 #[derive(Drop)]
 pub struct Routes {
     router: Router<Place>,
-    ghost whole: { router ≡ table },
+    ghost whole: { router ≡ route_table },
 }
 
 impl Routes {

@@ -7,15 +7,15 @@ use Rattle.std.specs.List.{Contains}
 use Rattle.std.specs.Prelude.{Vec}
 use Rattle.std.specs.declared.alloc.Global.{Global}
 use Rattle.std.proofs.lemmas.List.{map-set, get_or-map}
-use Rattle.depend_graph.specs.Lists.{at, lists_of, AddsEach, AreReaders, AreTurned}
+use Rattle.depend_graph.specs.Lists.{nth_list, lists_of, AddsEach, AreReaders, AreTurned}
 
 -- what a read of one list gives
-pub list_at : (ls : List (Vec ℕ Global)) (i : ℕ) (v : Vec ℕ Global) → i < length ls → v ≡ get_or ls i v → at (lists_of ls) i ≡ v.items
+pub list_at : (ls : List (Vec ℕ Global)) (i : ℕ) (v : Vec ℕ Global) → i < length ls → v ≡ get_or ls i v → nth_list (lists_of ls) i ≡ v.items
 list_at ls i v lt e = get_or-map (λ (w : Vec ℕ Global). w.items) ls i v [] lt ∙ ap (λ (w : Vec ℕ Global). w.items) (sym e)
 
 -- the lists with one item more
 abbrev pub with_item : List (List ℕ) → ℕ → ℕ → List (List ℕ)
-with_item ls place item = set ls place (at ls place ++ item ∷ [])
+with_item ls place item = set ls place (nth_list ls place ++ item ∷ [])
 
 -- a push to one list
 pub pushed : (ls : List (Vec ℕ Global)) (i item : ℕ) (v w : Vec ℕ Global) → i < length ls → v ≡ get_or ls i v → w.items ≡ v.items ++ item ∷ [] → lists_of (set ls i w) ≡ with_item (lists_of ls) i item
@@ -23,7 +23,7 @@ pushed ls i item v w lt read e =
     map-set (λ (x : Vec ℕ Global). x.items) ls i w ∙ ap (set (lists_of ls) i) (e ∙ ap (λ (xs : List ℕ). xs ++ item ∷ []) (sym (list_at ls i v lt read)))
 
 abbrev pub GotItem : List (List ℕ) → List (List ℕ) → ℕ → ℕ → ℕ → ℕ → Type 0
-GotItem old new place item k n = Contains (at new k) n ↔ (Contains (at old k) n ⊎ ((k ≡ place) × (n ≡ item)))
+GotItem old new place item k n = Contains (nth_list new k) n ↔ (Contains (nth_list old k) n ⊎ ((k ≡ place) × (n ≡ item)))
 
 contains_along : (xs ys : List ℕ) (n : ℕ) → xs ≡ ys → Contains xs n → Contains ys n
 contains_along xs ys n e h = let P : List ℕ → Type 0 = λ zs. Contains zs n in subst P e h
@@ -48,8 +48,8 @@ got_elsewhere xs ys k place item n ne e =
 pub got : (ls : List (List ℕ)) (place item k n : ℕ) → place < length ls → GotItem ls (with_item ls place item) place item k n
 got ls place item k n lt = elim (cases_eq k place) [
   | inl e ↦ let P : ℕ → Type 0 = λ j. GotItem ls (with_item ls place item) place item j n in
-      subst P (sym e) (got_here (at ls place) _ place item n (get_or-set_same ls place _ [] lt))
-  | inr ne ↦ got_elsewhere (at ls k) _ k place item n ne (get_or-set_other ls place k _ [] ne)
+      subst P (sym e) (got_here (nth_list ls place) _ place item n (get_or-set_same ls place _ [] lt))
+  | inr ne ↦ got_elsewhere (nth_list ls k) _ k place item n ne (get_or-set_other ls place k _ [] ne)
 ]
 
 -- one place more
@@ -59,7 +59,7 @@ adds_more places i item old mid new lt within h e place n =
     let P : List (List ℕ) → Type 0 = λ ls. GotItem mid ls (get_or places i 0) item place n in
     subst P (sym e) (got mid (get_or places i 0) item place n within) in
     let more : take (i + 1) places ≡ take i places ++ get_or places i 0 ∷ [] = take_more places i 0 lt in
-    let to : Contains (at new place) n → Contains (at old place) n ⊎ (Contains (take (i + 1) places) place × (n ≡ item)) = λ k.
+    let to : Contains (nth_list new place) n → Contains (nth_list old place) n ⊎ (Contains (take (i + 1) places) place × (n ≡ item)) = λ k.
     elim (g.0 k) [
       | inl a ↦ elim ((h place n).0 a) [
         | inl b ↦ inl b
@@ -67,7 +67,7 @@ adds_more places i item old mid new lt within h e place n =
       ]
       | inr p ↦ inr (contains_along _ _ place (sym more) (let P : ℕ → Type 0 = λ m. Contains (take i places ++ get_or places i 0 ∷ []) m in subst P (sym p.0) (Contains-push (take i places) (get_or places i 0))), p.1)
     ] in
-    let from : Contains (at old place) n ⊎ (Contains (take (i + 1) places) place × (n ≡ item)) → Contains (at new place) n = λ k.
+    let from : Contains (nth_list old place) n ⊎ (Contains (take (i + 1) places) place × (n ≡ item)) → Contains (nth_list new place) n = λ k.
     elim k [
       | inl a ↦ g.1 (inl ((h place n).1 (inl a)))
       | inr p ↦ elim (Contains-push_cases (take i places) (get_or places i 0) place (contains_along _ _ place more p.0)) [
@@ -78,7 +78,7 @@ adds_more places i item old mid new lt within h e place n =
     (to, from)
 
 -- no edge, no reader
-pub reads_none : (ls : List (List ℕ)) → ((k : ℕ) → at ls k ≡ []) → AreReaders [] ls
+pub reads_none : (ls : List (List ℕ)) → ((k : ℕ) → nth_list ls k ≡ []) → AreReaders [] ls
 reads_none ls none a b =
     (λ h. let k : Contains [] a = contains_along _ _ a (none b) h in let lt = k.1 in absurd (omega arith), λ h. let lt = h.1 in absurd (omega arith))
 
@@ -96,12 +96,12 @@ reads_more edges i e old new more within h made a b =
     subst P (sym made) (got old e.1 e.0 b a within) in
     let before : List (ℕ × ℕ) = take i edges in
     let P : List (ℕ × ℕ) → Type 0 = λ es. Contains es (a, b) in
-    let to : Contains (at new b) a → Contains (take (i + 1) edges) (a, b) = λ k.
+    let to : Contains (nth_list new b) a → Contains (take (i + 1) edges) (a, b) = λ k.
     elim (g.0 k) [
       | inl x ↦ subst P (sym more) (Contains-append_left before (e ∷ []) (a, b) ((h a b).0 x))
       | inr p ↦ let same : e ≡ (a, b) = same_pair e a b (sym p.1) (sym p.0) in subst P (sym more) (let Q : (ℕ × ℕ) → Type 0 = λ m. Contains (before ++ e ∷ []) m in subst Q same (Contains-push before e))
     ] in
-    let from : Contains (take (i + 1) edges) (a, b) → Contains (at new b) a = λ k.
+    let from : Contains (take (i + 1) edges) (a, b) → Contains (nth_list new b) a = λ k.
     elim (Contains-push_cases before e (a, b) (subst P more k)) [
       | inl x ↦ g.1 (inl ((h a b).1 x))
       | inr same ↦ g.1 (inr (sym (ap (λ (x : ℕ × ℕ). x.1) same), sym (ap (λ (x : ℕ × ℕ). x.0) same)))
@@ -110,29 +110,29 @@ reads_more edges i e old new more within h made a b =
 
 -- what the numbers below i tell of their readers
 abbrev pub AreTurnedBelow : ℕ → List (List ℕ) → List (List ℕ) → Type 0
-AreTurnedBelow i readers reads = (a b : ℕ) → Contains (at reads a) b ↔ ((b < i) × Contains (at readers b) a)
+AreTurnedBelow i readers reads = (a b : ℕ) → Contains (nth_list reads a) b ↔ ((b < i) × Contains (nth_list readers b) a)
 
-pub turned_none : (readers ls : List (List ℕ)) → ((k : ℕ) → at ls k ≡ []) → AreTurnedBelow 0 readers ls
+pub turned_none : (readers ls : List (List ℕ)) → ((k : ℕ) → nth_list ls k ≡ []) → AreTurnedBelow 0 readers ls
 turned_none readers ls none a b =
     (λ h. let k : Contains [] b = contains_along _ _ b (none a) h in let lt = k.1 in absurd (omega arith), λ h. let lt = h.0 in absurd (omega arith))
 
-pub turned_more : (readers old new : List (List ℕ)) (i : ℕ) → AreTurnedBelow i readers old → AddsEach (at readers i) i old new → AreTurnedBelow (i + 1) readers new
+pub turned_more : (readers old new : List (List ℕ)) (i : ℕ) → AreTurnedBelow i readers old → AddsEach (nth_list readers i) i old new → AreTurnedBelow (i + 1) readers new
 turned_more readers old new i h k a b =
-    let to : Contains (at new a) b → (b < i + 1) × Contains (at readers b) a = λ x.
+    let to : Contains (nth_list new a) b → (b < i + 1) × Contains (nth_list readers b) a = λ x.
     elim ((k a b).0 x) [
       | inl y ↦ let z = (h a b).0 y in let lt = z.0 in (omega arith, z.1)
-      | inr p ↦ let e = p.1 in (omega arith, let P : ℕ → Type 0 = λ m. Contains (at readers m) a in subst P (sym e) p.0)
+      | inr p ↦ let e = p.1 in (omega arith, let P : ℕ → Type 0 = λ m. Contains (nth_list readers m) a in subst P (sym e) p.0)
     ] in
-    let from : (b < i + 1) × Contains (at readers b) a → Contains (at new a) b = λ x.
+    let from : (b < i + 1) × Contains (nth_list readers b) a → Contains (nth_list new a) b = λ x.
     elim (cases_eq b i) [
-      | inl e ↦ (k a b).1 (inr (let P : ℕ → Type 0 = λ m. Contains (at readers m) a in subst P e x.1, e))
+      | inl e ↦ (k a b).1 (inr (let P : ℕ → Type 0 = λ m. Contains (nth_list readers m) a in subst P e x.1, e))
       | inr ne ↦ let lt = x.0 in (k a b).1 (inl ((h a b).1 (omega arith, x.1)))
     ] in
     (to, from)
 
 pub turned_all : (readers reads : List (List ℕ)) (n : ℕ) → length readers ≤ n → AreTurnedBelow n readers reads → AreTurned readers reads
 turned_all readers reads n long h a b =
-    let within : Contains (at readers b) a → b < n = λ x.
+    let within : Contains (nth_list readers b) a → b < n = λ x.
     elim (cases_lt b n) [
       | inl lt ↦ lt
       | inr le ↦ let y : Contains [] a = contains_along _ _ a (get_or_past readers b [] (omega arith)) x in let lt = y.1 in absurd (omega arith)

@@ -3,7 +3,7 @@
 
 ghost use Rattle.std.specs.Prelude.{IfOk, IfErr, OnOk};
 ghost use Rattle.depend_graph.specs.Order.{AreBelow, IsAcyclic, IsOrder};
-ghost use Rattle.depend_graph.specs.Ends.{HasCause};
+ghost use Rattle.depend_graph.specs.Ends.{HasOrderCause};
 
 mod closed_path;
 mod end;
@@ -24,7 +24,7 @@ pub fn order(alloc: Global, count: u32, edges: &[(u32, u32)]) -> Result<Vec<u32>
     requires { AreBelow count edges.now }
     ensures order { IfOk result (λ order. IsOrder count edges.now order.items) }
     ensures acyclic { OnOk result (IsAcyclic edges.now) }
-    ensures end { IfErr result (HasCause edges.now) }
+    ensures end { IfErr result (HasOrderCause edges.now) }
 {
     let readers = lists::readers(alloc, count, edges)?;
     // Turned twice: what each number reads then rises, whatever the order of the edges, and nothing is sorted.

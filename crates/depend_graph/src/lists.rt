@@ -1,7 +1,7 @@
 //! For each number a list of others: its readers, or what it reads.
 ghost use Rattle.std.specs.Prelude.{◌≡◌, ◌⊎◌, ℕ, ◌<◌, ◌≤◌, ◌^◌, ◌++◌, ◌∷◌, [], ◌↔◌, length, vec_len, All, Contains, IfOk, OnOk, slice_set};
 ghost use Rattle.depend_graph.specs.Order.{AreBelow};
-ghost use Rattle.depend_graph.specs.Lists.{at, lists_of, AddsEach, AreReaders, AreTurned, HoldBelow};
+ghost use Rattle.depend_graph.specs.Lists.{nth_list, lists_of, AddsEach, AreReaders, AreTurned, HoldBelow};
 
 use fx_number::Memory;
 use std::alloc::Global;
@@ -9,7 +9,7 @@ use std::alloc::Global;
 /// As many lists without an item.
 fn empty_lists(alloc: Global, count: u32) -> Result<Vec<Vec<u32>>, Memory>
     ensures len { IfOk result (λ v. vec_len v ≡ count) }
-    ensures empty { IfOk result (λ v. (place : ℕ) → at (lists_of v.items) place ≡ []) }
+    ensures empty { IfOk result (λ v. (place : ℕ) → nth_list (lists_of v.items) place ≡ []) }
 {
     let mut lists = Vec::new(alloc);
     for _ in 0..count {
@@ -23,7 +23,7 @@ fn add_at(lists: &mut Vec<Vec<u32>>, place: u32, item: u32) -> Result<(), Memory
     requires { place < vec_len lists.old }
     ensures len { vec_len lists.new ≡ vec_len lists.old }
     ensures ok { OnOk result (lists_of lists.new.items ≡
-        slice_set (lists_of lists.old.items) place (at (lists_of lists.old.items) place ++ item ∷ [])) }
+        slice_set (lists_of lists.old.items) place (nth_list (lists_of lists.old.items) place ++ item ∷ [])) }
 {
     lists[place as usize].push(item)?;
     Ok(())

@@ -2,7 +2,7 @@
 //! longest path.
 ghost use Rattle.std.specs.Prelude.{◌≡◌, ◌≢◌, ℕ, ◌+◌, ◌<◌, ◌≤◌, ◌-◌, ◌^◌, ◌++◌, ◌∷◌, [], vec_len, Some, slice_set, slice_get, take, drop, length, slice_index, IfOk, IfErr, OnOk};
 ghost use Rattle.std.specs.List.{sum_by, Contains};
-ghost use Rattle.depend_graph.specs.Lists.{at, lists_of, HoldBelow};
+ghost use Rattle.depend_graph.specs.Lists.{nth_list, lists_of, HoldBelow};
 ghost use Rattle.depend_graph.specs.Turning.{TurnsToLeast};
 
 use crate::closed_path::close_from_least;
@@ -25,22 +25,22 @@ pub(crate) struct Search {
 fn read_at(reads: &[Vec<u32>], number: u32, left: usize) -> u32
     requires number { number < length reads.now }
     requires any { 0 < left }
-    requires within { left ≤ length (at (lists_of reads.now) number) }
-    ensures { result ≡ slice_index (at (lists_of reads.now) number) (length (at (lists_of reads.now) number) - left) }
+    requires within { left ≤ length (nth_list (lists_of reads.now) number) }
+    ensures { result ≡ slice_index (nth_list (lists_of reads.now) number) (length (nth_list (lists_of reads.now) number) - left) }
 {
     let list = &reads[number as usize];
     list[list.len() - left]
 }
 
 impl Search {
-    ghost use Rattle.depend_graph.specs.Search.{state_at, work_of, IsSearch};
+    ghost use Rattle.depend_graph.specs.Search.{visit_state, work_of, IsSearchState};
     ghost use Rattle.depend_graph.specs.Ends.{HasCauseIn};
     ghost use Rattle.depend_graph.specs.declared.state.State.TheVariants.{New, Open, Done};
 
     /// No number has been seen.
     pub(crate) fn new(alloc: Global, count: u32) -> Result<Search, Memory>
         ensures len { IfOk result (λ s. vec_len s.states ≡ count) }
-        ensures new { IfOk result (λ s. (n : ℕ) → state_at s.states.items n ≡ New) }
+        ensures new { IfOk result (λ s. (n : ℕ) → visit_state s.states.items n ≡ New) }
         ensures path { IfOk result (λ s. s.path.items ≡ []) }
         ensures order { IfOk result (λ s. s.order.items ≡ []) }
     {
@@ -65,13 +65,13 @@ impl Search {
         requires number { number < vec_len self.old.states }
         requires len { length reads.now ≡ vec_len self.old.states }
         requires below { HoldBelow (vec_len self.old.states) (lists_of reads.now) }
-        requires search { IsSearch (lists_of reads.now) self.old.states.items self.old.path.items self.old.order.items }
+        requires search { IsSearchState (lists_of reads.now) self.old.states.items self.old.path.items self.old.order.items }
         requires path { self.old.path.items ≡ [] }
         ensures len { OnOk result (vec_len self.new.states ≡ vec_len self.old.states) }
-        ensures search { OnOk result (IsSearch (lists_of reads.now) self.new.states.items self.new.path.items self.new.order.items) }
+        ensures search { OnOk result (IsSearchState (lists_of reads.now) self.new.states.items self.new.path.items self.new.order.items) }
         ensures path { OnOk result (self.new.path.items ≡ []) }
-        ensures seen { OnOk result (state_at self.new.states.items number ≢ New) }
-        ensures stay { OnOk result ((n : ℕ) → state_at self.new.states.items n ≡ New → state_at self.old.states.items n ≡ New) }
+        ensures seen { OnOk result (visit_state self.new.states.items number ≢ New) }
+        ensures stay { OnOk result ((n : ℕ) → visit_state self.new.states.items n ≡ New → visit_state self.old.states.items n ≡ New) }
         ensures end { IfErr result (HasCauseIn (lists_of reads.now)) }
     {
         if let State::New = self.states[number as usize] {
@@ -88,10 +88,10 @@ impl Search {
         requires last { slice_get self.old.path.items (vec_len self.old.path - 1) ≡ Some last }
         requires len { length reads.now ≡ vec_len self.old.states }
         requires below { HoldBelow (vec_len self.old.states) (lists_of reads.now) }
-        requires search { IsSearch (lists_of reads.now) self.old.states.items self.old.path.items self.old.order.items }
+        requires search { IsSearchState (lists_of reads.now) self.old.states.items self.old.path.items self.old.order.items }
         ensures len { OnOk result (vec_len self.new.states ≡ vec_len self.old.states) }
-        ensures search { OnOk result (IsSearch (lists_of reads.now) self.new.states.items self.new.path.items self.new.order.items) }
-        ensures stay { OnOk result ((n : ℕ) → state_at self.new.states.items n ≡ New → state_at self.old.states.items n ≡ New) }
+        ensures search { OnOk result (IsSearchState (lists_of reads.now) self.new.states.items self.new.path.items self.new.order.items) }
+        ensures stay { OnOk result ((n : ℕ) → visit_state self.new.states.items n ≡ New → visit_state self.old.states.items n ≡ New) }
         ensures less { OnOk result (sum_by work_of self.new.states.items < sum_by work_of self.old.states.items) }
         ensures end { IfErr result (HasCauseIn (lists_of reads.now)) }
     {
@@ -131,10 +131,10 @@ impl Search {
         requires number { number < vec_len self.old.states }
         requires len { length reads.now ≡ vec_len self.old.states }
         ensures states { OnOk result (self.new.states.items ≡ slice_set self.old.states.items number
-            (Open (vec_len self.old.path) (length (at (lists_of reads.now) number)))) }
+            (Open (vec_len self.old.path) (length (nth_list (lists_of reads.now) number)))) }
         ensures path { OnOk result (self.new.path.items ≡ self.old.path.items ++ number ∷ []) }
         ensures order { self.new.order ≡ self.old.order }
-        ensures small { length (at (lists_of reads.now) number) < 2 ^ 64 }
+        ensures small { length (nth_list (lists_of reads.now) number) < 2 ^ 64 }
     {
         let place = self.path.len();
         let left = reads[number as usize].len();

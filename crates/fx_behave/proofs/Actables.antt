@@ -7,7 +7,7 @@ use Rattle.fx_types.specs.Types.{Shape, ColumnList, blanks, numbers, texts, bool
 use Rattle.fx_types.specs.Values.{Data}
 use Rattle.fx_eval.proofs.Places.{at_most}
 use Rattle.fx_eval.specs.Parts.{caught_in, inner}
-use Rattle.fx_env.specs.Scopes.{Held, IsReady, Suits}
+use Rattle.fx_env.specs.Scopes.{ScopeValues, IsTypedHere, Suits}
 use Rattle.fx_semantics.proofs.Branches.{differs}
 use Rattle.fx_semantics.proofs.Forms.{chosen_take, each_take}
 use Rattle.fx_semantics.proofs.Parts.{rows_more}
@@ -24,47 +24,47 @@ use Rattle.fx_core.specs.Rows.{form_row, inner_at, row_of, takes_at, takes_count
 use Rattle.fx_core.specs.Term.{Term, Terms, of, nil, cons, all, Top, chain, form as form_head, over, within}
 use Rattle.fx_typing.specs.Acts.{acts}
 use Rattle.fx_core.specs.ColumnLists.{row_columns}
-use Rattle.fx_typing.specs.WellTyped.{Context, AreTyped, AllStand, IsRuled, IsTyped, Stands, Standing, catching, context_for, first_type, last_type, parts_count, plain, row_type, standing_at, standing_of}
+use Rattle.fx_typing.specs.WellTyped.{Context, AreTyped, AllStand, IsRuled, IsTyped, Stands, PartScope, catching, context_for, first_type, last_type, parts_count, plain, row_type, standing_at, standing_of}
 use Rattle.fx_typing.specs.Ways.{is_comparable}
 use Rattle.fx_value.specs.Columns.{Row}
 use Rattle.fx_value.specs.Fits.{fits_in}
 use Rattle.fx_semantics.specs.Places.{ArePlaced, IsPlaced}
-use Rattle.fx_behave.specs.Actable.{AreActable, AreBranches, AreMatches, AreRecoveries, EndsIn, IsActable, IsActableInside, IsFallback, IsSwitch}
+use Rattle.fx_behave.specs.Actable.{AreActable, AreActingBranches, AreActingMatches, AreActingRecoveries, LastHasType, IsActable, IsActableInside, IsActingFallback, IsActingSwitch}
 use Rattle.fx_deeds.specs.Fitting.{SourceTypes}
 
 -- a typing in which the columns of all types rise
 abbrev pub Lawfully : Context → Term → Shape → Type 0
 Lawfully c t u = (w : IsTyped c t u) × IsLawfulTyping c t u w
 
-pub part_there : (types : SourceTypes) (s : Held) (c : Context) (t : Term) (u : Shape) → Suits types s c → Lawfully c t u → IsPlaced t → IsActable types s t u
+pub part_there : (types : SourceTypes) (s : ScopeValues) (c : Context) (t : Term) (u : Shape) → Suits types s c → Lawfully c t u → IsPlaced t → IsActable types s t u
 part_there types s c t u f h p = record { context = c; suits = f; typed = h.0; lawful = h.1; placed = p }
 
 -- a tree that doesn't act is ready for the evaluator
-pub quiet_ready : (types : SourceTypes) (s : Held) (t : Term) (u : Shape) → acts t ≡ false → IsActable types s t u → IsReady types s t u
+pub quiet_ready : (types : SourceTypes) (s : ScopeValues) (t : Term) (u : Shape) → acts t ≡ false → IsActable types s t u → IsTypedHere types s t u
 quiet_ready types s t u e r = record { context = r.context; suits = r.suits; typed = r.typed; lawful = r.lawful; quiet = e }
 
 -- ---- parts that stand where the whole stands
 
-plain_there : (types : SourceTypes) (s : Held) (c : Context) (k : Standing) (done : List Shape) (t : Term) (u : Shape) → k ≡ plain → Suits types s c → Lawfully (context_for k c done) t u → IsPlaced t → IsActable types s t u
-plain_there types s c k done t u e f h p = part_there types s c t u f (subst (λ (z : Standing). Lawfully (context_for z c done) t u) e h) p
+plain_there : (types : SourceTypes) (s : ScopeValues) (c : Context) (k : PartScope) (done : List Shape) (t : Term) (u : Shape) → k ≡ plain → Suits types s c → Lawfully (context_for k c done) t u → IsPlaced t → IsActable types s t u
+plain_there types s c k done t u e f h p = part_there types s c t u f (subst (λ (z : PartScope). Lawfully (context_for z c done) t u) e h) p
 
-plain_parts : (types : SourceTypes) (s : Held) (c : Context) (h : Top) (n : ℕ) → ((m i : ℕ) → standing_at h m i ≡ plain) → Suits types s c →
+plain_parts : (types : SourceTypes) (s : ScopeValues) (c : Context) (h : Top) (n : ℕ) → ((m i : ℕ) → standing_at h m i ≡ plain) → Suits types s c →
     (ts : List Term) (done us : List Shape) → (w : AreTyped c h n done (all ts) us) → AreLawfulTypings c h n done (all ts) us w → ArePlaced (all ts) → AreActable types s us ts
 plain_parts types s c h n p f [] done us w l q = subst (λ (vs : List Shape). AreActable types s vs []) (sym w) tt
 plain_parts types s c h n p f (t ∷ ts) done us w l q =
     subst (λ (vs : List Shape). AreActable types s vs (t ∷ ts)) (sym w.2)
     (plain_there types s c (standing_at h n (length done)) done t w.0 (p n (length done)) f (w.3, l.0) q.0, plain_parts types s c h n p f ts (done ++ w.0 ∷ []) w.1 w.4 l.1 q.1)
 
-pub all_actable : (types : SourceTypes) (s : Held) (h : Top) (ts : List Term) (u : Shape) → ((m i : ℕ) → standing_at h m i ≡ plain) → (r : IsActable types s (of h (all ts)) u) → AreActable types s r.typed.0 ts
+pub all_actable : (types : SourceTypes) (s : ScopeValues) (h : Top) (ts : List Term) (u : Shape) → ((m i : ℕ) → standing_at h m i ≡ plain) → (r : IsActable types s (of h (all ts)) u) → AreActable types s r.typed.0 ts
 all_actable types s h ts u p r = plain_parts types s r.context h (parts_count (all ts)) p r.suits ts [] r.typed.0 r.typed.1 r.lawful.1 r.placed.1
 
 -- the one part
-pub one_actable : (types : SourceTypes) (s : Held) (h : Top) (t : Term) (u : Shape) → standing_at h 1 0 ≡ plain → (r : IsActable types s (of h (cons t nil)) u) → IsActable types s t r.typed.1.0
+pub one_actable : (types : SourceTypes) (s : ScopeValues) (h : Top) (t : Term) (u : Shape) → standing_at h 1 0 ≡ plain → (r : IsActable types s (of h (cons t nil)) u) → IsActable types s t r.typed.1.0
 one_actable types s h t u p r = plain_there types s r.context (standing_at h 1 0) [] t r.typed.1.0 p r.suits (r.typed.1.3, r.lawful.1.0) r.placed.1.0
 
 -- ---- chains
 
-ends_in : (types : SourceTypes) (s : Held) (us : List Shape) (ts : List Term) (u : Shape) → last_type us ≡ Some u → AreActable types s us ts → EndsIn types s u ts
+ends_in : (types : SourceTypes) (s : ScopeValues) (us : List Shape) (ts : List Term) (u : Shape) → last_type us ≡ Some u → AreActable types s us ts → LastHasType types s u ts
 ends_in types s [] [] u e r = let wrong : None ≡ Some u = e in absurd cc
 ends_in types s [] (t ∷ ts) u e r = absurd r
 ends_in types s (v ∷ us) [] u e r = absurd r
@@ -73,7 +73,7 @@ ends_in types s (v ∷ []) (t ∷ k ∷ ts) u e r = absurd r.1
 ends_in types s (v ∷ w ∷ us) (t ∷ []) u e r = absurd r.1
 ends_in types s (v ∷ w ∷ us) (t ∷ k ∷ ts) u e r = ((v, r.0), ends_in types s (w ∷ us) (k ∷ ts) u e r.1)
 
-pub chain_actable : (types : SourceTypes) (s : Held) (ts : List Term) (u : Shape) → IsActable types s (of chain (all ts)) u → EndsIn types s u ts
+pub chain_actable : (types : SourceTypes) (s : ScopeValues) (ts : List Term) (u : Shape) → IsActable types s (of chain (all ts)) u → LastHasType types s u ts
 chain_actable types s ts u r = ends_in types s r.typed.0 ts u r.typed.2 (all_actable types s chain ts u (λ m i. refl) r)
 
 -- ---- places of forms
@@ -139,9 +139,9 @@ if_branch : (first common u : Shape) (m i : ℕ) → i % 2 ≡ 1 → IsCommon fi
 if_branch first common u m i e =
     chosen_take (IsCommon first common u) (nat_eq (suc i) m) takes.Branch (inner_at (form_row form.If) i) (λ h. h) (odd_take (IsCommon first common u) (form_row form.If) i e (λ h. h) (λ h. h))
 
-branches : (types : SourceTypes) (s : Held) (c : Context) (n m i : ℕ) (first common : Shape) → Suits types s c →
+branches : (types : SourceTypes) (s : ScopeValues) (c : Context) (n m i : ℕ) (first common : Shape) → Suits types s c →
     (ts : List Term) (done us : List Shape) → i % 2 ≡ 0 → m ≡ i + length us → (w : AreTyped c (form_head form.If) n done (all ts) us) → AreLawfulTypings c (form_head form.If) n done (all ts) us w →
-    AllStand (form_row form.If) m i first common us → ArePlaced (all ts) → AreBranches types s common ts
+    AllStand (form_row form.If) m i first common us → ArePlaced (all ts) → AreActingBranches types s common ts
 branches types s c n m i first common f [] done us e w h l k q = tt
 branches types s c n m i first common f (t ∷ []) done us e w h l k q =
     let one : us ≡ h.0 ∷ [] = h.2 ∙ ap (λ (vs : List Shape). h.0 ∷ vs) h.4 in
@@ -165,10 +165,10 @@ branches types s c n m i first common f (t ∷ b ∷ ts) done us e w h l k q =
 common_is : (common u : Shape) → ◌≡◌ {A = Result Shape ℕ} (Ok common) (Ok u) → common ≡ u
 common_is common u e = cc
 
-pub if_actable : (types : SourceTypes) (s : Held) (ts : List Term) (u : Shape) → IsActable types s (of (form_head form.If) (all ts)) u → AreBranches types s u ts
+pub if_actable : (types : SourceTypes) (s : ScopeValues) (ts : List Term) (u : Shape) → IsActable types s (of (form_head form.If) (all ts)) u → AreActingBranches types s u ts
 if_actable types s ts u r =
     let h = r.typed in
-    subst (λ (z : Shape). AreBranches types s z ts) (common_is h.2.1 u h.2.3)
+    subst (λ (z : Shape). AreActingBranches types s z ts) (common_is h.2.1 u h.2.3)
     (branches types s r.context (parts_count (all ts)) (length h.0) 0 (first_type h.0) h.2.1 r.suits ts [] h.0 refl (omega arith) h.1 r.lawful.1 h.2.2 r.placed.1)
 
 -- ---- Switch
@@ -188,9 +188,9 @@ switch_match : (first common u : Shape) (m i : ℕ) → i % 2 ≡ 1 → (suc i �
 switch_match first common u m i e n =
     other_take (IsCompared first common u) (nat_eq (suc i) m) (inner_at (form_row form.Switch) i) (differs (suc i) m n) (odd_take (IsCompared first common u) (form_row form.Switch) i e (λ h. h) (λ h. h))
 
-matches : (types : SourceTypes) (s : Held) (c : Context) (n m i : ℕ) (first common : Shape) → Suits types s c →
+matches : (types : SourceTypes) (s : ScopeValues) (c : Context) (n m i : ℕ) (first common : Shape) → Suits types s c →
     (ts : List Term) (done us : List Shape) → i % 2 ≡ 1 → m ≡ i + length us → (w : AreTyped c (form_head form.Switch) n done (all ts) us) → AreLawfulTypings c (form_head form.Switch) n done (all ts) us w →
-    AllStand (form_row form.Switch) m i first common us → ArePlaced (all ts) → AreMatches types s first common ts
+    AllStand (form_row form.Switch) m i first common us → ArePlaced (all ts) → AreActingMatches types s first common ts
 matches types s c n m i first common f [] done us e w h l k q = tt
 matches types s c n m i first common f (t ∷ []) done us e w h l k q =
     let one : us ≡ h.0 ∷ [] = h.2 ∙ ap (λ (vs : List Shape). h.0 ∷ vs) h.4 in
@@ -214,7 +214,7 @@ matches types s c n m i first common f (t ∷ b ∷ ts) done us e w h l k q =
       matches types s c n m (suc (suc i)) first common f ts (before ++ next.0 ∷ []) next.1 (omega (arith, e)) (omega (arith, long, w)) next.4 l.1.1 at.1.1 q.1.1,
     )
 
-pub switch_actable : (types : SourceTypes) (s : Held) (ts : List Term) (u : Shape) → IsActable types s (of (form_head form.Switch) (all ts)) u → IsSwitch types s u ts
+pub switch_actable : (types : SourceTypes) (s : ScopeValues) (ts : List Term) (u : Shape) → IsActable types s (of (form_head form.Switch) (all ts)) u → IsActingSwitch types s u ts
 switch_actable types s [] u r =
     let h = r.typed in
     let few : takes_count (form_row form.Switch) 0 ≡ true = subst (λ (us : List Shape). takes_count (form_row form.Switch) (length us) ≡ true) h.1 h.2.0 in
@@ -229,8 +229,8 @@ switch_actable types s (t ∷ ts) u r =
     let at : AllStand (form_row form.Switch) m 0 (first_type h.0) h.2.1 (part.0 ∷ part.1) = subst (AllStand (form_row form.Switch) m 0 (first_type h.0) h.2.1) part.2 h.2.2 in (
       part.0,
       plain_there types s r.context (standing_of (takes_at (form_row form.Switch) n 0)) [] t part.0 (switch_plain n 0) r.suits (part.3, r.lawful.1.0) r.placed.1.0,
-      subst (λ (z : Shape). AreMatches types s part.0 z ts) (common_is h.2.1 u h.2.3)
-          (subst (λ (z : Shape). AreMatches types s z h.2.1 ts) first
+      subst (λ (z : Shape). AreActingMatches types s part.0 z ts) (common_is h.2.1 u h.2.3)
+          (subst (λ (z : Shape). AreActingMatches types s z h.2.1 ts) first
           (matches types s r.context n m 1 (first_type h.0) h.2.1 r.suits ts (part.0 ∷ []) part.1 refl (omega (arith, long)) part.4 r.lawful.1.1 at.1 r.placed.1.1)),
     )
 
@@ -248,15 +248,15 @@ fallback_catches n i e = odd_take IsCatching (form_row form.IfError) i e refl re
 recover_common : (first common u : Shape) (m i : ℕ) → IsCommon first common u (takes_at (form_row form.IfError) m i)
 recover_common first common u m i = each_take (IsCommon first common u) (form_row form.IfError) m i (λ h. h) (λ h. h) (λ h. h) (λ h. h) (λ h. h)
 
-fallback_there : (types : SourceTypes) (s : Held) (c : Context) (k : Standing) (done : List Shape) (t : Term) (u : Shape) → k ≡ catching → Suits types s c → Lawfully (context_for k c done) t u → IsPlaced t → IsFallback types s u t
+fallback_there : (types : SourceTypes) (s : ScopeValues) (c : Context) (k : PartScope) (done : List Shape) (t : Term) (u : Shape) → k ≡ catching → Suits types s c → Lawfully (context_for k c done) t u → IsPlaced t → IsActingFallback types s u t
 fallback_there types s c k done t u e f h p = λ j cs.
     part_there types (caught_in s j cs) (record c { caught = true }) t u
     (record { sources = f.sources; rows = f.rows; item = f.item; caught = λ z. refl })
-    (subst (λ (z : Standing). Lawfully (context_for z c done) t u) e h) p
+    (subst (λ (z : PartScope). Lawfully (context_for z c done) t u) e h) p
 
-recoveries : (types : SourceTypes) (s : Held) (c : Context) (n m i : ℕ) (first common : Shape) → Suits types s c →
+recoveries : (types : SourceTypes) (s : ScopeValues) (c : Context) (n m i : ℕ) (first common : Shape) → Suits types s c →
     (ts : List Term) (done us : List Shape) → length done % 2 ≡ 0 → (w : AreTyped c (form_head form.IfError) n done (all ts) us) → AreLawfulTypings c (form_head form.IfError) n done (all ts) us w →
-    AllStand (form_row form.IfError) m i first common us → ArePlaced (all ts) → AreRecoveries types s common ts
+    AllStand (form_row form.IfError) m i first common us → ArePlaced (all ts) → AreActingRecoveries types s common ts
 recoveries types s c n m i first common f [] done us e h l k q = tt
 recoveries types s c n m i first common f (t ∷ []) done us e h l k q =
     let at : AllStand (form_row form.IfError) m i first common (h.0 ∷ h.1) = subst (AllStand (form_row form.IfError) m i first common) h.2 k in
@@ -273,27 +273,27 @@ recoveries types s c n m i first common f (t ∷ b ∷ ts) done us e h l k q =
     let at : AllStand (form_row form.IfError) m i first common (h.0 ∷ (next.0 ∷ next.1)) = subst (AllStand (form_row form.IfError) m i first common) two k in (
       subst (IsActable types s t) (recover_common first common h.0 m i at.0)
           (plain_there types s c (standing_of (takes_at (form_row form.IfError) n (length done))) done t h.0 (value_plain n (length done) e) f (h.3, l.0) q.0),
-      subst (λ (z : Shape). IsFallback types s z b) (recover_common first common next.0 m (suc i) at.1.0)
+      subst (λ (z : Shape). IsActingFallback types s z b) (recover_common first common next.0 m (suc i) at.1.0)
           (fallback_there types s c (standing_of (takes_at (form_row form.IfError) n (length before))) before b next.0 (fallback_catches n (length before) odd) f (next.3, l.1.0) q.1.0),
       recoveries types s c n m (suc (suc i)) first common f ts (before ++ next.0 ∷ []) next.1 even next.4 l.1.1 at.1.1 q.1.1,
     )
 
-pub recover_actable : (types : SourceTypes) (s : Held) (ts : List Term) (u : Shape) → IsActable types s (of (form_head form.IfError) (all ts)) u → AreRecoveries types s u ts
+pub recover_actable : (types : SourceTypes) (s : ScopeValues) (ts : List Term) (u : Shape) → IsActable types s (of (form_head form.IfError) (all ts)) u → AreActingRecoveries types s u ts
 recover_actable types s ts u r =
     let h = r.typed in
-    subst (λ (z : Shape). AreRecoveries types s z ts) (common_is h.2.1 u h.2.3)
+    subst (λ (z : Shape). AreActingRecoveries types s z ts) (common_is h.2.1 u h.2.3)
     (recoveries types s r.context (parts_count (all ts)) (length h.0) 0 (first_type h.0) h.2.1 r.suits ts [] h.0 refl h.1 r.lawful.1 h.2.2 r.placed.1)
 
 -- ---- scopes
 
-pub suits_inside : (types : SourceTypes) (s : Held) (c : Context) (d : Data) (t : Shape) → Suits types s c → fits_in d t ≡ true → Suits types (inner s d) (record c { rows = c.rows ++ t ∷ [] })
+pub suits_inside : (types : SourceTypes) (s : ScopeValues) (c : Context) (d : Data) (t : Shape) → Suits types s c → fits_in d t ≡ true → Suits types (inner s d) (record c { rows = c.rows ++ t ∷ [] })
 suits_inside types s c d t f g = record { sources = f.sources; rows = rows_more s.rows c.rows d t f.rows g; item = f.item; caught = f.caught }
 
 -- two parts have two types
 pub two_types : (c : Context) (h : Top) (n : ℕ) (t f : Term) (us : List Shape) → (w : AreTyped c h n [] (cons t (cons f nil)) us) → us ≡ w.0 ∷ w.4.0 ∷ []
 two_types c h n t f us w = w.2 ∙ ap (λ (vs : List Shape). w.0 ∷ vs) (w.4.2 ∙ ap (λ (vs : List Shape). w.4.0 ∷ vs) w.4.4)
 
-pub record_actable : (types : SourceTypes) (s : Held) (t f : Term) (u : Shape) → (r : IsActable types s (of within (cons t (cons f nil))) u) → IsActable types s t r.typed.1.0
+pub record_actable : (types : SourceTypes) (s : ScopeValues) (t f : Term) (u : Shape) → (r : IsActable types s (of within (cons t (cons f nil))) u) → IsActable types s t r.typed.1.0
 record_actable types s t f u r = part_there types s r.context t r.typed.1.0 r.suits (r.typed.1.3, r.lawful.1.0) r.placed.1.0
 
 within_type : (c : Context) (ts : Terms) (a b u : Shape) → IsRuled c within ts (a ∷ b ∷ []) u → u ≡ b
@@ -305,7 +305,7 @@ within_type c ts booleans b u h = absurd h
 within_type c ts dates b u h = absurd h
 within_type c ts (tables cs) b u h = absurd h
 
-pub formula_actable : (types : SourceTypes) (s : Held) (t f : Term) (u : Shape) → (r : IsActable types s (of within (cons t (cons f nil))) u) → (d : Data) →
+pub formula_actable : (types : SourceTypes) (s : ScopeValues) (t f : Term) (u : Shape) → (r : IsActable types s (of within (cons t (cons f nil))) u) → (d : Data) →
     ((q : Shape) → IsActable types s t q → fits_in d q ≡ true) → IsActable types (inner s d) f u
 formula_actable types s t f u r d fits =
     let a = r.typed.1.0 in
@@ -318,7 +318,7 @@ formula_actable types s t f u r d fits =
 
 -- ---- ForAll
 
-pub table_actable : (types : SourceTypes) (s : Held) (t f : Term) (u : Shape) → (r : IsActable types s (of (over fun.ForAll) (cons t (cons f nil))) u) → IsActable types s t r.typed.1.0
+pub table_actable : (types : SourceTypes) (s : ScopeValues) (t f : Term) (u : Shape) → (r : IsActable types s (of (over fun.ForAll) (cons t (cons f nil))) u) → IsActable types s t r.typed.1.0
 table_actable types s t f u r = part_there types s r.context t r.typed.1.0 r.suits (r.typed.1.3, r.lawful.1.0) r.placed.1.0
 
 -- its formula gives rows
@@ -348,13 +348,13 @@ for_rows c t f a b u h = record {
   whole = table_is (tables (row_columns b)) u h.1.3;
 }
 
-pub each_of : (types : SourceTypes) (s : Held) (t f : Term) (u : Shape) → (r : IsActable types s (of (over fun.ForAll) (cons t (cons f nil))) u) → IsForRows r.typed.1.0 r.typed.1.4.0 u
+pub each_of : (types : SourceTypes) (s : ScopeValues) (t f : Term) (u : Shape) → (r : IsActable types s (of (over fun.ForAll) (cons t (cons f nil))) u) → IsForRows r.typed.1.0 r.typed.1.4.0 u
 each_of types s t f u r =
     for_rows r.context t f r.typed.1.0 r.typed.1.4.0 u
     (subst (λ (us : List Shape). IsRuled r.context (over fun.ForAll) (cons t (cons f nil)) us u) (two_types r.context (over fun.ForAll) 2 t f r.typed.0 r.typed.1) r.typed.2)
 
 -- a formula stands in the scope of each row of a table that fits
-pub inside_rows : (types : SourceTypes) (s : Held) (c : Context) (f : Term) (b : Shape) (cs : ColumnList) → Suits types s c → Lawfully (record c { rows = c.rows ++ records cs ∷ [] }) f b → IsPlaced f →
+pub inside_rows : (types : SourceTypes) (s : ScopeValues) (c : Context) (f : Term) (b : Shape) (cs : ColumnList) → Suits types s c → Lawfully (record c { rows = c.rows ++ records cs ∷ [] }) f b → IsPlaced f →
     (rows : List Row) → RowsFit cs rows → IsActableInside types s b f rows
 inside_rows types s c f b cs g h p [] fit = tt
 inside_rows types s c f b cs g h p (r ∷ rows) fit = (
@@ -362,7 +362,7 @@ inside_rows types s c f b cs g h p (r ∷ rows) fit = (
   inside_rows types s c f b cs g h p rows fit.1,
 )
 
-pub formula_inside : (types : SourceTypes) (s : Held) (t f : Term) (u : Shape) → (r : IsActable types s (of (over fun.ForAll) (cons t (cons f nil))) u) → (cs : ColumnList) → r.typed.1.0 ≡ tables cs →
+pub formula_inside : (types : SourceTypes) (s : ScopeValues) (t f : Term) (u : Shape) → (r : IsActable types s (of (over fun.ForAll) (cons t (cons f nil))) u) → (cs : ColumnList) → r.typed.1.0 ≡ tables cs →
     (rows : List Row) → RowsFit cs rows → IsActableInside types s r.typed.1.4.0 f rows
 formula_inside types s t f u r cs e =
     inside_rows types s r.context f r.typed.1.4.0 cs r.suits
@@ -373,7 +373,7 @@ many_types c h n done [] us w = ap length w
 many_types c h n done (t ∷ ts) us w = ap length w.2 ∙ ap suc (many_types c h n (done ++ w.0 ∷ []) ts w.1 w.4)
 
 -- its one formula
-pub one_formula : (types : SourceTypes) (s : Held) (t : Term) (ts : List Term) (u : Shape) → IsActable types s (of (over fun.ForAll) (cons t (all ts))) u → (f : Term) × (ts ≡ f ∷ [])
+pub one_formula : (types : SourceTypes) (s : ScopeValues) (t : Term) (ts : List Term) (u : Shape) → IsActable types s (of (over fun.ForAll) (cons t (all ts))) u → (f : Term) × (ts ≡ f ∷ [])
 one_formula types s t [] u r =
     let long : length r.typed.0 ≡ 1 = many_types r.context (over fun.ForAll) 1 [] (t ∷ []) r.typed.0 r.typed.1 in
     let few : takes_count (row_of fun.ForAll) 1 ≡ true = subst (λ n. takes_count (row_of fun.ForAll) n ≡ true) long r.typed.2.1.0 in

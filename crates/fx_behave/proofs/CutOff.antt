@@ -4,7 +4,7 @@ use Rattle.std.specs.Prelude.{◌⊎◌}
 use Rattle.fx_types.specs.declared.faults.Kind.{Kind}
 use Rattle.fx_types.specs.Values.{Data, blank, number, text, boolean, date, rec, tab, fault}
 use Rattle.fx_eval.specs.Parts.{caught_in, inner}
-use Rattle.fx_env.specs.Scopes.{Held}
+use Rattle.fx_env.specs.Scopes.{ScopeValues}
 use Rattle.fx_scalar.specs.declared.lazy_forms.Decision.{Decision}
 use Rattle.fx_scalar.specs.declared.lazy_forms.Decision.TheVariants.{Met, Unmet, Error}
 use Rattle.fx_scalar.specs.LazyForms.{CaughtOr, decision_of, none_left}
@@ -30,36 +30,36 @@ use Rattle.fx_deeds.proofs.Writes as deeds
 use Rattle.fx_deeds.specs.CutOff.{CutDeed, CutUpdate}
 use Rattle.fx_deeds.specs.Deeds.{OrError}
 use Rattle.fx_deeds.specs.Done.{IsDeed, IsUpdate}
-use Rattle.fx_deeds.specs.State.{Ground, State}
+use Rattle.fx_deeds.specs.State.{Ground, WorldState}
 use Rattle.fx_deeds.specs.Within.{Within}
 use Rattle.fx_behave.proofs.SingleAll.{AllDoOne, DoesOne, each_one, performed_one, performs_one}
 use Rattle.fx_behave.proofs.WritesAll.{AllWrite, Writes, branched, caught, decided, for_each, in_chain, performed, recovered, same_within, tree_writes}
-use Rattle.fx_behave.specs.CutOff.{AreChangesCut, AreCut, AreEachCut, Chosen, CutOr, IsActCut, IsActingCut, IsBranchCut, IsCut, IsForAllCut, IsOverAllCut, IsRecoveryCut, IsSwitchCut, IsUpdateIfCut, IsWithinCut, Part, Unless, cutting, parts, wholes}
-use Rattle.fx_behave.specs.Perform.{AreEach, ArePerformed, Decides, Doing, IsAct, IsActing, IsBranched, IsChain, IsDone, IsForAll, IsListed, IsOverAll, IsRecovered, IsSwitched, IsUpdateIf, IsWithin, OfOne, matching, performing, performings, taken}
+use Rattle.fx_behave.specs.CutOff.{AreChangesCut, AreCut, AreEachCut, Chosen, CutOr, IsActCut, IsActingCut, IsBranchCut, IsCut, IsForAllCut, IsOverAllCut, IsRecoveryCut, IsSwitchCut, IsUpdateIfCut, IsWithinCut, CutPart, Unless, cutting, parts, wholes}
+use Rattle.fx_behave.specs.Perform.{PerformsEach, ArePerformed, Decides, Doing, IsAct, PerformsNode, IsBranched, IsChain, NodeComesTo, IsForAll, IsListed, IsOverAll, PerformsIfError, PerformsSwitch, IsUpdateIf, PerformsWith, OfOnePart, switch_decision, performing, performings, taken}
 use Rattle.fx_behave.specs.Unique.{GivesOne}
 
 -- what a whole part leaves goes on from where the part was cut off
-abbrev Leads : {A : Type 0} → Part A → Type 0
-Leads {A} P = (h : Held) (s u : State A) (x : Data) (v : State A) → P.cut h s u → P.whole h s x v → Within u v
+abbrev Leads : {A : Type 0} → CutPart A → Type 0
+Leads {A} P = (h : ScopeValues) (s u : WorldState A) (x : Data) (v : WorldState A) → P.cut h s u → P.whole h s x v → Within u v
 
 -- a part does one thing at most, writes what it changes, and goes on
-abbrev GoesOn : {A : Type 0} → Part A → Type 0
+abbrev GoesOn : {A : Type 0} → CutPart A → Type 0
 GoesOn P = DoesOne P.whole × Writes P.whole × Leads P
 
-abbrev AllGoOn : {A : Type 0} → List (Part A) → Type 0
+abbrev AllGoOn : {A : Type 0} → List (CutPart A) → Type 0
 AllGoOn [] = Unit {0}
 AllGoOn (P ∷ Ps) = GoesOn P × AllGoOn Ps
 
-all_one : {A : Type 0} (Ps : List (Part A)) → AllGoOn Ps → AllDoOne (wholes Ps)
+all_one : {A : Type 0} (Ps : List (CutPart A)) → AllGoOn Ps → AllDoOne (wholes Ps)
 all_one [] g = tt
 all_one (P ∷ Ps) g = (g.0.0, all_one Ps g.1)
 
-all_write : {A : Type 0} (Ps : List (Part A)) → AllGoOn Ps → AllWrite (wholes Ps)
+all_write : {A : Type 0} (Ps : List (CutPart A)) → AllGoOn Ps → AllWrite (wholes Ps)
 all_write [] g = tt
 all_write (P ∷ Ps) g = (g.0.1, all_write Ps g.1)
 
 -- by a part that was cut off, or by what comes behind it
-cut_or : {A : Type 0} (P : Part A) → GoesOn P → (K : Data → State A → Type 0) (h : Held) (s u v : State A) (w : Data) (m : State A) →
+cut_or : {A : Type 0} (P : CutPart A) → GoesOn P → (K : Data → WorldState A → Type 0) (h : ScopeValues) (s u v : WorldState A) (w : Data) (m : WorldState A) →
     Within m v → (K w m → Within u v) → P.whole h s w m → CutOr P K h s u → Within u v
 cut_or P g K h s u v w m first rest p (inl c) = within_on u m v (g.2 h s u w m c p) first
 cut_or P g K h s u v w m first rest p (inr k) =
@@ -68,14 +68,14 @@ cut_or P g K h s u v w m first rest p (inr k) =
 
 -- ---- parts in order
 
-cut_on : {A : Type 0} (Ps : List (Part A)) → AllGoOn Ps → (h : Held) (s u v : State A) (xs : List Data) → AreCut Ps h s u → ArePerformed (wholes Ps) h s xs v → Within u v
+cut_on : {A : Type 0} (Ps : List (CutPart A)) → AllGoOn Ps → (h : ScopeValues) (s u v : WorldState A) (xs : List Data) → AreCut Ps h s u → ArePerformed (wholes Ps) h s xs v → Within u v
 cut_on [] g h s u v [] c p = same_end u v (c ∙ sym p)
 cut_on [] g h s u v (x ∷ xs) c p = absurd p
 cut_on (P ∷ Ps) g h s u v [] c p = absurd p
 cut_on (P ∷ Ps) g h s u v (x ∷ xs) c p =
     cut_or P g.0 (λ y m. AreCut Ps h m u) h s u v x p.0 (performed (wholes Ps) (all_write Ps g.1) h p.0 xs v p.2) (λ k. cut_on Ps g.1 h p.0 u v xs k p.2) p.1 c
 
-chain_on : {A : Type 0} (Ps : List (Part A)) → AllGoOn Ps → (h : Held) (s u : State A) (x : Data) (v : State A) → AreCut Ps h s u → IsChain (wholes Ps) h s x v → Within u v
+chain_on : {A : Type 0} (Ps : List (CutPart A)) → AllGoOn Ps → (h : ScopeValues) (s u : WorldState A) (x : Data) (v : WorldState A) → AreCut Ps h s u → IsChain (wholes Ps) h s x v → Within u v
 chain_on [] g h s u x v c p = absurd p
 chain_on (P ∷ []) g h s u x v c p = cut_or P g.0 (λ y m. u ≡ m) h s u v x v (within_nowhere v) (λ e. same_end u v e) p c
 chain_on (P ∷ Q ∷ Ps) g h s u x v c p =
@@ -84,12 +84,12 @@ chain_on (P ∷ Q ∷ Ps) g h s u x v c p =
 
 -- ---- branches
 
-chosen_on : {A : Type 0} (d : Decision) (P Q R S : Type 0) (s : State A) (x : Data) (u v : State A) → (P → R → Within u v) → (Q → S → Within u v) → Chosen d P Q → Decides d R S s x v → Within u v
+chosen_on : {A : Type 0} (d : Decision) (P Q R S : Type 0) (s : WorldState A) (x : Data) (u v : WorldState A) → (P → R → Within u v) → (Q → S → Within u v) → Chosen d P Q → Decides d R S s x v → Within u v
 chosen_on Met P Q R S s x u v f k c p = f c p
 chosen_on Unmet P Q R S s x u v f k c p = k c p
 chosen_on (Error e) P Q R S s x u v f k c p = absurd c
 
-branch_on : {A : Type 0} (D : Data → Decision) (Ps : List (Part A)) → AllGoOn Ps → (h : Held) (s u : State A) (x : Data) (v : State A) → IsBranchCut D Ps h s u → IsBranched D (wholes Ps) h s x v → Within u v
+branch_on : {A : Type 0} (D : Data → Decision) (Ps : List (CutPart A)) → AllGoOn Ps → (h : ScopeValues) (s u : WorldState A) (x : Data) (v : WorldState A) → IsBranchCut D Ps h s u → IsBranched D (wholes Ps) h s x v → Within u v
 branch_on D [] g h s u x v c p = absurd c
 branch_on D (P ∷ []) g h s u x v c p = g.0.2 h s u x v c p
 branch_on D (C ∷ P ∷ Ps) g h s u x v c p =
@@ -99,7 +99,7 @@ branch_on D (C ∷ P ∷ Ps) g h s u x v c p =
     (λ a b. g.1.0.2 h p.1 u x v a b) (λ a b. branch_on D Ps g.1.1 h p.1 u x v a b) k p.3)
     p.2 c
 
-unless_on : {A : Type 0} (w : Data) (P Q : Type 0) (s : State A) (x : Data) (u v : State A) → (P → Q → Within u v) → Unless w P → OrError w Q s x v → Within u v
+unless_on : {A : Type 0} (w : Data) (P Q : Type 0) (s : WorldState A) (x : Data) (u v : WorldState A) → (P → Q → Within u v) → Unless w P → OrError w Q s x v → Within u v
 unless_on (fault k cs) P Q s x u v f c p = absurd c
 unless_on blank P Q s x u v f c p = f c p
 unless_on (number z) P Q s x u v f c p = f c p
@@ -109,15 +109,15 @@ unless_on (date z) P Q s x u v f c p = f c p
 unless_on (rec fs) P Q s x u v f c p = f c p
 unless_on (tab rs) P Q s x u v f c p = f c p
 
-switch_on : {A : Type 0} (Ps : List (Part A)) → AllGoOn Ps → (h : Held) (s u : State A) (x : Data) (v : State A) → IsSwitchCut Ps h s u → IsSwitched (wholes Ps) h s x v → Within u v
+switch_on : {A : Type 0} (Ps : List (CutPart A)) → AllGoOn Ps → (h : ScopeValues) (s u : WorldState A) (x : Data) (v : WorldState A) → IsSwitchCut Ps h s u → PerformsSwitch (wholes Ps) h s x v → Within u v
 switch_on [] g h s u x v c p = absurd c
 switch_on (P ∷ Ps) g h s u x v c p =
-    cut_or P g.0 (λ w m. Unless w (IsBranchCut (matching w) Ps h m u)) h s u v p.0 p.1
-    (deeds.or_error p.0 (IsBranched (matching p.0) (wholes Ps) h p.1 x v) p.1 x v (λ q. branched (matching p.0) (wholes Ps) (all_write Ps g.1) h p.1 x v q) p.3)
-    (λ k. unless_on p.0 (IsBranchCut (matching p.0) Ps h p.1 u) (IsBranched (matching p.0) (wholes Ps) h p.1 x v) p.1 x u v (λ a b. branch_on (matching p.0) Ps g.1 h p.1 u x v a b) k p.3)
+    cut_or P g.0 (λ w m. Unless w (IsBranchCut (switch_decision w) Ps h m u)) h s u v p.0 p.1
+    (deeds.or_error p.0 (IsBranched (switch_decision p.0) (wholes Ps) h p.1 x v) p.1 x v (λ q. branched (switch_decision p.0) (wholes Ps) (all_write Ps g.1) h p.1 x v q) p.3)
+    (λ k. unless_on p.0 (IsBranchCut (switch_decision p.0) Ps h p.1 u) (IsBranched (switch_decision p.0) (wholes Ps) h p.1 x v) p.1 x u v (λ a b. branch_on (switch_decision p.0) Ps g.1 h p.1 u x v a b) k p.3)
     p.2 c
 
-caught_on : {A : Type 0} (w : Data) (C E : Kind → List ℕ → Type 0) (P Q : Type 0) (u v : State A) → ((k : Kind) (cs : List ℕ) → C k cs → E k cs → Within u v) → (P → Q → Within u v) →
+caught_on : {A : Type 0} (w : Data) (C E : Kind → List ℕ → Type 0) (P Q : Type 0) (u v : WorldState A) → ((k : Kind) (cs : List ℕ) → C k cs → E k cs → Within u v) → (P → Q → Within u v) →
     CaughtOr w C P → CaughtOr w E Q → Within u v
 caught_on (fault k cs) C E P Q u v f g c p = f k cs c p
 caught_on blank C E P Q u v f g c p = g c p
@@ -128,20 +128,20 @@ caught_on (date z) C E P Q u v f g c p = g c p
 caught_on (rec fs) C E P Q u v f g c p = g c p
 caught_on (tab rs) C E P Q u v f g c p = g c p
 
-recovery_on : {A : Type 0} (d : Data) (Ps : List (Part A)) → AllGoOn Ps → (h : Held) (s u : State A) (x : Data) (v : State A) → IsRecoveryCut Ps h s u → IsRecovered d (wholes Ps) h s x v → Within u v
+recovery_on : {A : Type 0} (d : Data) (Ps : List (CutPart A)) → AllGoOn Ps → (h : ScopeValues) (s u : WorldState A) (x : Data) (v : WorldState A) → IsRecoveryCut Ps h s u → PerformsIfError d (wholes Ps) h s x v → Within u v
 recovery_on d [] g h s u x v c p = absurd c
 recovery_on d (P ∷ []) g h s u x v c p = g.0.2 h s u x v c p
 recovery_on d (P ∷ F ∷ Ps) g h s u x v c p =
     cut_or P g.0 (λ w m. CaughtOr w (λ k cs. F.cut (caught_in h k cs) m u) (IsRecoveryCut Ps h m u)) h s u v p.0 p.1
-    (caught p.0 (λ k cs. F.whole (caught_in h k cs) p.1 x v) (IsRecovered p.0 (wholes Ps) h p.1 x v) p.1 v (λ k cs q. g.1.0.1 (caught_in h k cs) p.1 x v q)
+    (caught p.0 (λ k cs. F.whole (caught_in h k cs) p.1 x v) (PerformsIfError p.0 (wholes Ps) h p.1 x v) p.1 v (λ k cs q. g.1.0.1 (caught_in h k cs) p.1 x v q)
     (λ q. recovered p.0 (wholes Ps) (all_write Ps g.1.1) h p.1 x v q) p.3)
-    (λ k. caught_on p.0 (λ k cs. F.cut (caught_in h k cs) p.1 u) (λ k cs. F.whole (caught_in h k cs) p.1 x v) (IsRecoveryCut Ps h p.1 u) (IsRecovered p.0 (wholes Ps) h p.1 x v) u v
+    (λ k. caught_on p.0 (λ k cs. F.cut (caught_in h k cs) p.1 u) (λ k cs. F.whole (caught_in h k cs) p.1 x v) (IsRecoveryCut Ps h p.1 u) (PerformsIfError p.0 (wholes Ps) h p.1 x v) u v
     (λ k cs a b. g.1.0.2 (caught_in h k cs) p.1 u x v a b) (λ a b. recovery_on p.0 Ps g.1.1 h p.1 u x v a b) k p.3)
     p.2 c
 
 -- ---- scopes
 
-within_cut_on : {A : Type 0} (Ps : List (Part A)) → AllGoOn Ps → (h : Held) (s u : State A) (x : Data) (v : State A) → IsWithinCut Ps h s u → IsWithin (wholes Ps) h s x v → Within u v
+within_cut_on : {A : Type 0} (Ps : List (CutPart A)) → AllGoOn Ps → (h : ScopeValues) (s u : WorldState A) (x : Data) (v : WorldState A) → IsWithinCut Ps h s u → PerformsWith (wholes Ps) h s x v → Within u v
 within_cut_on [] g h s u x v c p = absurd c
 within_cut_on (P ∷ []) g h s u x v c p = absurd c
 within_cut_on (P ∷ F ∷ []) g h s u x v c p =
@@ -151,49 +151,49 @@ within_cut_on (P ∷ F ∷ []) g h s u x v c p =
     p.2 c
 within_cut_on (P ∷ F ∷ Q ∷ Ps) g h s u x v c p = absurd c
 
-each_on : {A : Type 0} (P : Part A) → GoesOn P → (h : Held) (rs : List Row) (s u v : State A) (xs : List Data) → AreEachCut P h rs s u → AreEach P.whole h rs s xs v → Within u v
+each_on : {A : Type 0} (P : CutPart A) → GoesOn P → (h : ScopeValues) (rs : List Row) (s u v : WorldState A) (xs : List Data) → AreEachCut P h rs s u → PerformsEach P.whole h rs s xs v → Within u v
 each_on P g h [] s u v [] c p = same_end u v (c ∙ sym p)
 each_on P g h [] s u v (x ∷ xs) c p = absurd p
 each_on P g h (r ∷ rs) s u v [] c p = absurd p
 each_on P g h (r ∷ rs) s u v (x ∷ xs) c p =
     cut_or P g (λ y m. AreEachCut P h rs m u) (inner h (record_of r)) s u v x p.0 (for_each P.whole g.1 h rs p.0 xs v p.2) (λ k. each_on P g h rs p.0 u v xs k p.2) p.1 c
 
-for_all_on : {A : Type 0} (Ps : List (Part A)) → AllGoOn Ps → (h : Held) (s u : State A) (x : Data) (v : State A) → IsForAllCut Ps h s u → IsForAll (wholes Ps) h s x v → Within u v
+for_all_on : {A : Type 0} (Ps : List (CutPart A)) → AllGoOn Ps → (h : ScopeValues) (s u : WorldState A) (x : Data) (v : WorldState A) → IsForAllCut Ps h s u → IsForAll (wholes Ps) h s x v → Within u v
 for_all_on [] g h s u x v c p = absurd c
 for_all_on (P ∷ []) g h s u x v c p = absurd c
 for_all_on {A} (P ∷ F ∷ []) g h s u x v c p =
-    let All : Type 0 = (xs : List Data) × AreEach F.whole h (rows_in p.0) p.1 xs v × (x ≡ for_all_of xs) in
+    let All : Type 0 = (xs : List Data) × PerformsEach F.whole h (rows_in p.0) p.1 xs v × (x ≡ for_all_of xs) in
     cut_or P g.0 (λ w m. Unless w (AreEachCut F h (rows_in w) m u)) h s u v p.0 p.1
     (deeds.or_error p.0 All p.1 x v (λ q. for_each F.whole g.1.0.1 h (rows_in p.0) p.1 q.0 v q.1) p.3)
     (λ k. unless_on p.0 (AreEachCut F h (rows_in p.0) p.1 u) All p.1 x u v (λ a b. each_on F g.1.0 h (rows_in p.0) p.1 u v b.0 a b.1) k p.3)
     p.2 c
 for_all_on (P ∷ F ∷ Q ∷ Ps) g h s u x v c p = absurd c
 
-over_all_on : {A : Type 0} (b : Bool) (Ps : List (Part A)) → AllGoOn Ps → (h : Held) (s u : State A) (x : Data) (v : State A) → IsOverAllCut b Ps h s u → IsOverAll b (wholes Ps) h s x v → Within u v
+over_all_on : {A : Type 0} (b : Bool) (Ps : List (CutPart A)) → AllGoOn Ps → (h : ScopeValues) (s u : WorldState A) (x : Data) (v : WorldState A) → IsOverAllCut b Ps h s u → IsOverAll b (wholes Ps) h s x v → Within u v
 over_all_on true Ps g h s u x v c p = for_all_on Ps g h s u x v c p
 over_all_on false Ps g h s u x v c p = absurd c
 
 -- ---- values
 
-of_one_on : {A : Type 0} (R : Data → Data → Type 0) (Ps : List (Part A)) → AllGoOn Ps → (h : Held) (s u : State A) (x : Data) (v : State A) → AreCut Ps h s u → OfOne R (wholes Ps) h s x v → Within u v
+of_one_on : {A : Type 0} (R : Data → Data → Type 0) (Ps : List (CutPart A)) → AllGoOn Ps → (h : ScopeValues) (s u : WorldState A) (x : Data) (v : WorldState A) → AreCut Ps h s u → OfOnePart R (wholes Ps) h s x v → Within u v
 of_one_on R [] g h s u x v c p = absurd p
 of_one_on R (P ∷ []) g h s u x v c p = cut_or P g.0 (λ y m. u ≡ m) h s u v p.0 v (within_nowhere v) (λ e. same_end u v e) p.1 c
 of_one_on R (P ∷ Q ∷ Ps) g h s u x v c p = absurd p
 
 -- ---- deeds
 
-changes_on : {A : Type 0} (g : Ground A) (t : Target) (F : Part A) → GoesOn F → (h : Held) (rs : List Row) (s u : State A) (x : Data) (v : State A) (es : List Data) (o : State A) →
-    AreEach F.whole h rs s es o → IsUpdate g.frame t rs es o x v → AreChangesCut g t F h rs s u → Within u v
+changes_on : {A : Type 0} (g : Ground A) (t : Target) (F : CutPart A) → GoesOn F → (h : ScopeValues) (rs : List Row) (s u : WorldState A) (x : Data) (v : WorldState A) (es : List Data) (o : WorldState A) →
+    PerformsEach F.whole h rs s es o → IsUpdate g.frame t rs es o x v → AreChangesCut g t F h rs s u → Within u v
 changes_on g t F f h rs s u x v es o p q (inl c) = within_on u o v (each_on F f h rs s u o es c p) (deeds.update g.frame t rs es o x v q)
 changes_on g t F f h rs s u x v es o p q (inr c) =
     let e : Same c.0 c.1 es o = each_one F.whole f.0 h rs s c.0 es c.1 o c.2 p in
     update_on g.frame t rs es o x u v (subst (λ z. CutUpdate g.frame t rs z.0 z.1 u) e c.3) q
 
-update_if_on : {A : Type 0} (g : Ground A) (t : Target) (Ps : List (Part A)) → AllGoOn Ps → (h : Held) (s u : State A) (x : Data) (v : State A) → IsUpdateIfCut g t Ps h s u → IsUpdateIf g t (wholes Ps) h s x v → Within u v
+update_if_on : {A : Type 0} (g : Ground A) (t : Target) (Ps : List (CutPart A)) → AllGoOn Ps → (h : ScopeValues) (s u : WorldState A) (x : Data) (v : WorldState A) → IsUpdateIfCut g t Ps h s u → IsUpdateIf g t (wholes Ps) h s x v → Within u v
 update_if_on g t [] f h s u x v c p = absurd c
 update_if_on g t (P ∷ []) f h s u x v c p = absurd c
 update_if_on {A} g t (P ∷ F ∷ []) f h s u x v c p =
-    let All : Type 0 = (es : List Data) × (o : State A) × AreEach F.whole h (rows_in p.0) p.1 es o × IsUpdate g.frame t (rows_in p.0) es o x v in
+    let All : Type 0 = (es : List Data) × (o : WorldState A) × PerformsEach F.whole h (rows_in p.0) p.1 es o × IsUpdate g.frame t (rows_in p.0) es o x v in
     cut_or P f.0 (λ w m. Unless w (AreChangesCut g t F h (rows_in w) m u)) h s u v p.0 p.1
     (deeds.or_error p.0 All p.1 x v (λ q. within_on p.1 q.1 v (for_each F.whole f.1.0.1 h (rows_in p.0) p.1 q.0 q.1 q.2) (deeds.update g.frame t (rows_in p.0) q.0 q.1 x v q.3)) p.3)
     (λ k. unless_on p.0 (AreChangesCut g t F h (rows_in p.0) p.1 u) All p.1 x u v (λ a b. changes_on g t F f.1.0 h (rows_in p.0) p.1 u x v b.0 b.1 b.2 b.3 a) k p.3)
@@ -201,17 +201,17 @@ update_if_on {A} g t (P ∷ F ∷ []) f h s u x v c p =
 update_if_on g t (P ∷ F ∷ Q ∷ Ps) f h s u x v c p = absurd c
 
 -- the parts were cut off, or the deed
-abbrev DoesCut : {A : Type 0} → Ground A → Deed → List (Part A) → Held → State A → State A → Type 0
-DoesCut {A} g d Ps h s u = AreCut Ps h s u ⊎ ((ds : List Data) × (m : State A) × ArePerformed (wholes Ps) h s ds m × CutDeed g.frame d ds m u)
+abbrev DoesCut : {A : Type 0} → Ground A → Deed → List (CutPart A) → ScopeValues → WorldState A → WorldState A → Type 0
+DoesCut {A} g d Ps h s u = AreCut Ps h s u ⊎ ((ds : List Data) × (m : WorldState A) × ArePerformed (wholes Ps) h s ds m × CutDeed g.frame d ds m u)
 
-does_on : {A : Type 0} (g : Ground A) (d : Deed) (Ps : List (Part A)) → AllGoOn Ps → (h : Held) (s u : State A) (x : Data) (v : State A) → DoesCut g d Ps h s u →
-    ((ds : List Data) × (m : State A) × ArePerformed (wholes Ps) h s ds m × IsDeed g.frame d ds m x v) → Within u v
+does_on : {A : Type 0} (g : Ground A) (d : Deed) (Ps : List (CutPart A)) → AllGoOn Ps → (h : ScopeValues) (s u : WorldState A) (x : Data) (v : WorldState A) → DoesCut g d Ps h s u →
+    ((ds : List Data) × (m : WorldState A) × ArePerformed (wholes Ps) h s ds m × IsDeed g.frame d ds m x v) → Within u v
 does_on g d Ps f h s u x v (inl c) p = within_on u p.1 v (cut_on Ps f h s u p.1 p.0 c p.2) (deeds.done_by g.frame d p.0 p.1 x v p.3)
 does_on g d Ps f h s u x v (inr c) p =
     let e : Same c.0 c.1 p.0 p.1 = performed_one (wholes Ps) (all_one Ps f) h s c.0 p.0 c.1 p.1 c.2 p.2 in
     deed_on g.frame d p.0 p.1 x u v (subst (λ z. CutDeed g.frame d z.0 z.1 u) e c.3) p.3
 
-act_on : {A : Type 0} (g : Ground A) (d : Deed) (Ps : List (Part A)) → AllGoOn Ps → (h : Held) (s u : State A) (x : Data) (v : State A) → IsActCut g d Ps h s u → IsAct g d (wholes Ps) h s x v → Within u v
+act_on : {A : Type 0} (g : Ground A) (d : Deed) (Ps : List (CutPart A)) → AllGoOn Ps → (h : ScopeValues) (s u : WorldState A) (x : Data) (v : WorldState A) → IsActCut g d Ps h s u → IsAct g d (wholes Ps) h s x v → Within u v
 act_on g (deed.UpdateIf t) Ps f h s u x v c p = update_if_on g t Ps f h s u x v c p
 act_on g (deed.Set k) Ps f h s u x v c p = does_on g (deed.Set k) Ps f h s u x v c p
 act_on g (deed.UpdateContext ks) Ps f h s u x v c p = does_on g (deed.UpdateContext ks) Ps f h s u x v c p
@@ -227,7 +227,7 @@ act_on g (deed.Reset k) Ps f h s u x v c p = does_on g (deed.Reset k) Ps f h s u
 
 -- ---- trees
 
-acting_on : {A : Type 0} (g : Ground A) (k : Top) (Ps : List (Part A)) → AllGoOn Ps → (h : Held) (s u : State A) (x : Data) (v : State A) → IsActingCut g k Ps h s u → IsActing g k (wholes Ps) h s x v → Within u v
+acting_on : {A : Type 0} (g : Ground A) (k : Top) (Ps : List (CutPart A)) → AllGoOn Ps → (h : ScopeValues) (s u : WorldState A) (x : Data) (v : WorldState A) → IsActingCut g k Ps h s u → PerformsNode g k (wholes Ps) h s x v → Within u v
 acting_on g top.chain Ps f h s u x v c p = chain_on Ps f h s u x v c p
 acting_on g (top.act d) Ps f h s u x v c p = act_on g d Ps f h s u x v c p
 acting_on g (top.form form.If) Ps f h s u x v c p = branch_on decision_of Ps f h s u x v c p
@@ -249,29 +249,29 @@ acting_on g (top.call k) Ps f h s u x v c p = absurd c
 acting_on g (top.rec ns) Ps f h s u x v c p = absurd c
 
 -- what was left as it was goes on as all does
-from_start : {A : Type 0} (s u v : State A) → u ≡ s → Within s v → Within u v
+from_start : {A : Type 0} (s u v : WorldState A) → u ≡ s → Within s v → Within u v
 from_start s u v e w = subst (λ z. Within z v) (sym e) w
 
 pub whole_parts : {A : Type 0} (g : Ground A) (ts : Terms) → wholes (parts g ts) ≡ performings g ts
 whole_parts g nil = refl
 whole_parts g (cons t ts) = ap (λ Ps. performing g t ∷ Ps) (whole_parts g ts)
 
-done_on : {A : Type 0} (g : Ground A) (b : Bool) (k : Top) (c : Term) (Ps : List (Part A)) → AllGoOn Ps → (h : Held) (s u : State A) (x : Data) (v : State A) →
-    Within s v → IsCut g b k Ps h s u → IsDone g b k (taken g c) (wholes Ps) h s x v → Within u v
+done_on : {A : Type 0} (g : Ground A) (b : Bool) (k : Top) (c : Term) (Ps : List (CutPart A)) → AllGoOn Ps → (h : ScopeValues) (s u : WorldState A) (x : Data) (v : WorldState A) →
+    Within s v → IsCut g b k Ps h s u → NodeComesTo g b k (taken g c) (wholes Ps) h s x v → Within u v
 done_on g true k c Ps f h s u x v w (inl e) p = from_start s u v e w
 done_on g true k c Ps f h s u x v w (inr q) p = acting_on g k Ps f h s u x v q p
 done_on g false k c Ps f h s u x v w e p = from_start s u v e w
 
 mutual
-  tree_on : {A : Type 0} (g : Ground A) → Once → GivesOne g.gives → (t : Term) (h : Held) (s u : State A) (x : Data) (v : State A) → cutting g t h s u → performing g t h s x v → Within u v
+  tree_on : {A : Type 0} (g : Ground A) → Once → GivesOne g.gives → (t : Term) (h : ScopeValues) (s u : WorldState A) (x : Data) (v : WorldState A) → cutting g t h s u → performing g t h s x v → Within u v
   tree_on g once one (of k ts) h s u x v c p =
       done_on g (acts (of k ts)) k (of k ts) (parts g ts) (trees_on g once one ts) h s u x v (tree_writes g (of k ts) h s x v p) c
-      (subst (λ Ps. IsDone g (acts (of k ts)) k (taken g (of k ts)) Ps h s x v) (sym (whole_parts g ts)) p)
+      (subst (λ Ps. NodeComesTo g (acts (of k ts)) k (taken g (of k ts)) Ps h s x v) (sym (whole_parts g ts)) p)
 
   trees_on : {A : Type 0} (g : Ground A) → Once → GivesOne g.gives → (ts : Terms) → AllGoOn (parts g ts)
   trees_on g once one nil = tt
   trees_on g once one (cons t ts) = ((performs_one g once one t, tree_writes g t, tree_on g once one t), trees_on g once one ts)
 
 -- THE WHOLE PERFORMING GOES ON FROM WHERE IT WAS CUT OFF
-pub performing_on : {A : Type 0} (g : Ground A) → Once → GivesOne g.gives → (t : Term) (h : Held) (x : Data) (s u v : State A) → cutting g t h s u → performing g t h s x v → Within u v
+pub performing_on : {A : Type 0} (g : Ground A) → Once → GivesOne g.gives → (t : Term) (h : ScopeValues) (x : Data) (s u v : WorldState A) → cutting g t h s u → performing g t h s x v → Within u v
 performing_on g once one t h x s u v c p = tree_on g once one t h s u x v c p

@@ -17,14 +17,14 @@ use Rattle.fx_core.specs.declared.sources.Source.TheVariants as source
 use Rattle.fx_core.specs.Rows.{row_of}
 use Rattle.fx_core.specs.Term.{Term, Terms, of, nil, cons, all, act, over, read}
 use Rattle.fx_typing.specs.LawfulTypes.{AreLawfulColumns, IsLawfulType}
-use Rattle.fx_typing.specs.WellTyped.{Context, AreAll, AreChanges, AreTyped, IsByRow, IsChange, IsDone, IsFilterOf, IsNamedRow, IsTyped, target_source}
+use Rattle.fx_typing.specs.WellTyped.{Context, AreAllOfShape, AreChanges, AreTyped, IsByRow, IsChange, DeedHasType, IsFilterOf, IsNamedRow, IsTyped, target_source}
 use Rattle.fx_value.specs.Columns.{Row}
 use Rattle.fx_value.specs.Fits.{fits_in}
 use Rattle.fx_value.specs.Join.{union}
 use Rattle.fx_deeds.specs.Doable.{AnswersAs, CanDo, IsBase}
 use Rattle.fx_deeds.specs.Fitting.{AreOf, AreOfSome, CanTakeAll, SourceTypes}
 use Rattle.fx_deeds.specs.RowValues.{rows_among}
-use Rattle.fx_semantics.specs.Places.{are_of_screen, may_act}
+use Rattle.fx_semantics.specs.Places.{are_of_screen, part_may_act}
 
 -- the one deed whose change has a value for each row
 abbrev pub IsUpdating : Deed → Type 0
@@ -42,7 +42,7 @@ same_head x y xs ys e = cc
 same_tail : {A : Type 0} (x y : A) (xs ys : List A) → (x ∷ xs) ≡ (y ∷ ys) → xs ≡ ys
 same_tail x y xs ys e = cc
 
-all_of : (t : Shape) (ds : List Data) (us : List Shape) → AreAll t us → AreFit ds us → AreOf t ds
+all_of : (t : Shape) (ds : List Data) (us : List Shape) → AreAllOfShape t us → AreFit ds us → AreOf t ds
 all_of t [] [] a f = tt
 all_of t (d ∷ ds) (u ∷ us) a f = (subst (λ (z : Shape). fits_in d z ≡ true) a.0 f.0, all_of t ds us a.1 f.1)
 all_of t [] (u ∷ us) a f = absurd f
@@ -133,7 +133,7 @@ filtered c p t w h ty = absurd h
 
 -- ---- deeds
 
-only_text : (c : Context) (ts : Terms) (us : List Shape) (u : Shape) → IsDone c deed.Notify ts us u → us ≡ texts ∷ []
+only_text : (c : Context) (ts : Terms) (us : List Shape) (u : Shape) → DeedHasType c deed.Notify ts us u → us ≡ texts ∷ []
 only_text c ts (texts ∷ []) u h = refl
 only_text c ts us u h = absurd h
 
@@ -147,7 +147,7 @@ notified types ds us e f = by ds (subst (AreFit ds) e f)
 
 module _ (c : Context) (types : SourceTypes) (e : c.sources ≡ types) where
   -- the columns of what a filter for a removal gives are the target's
-  removed : (p : Target) (ts : List Term) (n : ℕ) (us : List Shape) (ds : List Data) (u : Shape) → AreTyped c (act (deed.RemoveIf p)) n [] (all ts) us → IsDone c (deed.RemoveIf p) (all ts) us u → AreFit ds us → CanDo types (deed.RemoveIf p) ds
+  removed : (p : Target) (ts : List Term) (n : ℕ) (us : List Shape) (ds : List Data) (u : Shape) → AreTyped c (act (deed.RemoveIf p)) n [] (all ts) us → DeedHasType c (deed.RemoveIf p) (all ts) us u → AreFit ds us → CanDo types (deed.RemoveIf p) ds
   removed p [] n us ds u w h f = absurd h
   removed p (t ∷ k ∷ ts) n us ds u w h f = absurd h
   removed p (t ∷ []) n us ds u w h f = by ds (subst (AreFit ds) (w.2 ∙ ap (λ (vs : List Shape). w.0 ∷ vs) w.4) f)
@@ -160,7 +160,7 @@ module _ (c : Context) (types : SourceTypes) (e : c.sources ≡ types) where
       by (x ∷ []) g = (k.0, there c types e (target_source p) (Some (tables k.0)) k.2)
       by (x ∷ y ∷ xs) g = absurd g.1
 
-  patched : (p : Target) (ts : Terms) (us : List Shape) (ds : List Data) (u : Shape) → IsLawfulType u → AreLawfulTypes us → IsDone c (deed.Patch p) ts us u → AreFit ds us → CanDo types (deed.Patch p) ds
+  patched : (p : Target) (ts : Terms) (us : List Shape) (ds : List Data) (u : Shape) → IsLawfulType u → AreLawfulTypes us → DeedHasType c (deed.Patch p) ts us u → AreFit ds us → CanDo types (deed.Patch p) ds
   patched p ts [] ds u l ls h f = absurd h
   patched p ts (v ∷ us) [] u l ls h f = absurd f
   patched p ts (v ∷ us) (b ∷ ds) u l ls h f = (
@@ -171,30 +171,30 @@ module _ (c : Context) (types : SourceTypes) (e : c.sources ≡ types) where
     changes_rows p h.0 us ds ls.1 h.3 f.1,
   )
 
-  set_one : (k : ℕ) (ts : Terms) (us : List Shape) (ds : List Data) (u : Shape) → IsDone c (deed.Set k) ts us u → AreFit ds us → CanDo types (deed.Set k) ds
+  set_one : (k : ℕ) (ts : Terms) (us : List Shape) (ds : List Data) (u : Shape) → DeedHasType c (deed.Set k) ts us u → AreFit ds us → CanDo types (deed.Set k) ds
   set_one k ts [] ds u h f = absurd h
   set_one k ts (v ∷ w ∷ us) ds u h f = absurd h
   set_one k ts (v ∷ []) [] u h f = absurd f
   set_one k ts (v ∷ []) (y ∷ z ∷ ds) u h f = absurd f.1
   set_one k ts (v ∷ []) (y ∷ []) u h f = (v, there c types e (source.Global k) (Some v) h.0, f.0)
 
-  cleared : (k : ℕ) (ts : Terms) (us : List Shape) (ds : List Data) (u : Shape) → IsDone c (deed.Clear k) ts us u → AreFit ds us → CanDo types (deed.Clear k) ds
+  cleared : (k : ℕ) (ts : Terms) (us : List Shape) (ds : List Data) (u : Shape) → DeedHasType c (deed.Clear k) ts us u → AreFit ds us → CanDo types (deed.Clear k) ds
   cleared k ts [] [] u h f = (h.0, there c types e (source.Gathered k) (Some (tables h.0)) h.1)
   cleared k ts [] (y ∷ ds) u h f = absurd f
   cleared k ts (v ∷ us) ds u h f = absurd h
 
-  shown : (k : ℕ) (ts : Terms) (us : List Shape) (ds : List Data) (u : Shape) → IsDone c (deed.Navigate k) ts us u → AreFit ds us → CanDo types (deed.Navigate k) ds
+  shown : (k : ℕ) (ts : Terms) (us : List Shape) (ds : List Data) (u : Shape) → DeedHasType c (deed.Navigate k) ts us u → AreFit ds us → CanDo types (deed.Navigate k) ds
   shown k ts [] [] u h f = tt
   shown k ts [] (y ∷ ds) u h f = absurd f
   shown k ts (v ∷ us) ds u h f = absurd h
 
-  reset : (k : ℕ) (ts : Terms) (us : List Shape) (ds : List Data) (u : Shape) → IsDone c (deed.Reset k) ts us u → AreFit ds us → CanDo types (deed.Reset k) ds
+  reset : (k : ℕ) (ts : Terms) (us : List Shape) (ds : List Data) (u : Shape) → DeedHasType c (deed.Reset k) ts us u → AreFit ds us → CanDo types (deed.Reset k) ds
   reset k ts [] [] u h f = subst (λ (z : SourceTypes). IsSome (z (source.Input k))) e h.0
   reset k ts [] (y ∷ ds) u h f = absurd f
   reset k ts (v ∷ us) ds u h f = absurd h
 
-  pub can_do : (d : Deed) (us : List Shape) (ds : List Data) (ts : List Term) (n : ℕ) (u : Shape) → (IsUpdating d → ⊥) → may_act (act d) ≡ true → IsLawfulType u → AreLawfulTypes us →
-      AreTyped c (act d) n [] (all ts) us → IsDone c d (all ts) us u → AreFit ds us → CanDo types d ds
+  pub can_do : (d : Deed) (us : List Shape) (ds : List Data) (ts : List Term) (n : ℕ) (u : Shape) → (IsUpdating d → ⊥) → part_may_act (act d) ≡ true → IsLawfulType u → AreLawfulTypes us →
+      AreTyped c (act d) n [] (all ts) us → DeedHasType c d (all ts) us u → AreFit ds us → CanDo types d ds
   can_do (deed.Set k) us ds ts n u o p l ls w h f = set_one k (all ts) us ds u h f
   can_do (deed.UpdateContext ks) us ds ts n u o p l ls w h f = take_all c types e ks us ds p h.0 f
   can_do (deed.Collect k) us ds ts n u o p l ls w h f = (h.0, there c types e (source.Gathered k) (Some (tables h.0)) h.1, all_of (tables h.0) ds us h.2 f)
@@ -210,7 +210,7 @@ module _ (c : Context) (types : SourceTypes) (e : c.sources ≡ types) where
 
   -- ---- what is answered
 
-  pub answers_as : (d : Deed) (us : List Shape) (ts : Terms) (u : Shape) → (IsUpdating d → ⊥) → IsDone c d ts us u → AnswersAs types d u
+  pub answers_as : (d : Deed) (us : List Shape) (ts : Terms) (u : Shape) → (IsUpdating d → ⊥) → DeedHasType c d ts us u → AnswersAs types d u
   answers_as (deed.Set k) [] ts u o h = absurd h
   answers_as (deed.Set k) (v ∷ []) ts u o h = h.1
   answers_as (deed.Set k) (v ∷ w ∷ us) ts u o h = absurd h
@@ -230,7 +230,7 @@ module _ (c : Context) (types : SourceTypes) (e : c.sources ≡ types) where
   answers_as (deed.Navigate k) (v ∷ us) ts u o h = absurd h
   answers_as deed.Notify us ts u o h = notify_type us ts u h
     where
-      notify_type : (us : List Shape) (ts : Terms) (u : Shape) → IsDone c deed.Notify ts us u → u ≡ booleans
+      notify_type : (us : List Shape) (ts : Terms) (u : Shape) → DeedHasType c deed.Notify ts us u → u ≡ booleans
       notify_type (texts ∷ []) ts u h = h
       notify_type us ts u h = absurd h
   answers_as (deed.Reset k) [] ts u o h = h.1

@@ -2,7 +2,7 @@
 use Rattle.std.proofs.Common.{◌≡◌, List, [], ◌∷◌, true, ap, sym, subst, ◌∙◌}
 use Rattle.fx_types.specs.Types.{Shape, tables}
 use Rattle.fx_types.specs.Values.{Data}
-use Rattle.fx_env.specs.Scopes.{Held}
+use Rattle.fx_env.specs.Scopes.{ScopeValues}
 use Rattle.fx_semantics.proofs.Tables.{AllFit, for_all_fits, rows_in_fit}
 use Rattle.fx_semantics.specs.Rows.{rows_in}
 use Rattle.fx_tables.specs.RowCalls.{for_all_of}
@@ -22,7 +22,7 @@ all_fit u (d ∷ ds) h = (h.0, all_fit u ds h.1)
 one_is : (ts : List Term) (f k : Term) (others : List Term) → ts ≡ f ∷ [] → ts ≡ k ∷ others → ts ≡ k ∷ []
 one_is ts f k others e q = let same : k ∷ others ≡ f ∷ [] = sym q ∙ e in let none : others ≡ [] = cc in q ∙ ap (λ z. k ∷ z) none
 
-module _ (types : SourceTypes) (s : Held) (t : Term) (ts : List Term) (u : Shape) (r : IsActable types s (of (over fun.ForAll) (cons t (all ts))) u) where
+module _ (types : SourceTypes) (s : ScopeValues) (t : Term) (ts : List Term) (u : Shape) (r : IsActable types s (of (over fun.ForAll) (cons t (all ts))) u) where
   pub formula_is : (f : Term) (others : List Term) → ts ≡ f ∷ others → ts ≡ f ∷ []
   formula_is f others e = let k = one_formula types s t ts u r in one_is ts k.0 f others k.1 e
 

@@ -2,7 +2,7 @@
 use Rattle.std.proofs.Common.{◌≡◌, ◌+◌, ◌≤◌, List, [], ◌∷◌, ◌++◌, true, Some, ap, sym, subst, ◌∙◌, arith}
 use Rattle.fx_types.specs.Types.{Shape, ColumnList, booleans, tables}
 use Rattle.fx_types.specs.Values.{Data}
-use Rattle.fx_env.specs.Scopes.{Held}
+use Rattle.fx_env.specs.Scopes.{ScopeValues}
 use Rattle.fx_semantics.proofs.Tables.{RowsFit, rows_in_fit, table_fits}
 use Rattle.fx_semantics.proofs.Whole.{lawful_here}
 use Rattle.fx_semantics.specs.Rows.{rows_in, table_of}
@@ -11,7 +11,7 @@ use Rattle.fx_core.specs.declared.deeds.Deed.TheVariants as deed
 use Rattle.fx_core.specs.declared.deeds.Target.{Target}
 use Rattle.fx_core.specs.Term.{Term, of, nil, cons, all, act, term_size, terms_size}
 use Rattle.fx_typing.specs.LawfulTypes.{IsLawfulType}
-use Rattle.fx_typing.specs.WellTyped.{Context, IsChange, IsDone, row_type, target_source}
+use Rattle.fx_typing.specs.WellTyped.{Context, IsChange, DeedHasType, row_type, target_source}
 use Rattle.fx_value.specs.Fits.{fits_in}
 use Rattle.fx_deeds.specs.Doable.{CanUpdate}
 use Rattle.fx_deeds.specs.Fitting.{AreOf, SourceTypes}
@@ -33,21 +33,21 @@ same_columns x y e = cc
 same_shapes : (x y : Shape) → Some x ≡ Some y → x ≡ y
 same_shapes x y e = cc
 
-pub two_parts : (types : SourceTypes) (s : Held) (p : Target) (ts : List Term) (u : Shape) → IsActable types s (of (act (deed.UpdateIf p)) (all ts)) u → AreTwo ts
+pub two_parts : (types : SourceTypes) (s : ScopeValues) (p : Target) (ts : List Term) (u : Shape) → IsActable types s (of (act (deed.UpdateIf p)) (all ts)) u → AreTwo ts
 two_parts types s p [] u r = absurd r.typed.2
 two_parts types s p (t ∷ []) u r = absurd r.typed.2
 two_parts types s p (t ∷ f ∷ []) u r = tt
 two_parts types s p (t ∷ f ∷ k ∷ ts) u r = absurd r.typed.2
 
-module _ (types : SourceTypes) (s : Held) (p : Target) where
+module _ (types : SourceTypes) (s : ScopeValues) (p : Target) where
   -- ---- two parts
 
   updating : (t f : Term) (u : Shape) → (r : IsActable types s (of (act (deed.UpdateIf p)) (cons t (cons f nil))) u) → IsUpdating r.context p r.typed.1.0 r.typed.1.4.0 u
   updating t f u r =
       let w = r.typed.1.0 in
       let v = r.typed.1.4.0 in
-      let h : IsDone r.context (deed.UpdateIf p) (cons t (cons f nil)) (w ∷ v ∷ []) u =
-      subst (λ (us : List Shape). IsDone r.context (deed.UpdateIf p) (cons t (cons f nil)) us u) (two_types r.context (act (deed.UpdateIf p)) 2 t f r.typed.0 r.typed.1) r.typed.2 in
+      let h : DeedHasType r.context (deed.UpdateIf p) (cons t (cons f nil)) (w ∷ v ∷ []) u =
+      subst (λ (us : List Shape). DeedHasType r.context (deed.UpdateIf p) (cons t (cons f nil)) us u) (two_types r.context (act (deed.UpdateIf p)) 2 t f r.typed.0 r.typed.1) r.typed.2 in
       let k = filtered r.context p t w h.1 r.typed.1.3 in
       let same : k.0 ≡ h.0 = same_columns k.0 h.0 (same_shapes (tables k.0) (tables h.0) (sym k.2 ∙ h.2)) in
       record { columns = h.0; filter = k.1 ∙ ap (λ (z : ColumnList). tables z) same; rows = h.2; change = h.3; whole = h.4 }

@@ -17,9 +17,9 @@ ghost use Rattle.fx_deeds.specs.Fitting.{AreOf};
 ghost use Rattle.fx_deeds.specs.StagesOver.{Passed, StateBecomes};
 ghost use Rattle.fx_deeds.specs.State.{ground};
 ghost use Rattle.fx_deeds.specs.Writable.{WritesOnly};
-ghost use Rattle.fx_behave.specs.Actable.{AreActable, AreBranches, AreRecoveries, AreTwo, CanAct, EndsIn, IsActable, IsActableInside, IsMatchedBy, IsSwitch};
-ghost use Rattle.fx_behave.specs.CutOff.{AreCut, AreEachCut, IsActCut, IsBranchCut, IsCutOff, IsForAllCut, IsRecoveryCut, IsSwitchCut, IsUpdateIfCut, IsWithinCut, part as part_of, parts as parts_of};
-ghost use Rattle.fx_behave.specs.Perform.{AreEach, ArePerformed, IsAct, IsBranched, IsChain, IsForAll, IsRecovered, IsSwitched, IsUpdateIf, IsWithin, Performs, matching, performing, performings};
+ghost use Rattle.fx_behave.specs.Actable.{AreActable, AreActingBranches, AreActingRecoveries, AreTwo, CanAct, LastHasType, IsActable, IsActableInside, IsMatchedBy, IsActingSwitch};
+ghost use Rattle.fx_behave.specs.CutOff.{AreCut, AreEachCut, IsActCut, IsBranchCut, IsCutOff, IsForAllCut, IsRecoveryCut, IsSwitchCut, IsUpdateIfCut, IsWithinCut, cut_part as part_of, parts as parts_of};
+ghost use Rattle.fx_behave.specs.Perform.{PerformsEach, ArePerformed, IsAct, IsBranched, IsChain, IsForAll, PerformsIfError, PerformsSwitch, IsUpdateIf, PerformsWith, Performs, switch_decision, performing, performings};
 ghost use Rattle.fx_behave.specs.Writable.{AnyMayWrite, MayWrite};
 
 use crate::perform::evaluate;
@@ -242,7 +242,7 @@ fn chain<W: World, L: Ledger>(
     parts: &[Core],
     steps: &mut Steps<L>,
 ) -> Result<Value, Stop>
-    requires { (u : Shape) × EndsIn (W.fixed world.old).types scope.old u parts.now }
+    requires { (u : Shape) × LastHasType (W.fixed world.old).types scope.old u parts.now }
     ensures passed { Passed W.Env W.World.own world.old world.new }
     ensures only { StateBecomes W.Env W.World.own world.old world.new
         (WritesOnly (AnyMayWrite (all parts.now))) }
@@ -252,7 +252,7 @@ fn chain<W: World, L: Ledger>(
         (λ s t. IsChain (performings (ground W.gives (W.fixed world.old)) (all parts.now)) scope.old s (view v) t)) }
     ensures cut { OnErr result (StateBecomes W.Env W.World.own world.old world.new
         (AreCut (parts_of (ground W.gives (W.fixed world.old)) (all parts.now)) scope.old)) }
-    ensures fits { (u : Shape) → EndsIn (W.fixed world.old).types scope.old u parts.now → IfOk result (λ v. fits_in (view v) u ≡ true) }
+    ensures fits { (u : Shape) → LastHasType (W.fixed world.old).types scope.old u parts.now → IfOk result (λ v. fits_in (view v) u ≡ true) }
 {
     let mut rest = parts;
     while let Some((part, others)) = rest.split_first() {
@@ -274,7 +274,7 @@ fn branches<W: World, L: Ledger>(
     parts: &[Core],
     steps: &mut Steps<L>,
 ) -> Result<Value, Stop>
-    requires { (u : Shape) × AreBranches (W.fixed world.old).types scope.old u parts.now }
+    requires { (u : Shape) × AreActingBranches (W.fixed world.old).types scope.old u parts.now }
     ensures passed { Passed W.Env W.World.own world.old world.new }
     ensures only { StateBecomes W.Env W.World.own world.old world.new
         (WritesOnly (AnyMayWrite (all parts.now))) }
@@ -284,7 +284,7 @@ fn branches<W: World, L: Ledger>(
         (λ s t. IsBranched decision_of (performings (ground W.gives (W.fixed world.old)) (all parts.now)) scope.old s (view v) t)) }
     ensures cut { OnErr result (StateBecomes W.Env W.World.own world.old world.new
         (IsBranchCut decision_of (parts_of (ground W.gives (W.fixed world.old)) (all parts.now)) scope.old)) }
-    ensures fits { (u : Shape) → AreBranches (W.fixed world.old).types scope.old u parts.now → IfOk result (λ v. fits_in (view v) u ≡ true) }
+    ensures fits { (u : Shape) → AreActingBranches (W.fixed world.old).types scope.old u parts.now → IfOk result (λ v. fits_in (view v) u ≡ true) }
 {
     let mut rest = parts;
     while let Some((part, others)) = rest.split_first() {
@@ -310,17 +310,17 @@ fn switch<W: World, L: Ledger>(
     parts: &[Core],
     steps: &mut Steps<L>,
 ) -> Result<Value, Stop>
-    requires { (u : Shape) × IsSwitch (W.fixed world.old).types scope.old u parts.now }
+    requires { (u : Shape) × IsActingSwitch (W.fixed world.old).types scope.old u parts.now }
     ensures passed { Passed W.Env W.World.own world.old world.new }
     ensures only { StateBecomes W.Env W.World.own world.old world.new
         (WritesOnly (AnyMayWrite (all parts.now))) }
     ensures scope { scope.new ≡ scope.old }
     ensures keeper { IsErrOf result Stop.Keeper → Rose (W.marks world.old).faults (W.marks world.new).faults }
     ensures done { IfOk result (λ v. StateBecomes W.Env W.World.own world.old world.new
-        (λ s t. IsSwitched (performings (ground W.gives (W.fixed world.old)) (all parts.now)) scope.old s (view v) t)) }
+        (λ s t. PerformsSwitch (performings (ground W.gives (W.fixed world.old)) (all parts.now)) scope.old s (view v) t)) }
     ensures cut { OnErr result (StateBecomes W.Env W.World.own world.old world.new
         (IsSwitchCut (parts_of (ground W.gives (W.fixed world.old)) (all parts.now)) scope.old)) }
-    ensures fits { (u : Shape) → IsSwitch (W.fixed world.old).types scope.old u parts.now → IfOk result (λ v. fits_in (view v) u ≡ true) }
+    ensures fits { (u : Shape) → IsActingSwitch (W.fixed world.old).types scope.old u parts.now → IfOk result (λ v. fits_in (view v) u ≡ true) }
 {
     let Some((part, others)) = parts.split_first() else {
         unreachable!()
@@ -349,9 +349,9 @@ fn matches<W: World, L: Ledger>(
     ensures scope { scope.new ≡ scope.old }
     ensures keeper { IsErrOf result Stop.Keeper → Rose (W.marks world.old).faults (W.marks world.new).faults }
     ensures done { IfOk result (λ v. StateBecomes W.Env W.World.own world.old world.new
-        (λ s t. IsBranched (matching (view wanted)) (performings (ground W.gives (W.fixed world.old)) (all parts.now)) scope.old s (view v) t)) }
+        (λ s t. IsBranched (switch_decision (view wanted)) (performings (ground W.gives (W.fixed world.old)) (all parts.now)) scope.old s (view v) t)) }
     ensures cut { OnErr result (StateBecomes W.Env W.World.own world.old world.new
-        (IsBranchCut (matching (view wanted)) (parts_of (ground W.gives (W.fixed world.old)) (all parts.now)) scope.old)) }
+        (IsBranchCut (switch_decision (view wanted)) (parts_of (ground W.gives (W.fixed world.old)) (all parts.now)) scope.old)) }
     ensures fits { (u : Shape) → IsMatchedBy (W.fixed world.old).types scope.old (view wanted) u parts.now → IfOk result (λ v. fits_in (view v) u ≡ true) }
 {
     let mut rest = parts;
@@ -378,17 +378,17 @@ fn recover<W: World, L: Ledger>(
     parts: &[Core],
     steps: &mut Steps<L>,
 ) -> Result<Value, Stop>
-    requires { (u : Shape) × AreRecoveries (W.fixed world.old).types scope.old u parts.now }
+    requires { (u : Shape) × AreActingRecoveries (W.fixed world.old).types scope.old u parts.now }
     ensures passed { Passed W.Env W.World.own world.old world.new }
     ensures only { StateBecomes W.Env W.World.own world.old world.new
         (WritesOnly (AnyMayWrite (all parts.now))) }
     ensures scope { scope.new ≡ scope.old }
     ensures keeper { IsErrOf result Stop.Keeper → Rose (W.marks world.old).faults (W.marks world.new).faults }
     ensures done { IfOk result (λ v. StateBecomes W.Env W.World.own world.old world.new
-        (λ s t. IsRecovered (none_left_of form.IfError) (performings (ground W.gives (W.fixed world.old)) (all parts.now)) scope.old s (view v) t)) }
+        (λ s t. PerformsIfError (none_left_of form.IfError) (performings (ground W.gives (W.fixed world.old)) (all parts.now)) scope.old s (view v) t)) }
     ensures cut { OnErr result (StateBecomes W.Env W.World.own world.old world.new
         (IsRecoveryCut (parts_of (ground W.gives (W.fixed world.old)) (all parts.now)) scope.old)) }
-    ensures fits { (u : Shape) → AreRecoveries (W.fixed world.old).types scope.old u parts.now → IfOk result (λ v. fits_in (view v) u ≡ true) }
+    ensures fits { (u : Shape) → AreActingRecoveries (W.fixed world.old).types scope.old u parts.now → IfOk result (λ v. fits_in (view v) u ≡ true) }
 {
     let mut last = Value::Blank;
     let mut rest = parts;
@@ -459,7 +459,7 @@ fn within<W: World, L: Ledger>(
     ensures scope { scope.new ≡ scope.old }
     ensures keeper { IsErrOf result Stop.Keeper → Rose (W.marks world.old).faults (W.marks world.new).faults }
     ensures done { IfOk result (λ v. StateBecomes W.Env W.World.own world.old world.new
-        (λ s t. IsWithin (performings (ground W.gives (W.fixed world.old)) (cons part.now (cons formula.now nil))) scope.old s (view v) t)) }
+        (λ s t. PerformsWith (performings (ground W.gives (W.fixed world.old)) (cons part.now (cons formula.now nil))) scope.old s (view v) t)) }
     ensures cut { OnErr result (StateBecomes W.Env W.World.own world.old world.new
         (IsWithinCut (parts_of (ground W.gives (W.fixed world.old)) (cons part.now (cons formula.now nil))) scope.old)) }
     ensures fits { (u : Shape) → IsActable (W.fixed world.old).types scope.old (of scoped (cons part.now (cons formula.now nil))) u → IfOk result (λ v. fits_in (view v) u ≡ true) }
@@ -552,7 +552,7 @@ fn each<W: World, L: Ledger>(
     ensures scope { scope.new ≡ scope.old }
     ensures keeper { IsErrOf result Stop.Keeper → Rose (W.marks world.old).faults (W.marks world.new).faults }
     ensures done { IfOk result (λ vs. StateBecomes W.Env W.World.own world.old world.new
-        (λ s t. AreEach (performing (ground W.gives (W.fixed world.old)) formula.now) scope.old rows.now s (map view vs.items) t)) }
+        (λ s t. PerformsEach (performing (ground W.gives (W.fixed world.old)) formula.now) scope.old rows.now s (map view vs.items) t)) }
     ensures cut { OnErr result (StateBecomes W.Env W.World.own world.old world.new
         (AreEachCut (part_of (ground W.gives (W.fixed world.old)) formula.now) scope.old rows.now)) }
     ensures fits { (u : Shape) → IsActableInside (W.fixed world.old).types scope.old u formula.now rows.now → IfOk result (λ vs. AreOf u (map view vs.items)) }

@@ -4,7 +4,7 @@ ghost use Rattle.fx_base.specs.Faults.{Rose};
 ghost use Rattle.fx_base.specs.Telling.{Stays};
 ghost use Rattle.fx_types.specs.Types.{Shape};
 ghost use Rattle.fx_types.specs.ValueView.{view};
-ghost use Rattle.fx_env.specs.Scopes.{CanEvaluate, IsReady};
+ghost use Rattle.fx_env.specs.Scopes.{CanEvaluate, IsTypedHere};
 ghost use Rattle.fx_plan.specs.Limited.{limited};
 ghost use Rattle.fx_value.specs.Fits.{fits_in};
 ghost use Rattle.fx_deeds.specs.StagesOver.{Passed, StateBecomes};
@@ -37,7 +37,7 @@ pub(crate) fn evaluate<W: World, L: Ledger>(
     ensures keeper { IsErrOf result Stop.Keeper → Rose (W.marks world.old).faults (W.marks world.new).faults }
     ensures done { IfOk result (λ v. StateBecomes W.Env W.World.own world.old world.new
         (λ s t. Performs (ground W.gives (W.fixed world.old)) core.now scope.old (view v) s t)) }
-    ensures fits { (u : Shape) → IsReady (W.fixed world.old).types scope.old core.now u → IfOk result (λ v. fits_in (view v) u ≡ true) }
+    ensures fits { (u : Shape) → IsTypedHere (W.fixed world.old).types scope.old core.now u → IfOk result (λ v. fits_in (view v) u ≡ true) }
 {
     // A law, which is called for what it says.
     limited_types();

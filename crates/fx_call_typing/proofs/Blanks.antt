@@ -1,7 +1,7 @@
 -- Blanks under the names of columns.
 use Rattle.std.proofs.Common.{◌≡◌, ℕ, zero, suc, ◌≤◌, List, [], ◌∷◌, length, take, map, refl, ap, ◌∙◌, arith}
 use Rattle.fx_types.proofs.Risings.{names_of, rising_names}
-use Rattle.fx_types.specs.Rising.{AreRising}
+use Rattle.fx_types.specs.Rising.{AreNamesRising}
 use Rattle.fx_types.specs.Types.{Shape, column_list}
 use Rattle.fx_types.specs.TypeView.{columns_view}
 use Rattle.fx_types.specs.declared.types.Ty.{Ty}
@@ -16,7 +16,7 @@ same_names : {A : Type 0} (cs : List (List ℕ × A)) → names_of cs ≡ names_
 same_names [] = refl
 same_names (c ∷ cs) = ap (λ ns. c.0 ∷ ns) (same_names cs)
 
-pub blanks_rise : {A : Type 0} (cs : List (List ℕ × A)) → AreRising cs → AreRising (blanked cs)
+pub blanks_rise : {A : Type 0} (cs : List (List ℕ × A)) → AreNamesRising cs → AreNamesRising (blanked cs)
 blanks_rise cs h = rising_names cs (blanked cs) (same_names cs) h
 
 pub blanks_are : (cs : List (List ℕ × Shape)) → field_list (blanked cs) ≡ blank_fields (column_list cs)

@@ -5,7 +5,7 @@ use Rattle.std.specs.Prelude.{nat_eq, nat_le}
 use Rattle.std.proofs.lemmas.List.{take_all}
 use Rattle.fx_core.specs.declared.functions.Fun.{Fun}
 use Rattle.fx_core.specs.Rows.{row_of}
-use Rattle.fx_typing.specs.Local.{Piece, made}
+use Rattle.fx_typing.specs.Local.{Piece, node_made}
 use Rattle.fx_typing.specs.Calls.{function_by, literal_in, made_if, made_literal}
 
 -- one more
@@ -14,7 +14,7 @@ pub literal_one : (f : Fun) (ps : List Piece) → length ps ≡ (row_of f).most 
 literal_one f ps h = by (nat_le (length ps) (row_of f).most) (nat_eq (length ps) (suc (row_of f).most)) refl refl
   where
     by : (b c : Bool) → nat_le (length ps) (row_of f).most ≡ b → nat_eq (length ps) (suc (row_of f).most) ≡ c →
-        (if b then made f ps
+        (if b then node_made f ps
         else (if c then made_if (function_by f (literal_in (drop (row_of f).most ps))) (take (row_of f).most ps) else Err 7))
         ≡ made_if (function_by f (literal_in (drop (row_of f).most ps))) (take (row_of f).most ps)
     by true c e k = absurd (grind (arith, nat_tests))

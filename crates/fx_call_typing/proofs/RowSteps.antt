@@ -6,15 +6,15 @@ use Rattle.fx_core.specs.declared.deeds.Target.{Target}
 use Rattle.fx_core.specs.Term.{Term, of, all, act}
 use Rattle.fx_core.specs.ColumnLists.{and_then}
 use Rattle.fx_typing.specs.Local.{firsts}
-use Rattle.fx_typing.specs.Deeds.{by_rows, row_named, changes_of, patch_to}
+use Rattle.fx_typing.specs.Deeds.{by_rows, row_typed, changes_of, patch_to}
 use Rattle.fx_typing.specs.Parts.{lowest}
-use Rattle.fx_typing.specs.Answers.{Answers, Wrong}
-use Rattle.fx_core.specs.Rules.{number_of}
+use Rattle.fx_typing.specs.Answers.{IsAnswerOf, Wrong}
+use Rattle.fx_core.specs.Rules.{rule_number}
 use Rattle.fx_core.specs.declared.rule.Rule.{Rule}
-use Rattle.fx_call_typing.specs.Changes.{with_columns, unless_broken, patched}
+use Rattle.fx_call_typing.specs.Changes.{rows_with_columns, unless_broken, patched}
 use Rattle.fx_node_typing.proofs.Exits.{first_stops, goes_on, as_same}
 
-by_rows_is : (o : Option (Target × Shape)) (go : Target × ColumnList → Result (Term × Shape) ℕ) → by_rows o go ≡ and_then (with_columns o) go
+by_rows_is : (o : Option (Target × Shape)) (go : Target × ColumnList → Result (Term × Shape) ℕ) → by_rows o go ≡ and_then (rows_with_columns o) go
 by_rows_is None go = refl
 by_rows_is (Some (t, blanks)) go = refl
 by_rows_is (Some (t, numbers)) go = refl
@@ -25,18 +25,18 @@ by_rows_is (Some (t, records cs)) go = refl
 by_rows_is (Some (t, tables cs)) go = refl
 
 -- rows that are not there, or are none
-pub rows_stop : {A C : Type 0} (f : A → Target × ColumnList) (g : C → Term × Shape) (o : Option (Target × Shape)) (go : Target × ColumnList → Result (Term × Shape) ℕ) (e : Wrong) → Answers f (with_columns o) (Err e) → Answers g (by_rows o go) (Err e)
-rows_stop f g o go e h = as_same g (by_rows o go) (and_then (with_columns o) go) (Err e) (by_rows_is o go) (first_stops f g (with_columns o) go e h)
+pub rows_stop : {A C : Type 0} (f : A → Target × ColumnList) (g : C → Term × Shape) (o : Option (Target × Shape)) (go : Target × ColumnList → Result (Term × Shape) ℕ) (e : Wrong) → IsAnswerOf f (rows_with_columns o) (Err e) → IsAnswerOf g (by_rows o go) (Err e)
+rows_stop f g o go e h = as_same g (by_rows o go) (and_then (rows_with_columns o) go) (Err e) (by_rows_is o go) (first_stops f g (rows_with_columns o) go e h)
 
 -- rows that are there
-pub rows_go : {C : Type 0} (g : C → Term × Shape) (o : Option (Target × Shape)) (r : Target × ColumnList) (go : Target × ColumnList → Result (Term × Shape) ℕ) (res : Result C Wrong) → with_columns o ≡ Ok r → Answers g (go r) res → Answers g (by_rows o go) res
-rows_go g o r go res e h = as_same g (by_rows o go) (and_then (with_columns o) go) res (by_rows_is o go) (goes_on g (with_columns o) r go res e h)
+pub rows_go : {C : Type 0} (g : C → Term × Shape) (o : Option (Target × Shape)) (r : Target × ColumnList) (go : Target × ColumnList → Result (Term × Shape) ℕ) (res : Result C Wrong) → rows_with_columns o ≡ Ok r → IsAnswerOf g (go r) res → IsAnswerOf g (by_rows o go) res
+rows_go g o r go res e h = as_same g (by_rows o go) (and_then (rows_with_columns o) go) res (by_rows_is o go) (goes_on g (rows_with_columns o) r go res e h)
 
 -- a test that finds no rule broken, and one that finds one
-pub kept : {C : Type 0} (g : C → Term × Shape) (f : Result (Term × Shape) ℕ → Result (Term × Shape) ℕ) (o : Option Rule) (r : Result (Term × Shape) ℕ) (res : Result C Wrong) → ((q : Result (Term × Shape) ℕ) → f q ≡ unless_broken o q) → o ≡ None → Answers g r res → Answers g (f r) res
+pub kept : {C : Type 0} (g : C → Term × Shape) (f : Result (Term × Shape) ℕ → Result (Term × Shape) ℕ) (o : Option Rule) (r : Result (Term × Shape) ℕ) (res : Result C Wrong) → ((q : Result (Term × Shape) ℕ) → f q ≡ unless_broken o q) → o ≡ None → IsAnswerOf g r res → IsAnswerOf g (f r) res
 kept g f o r res h n k = as_same g (f r) r res (h r ∙ ap (λ p. unless_broken p r) n) k
 
-pub broken : (f : Result (Term × Shape) ℕ → Result (Term × Shape) ℕ) (o : Option Rule) (r : Result (Term × Shape) ℕ) (rule : Rule) → ((q : Result (Term × Shape) ℕ) → f q ≡ unless_broken o q) → o ≡ Some rule → f r ≡ Err (number_of rule)
+pub broken : (f : Result (Term × Shape) ℕ → Result (Term × Shape) ℕ) (o : Option Rule) (r : Result (Term × Shape) ℕ) (rule : Rule) → ((q : Result (Term × Shape) ℕ) → f q ≡ unless_broken o q) → o ≡ Some rule → f r ≡ Err (rule_number rule)
 broken f o r rule h s = h r ∙ ap (λ p. unless_broken p r) s
 
 -- `Patch` of a row
@@ -44,7 +44,7 @@ abbrev pub patching : Target × ColumnList → List Term → Result (Term × Sha
 patching r ts = Ok (of (act (deed.Patch r.0)) (all ts), records r.1)
 
 pub patch_is : (r : Target × ColumnList) (base : Term × Shape) (changes : List (Term × Shape)) → patch_to r (base ∷ changes) ≡ and_then (patched r base changes) (patching r)
-patch_is r base changes = by (row_named r.0 r.1 base) (changes_of r.0 r.1 changes)
+patch_is r base changes = by (row_typed r.0 r.1 base) (changes_of r.0 r.1 changes)
   where
     by : (b : Result (Term × Shape) ℕ) (ys : Result (List (Term × Shape)) ℕ) →
         lowest (λ (b : Term × Shape) ys. (of (act (deed.Patch r.0)) (all (b.0 ∷ firsts ys)), records r.1)) b ys

@@ -7,7 +7,7 @@ use Rattle.fx_core.specs.declared.functions.Acting.TheVariants as acts
 use Rattle.fx_core.specs.declared.names.Names.{Names}
 use Rattle.fx_core.specs.Term.{Term}
 use Rattle.fx_core.specs.Rules as rules
-use Rattle.fx_typing.specs.Parts.{Part}
+use Rattle.fx_typing.specs.Parts.{JudgedPart}
 use Rattle.fx_typing.specs.Deeds.{set_of, collect_of, clear_of, patch_of, remove_of, navigate_of, reset_of}
 
 -- whether the first part is a name alone
@@ -19,13 +19,13 @@ is_by_name acts.Notify = false
 is_by_name a = true
 
 -- a call of what has a name
-abbrev pub acted_on : Names → Acting → List ℕ → List Part → Result (Term × Shape) ℕ
-acted_on n acts.Set x qs = set_of n x qs
-acted_on n acts.Collect x qs = collect_of deed.Collect n x qs
-acted_on n acts.ClearCollect x qs = collect_of deed.ClearCollect n x qs
-acted_on n acts.Clear x qs = clear_of n x qs
-acted_on n acts.Patch x qs = patch_of n x qs
-acted_on n acts.Remove x qs = remove_of n x qs
-acted_on n acts.Navigate x qs = navigate_of n x qs
-acted_on n acts.Reset x qs = reset_of n x qs
-acted_on n a x qs = Err rules.not_a_variable
+abbrev pub named_call : Names → Acting → List ℕ → List JudgedPart → Result (Term × Shape) ℕ
+named_call n acts.Set x qs = set_of n x qs
+named_call n acts.Collect x qs = collect_of deed.Collect n x qs
+named_call n acts.ClearCollect x qs = collect_of deed.ClearCollect n x qs
+named_call n acts.Clear x qs = clear_of n x qs
+named_call n acts.Patch x qs = patch_of n x qs
+named_call n acts.Remove x qs = remove_of n x qs
+named_call n acts.Navigate x qs = navigate_of n x qs
+named_call n acts.Reset x qs = reset_of n x qs
+named_call n a x qs = Err rules.not_a_variable

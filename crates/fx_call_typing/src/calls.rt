@@ -6,16 +6,16 @@ ghost use Rattle.fx_core.specs.Signatures.{signature_in};
 ghost use Rattle.fx_typing.specs.Breaks.{large_given};
 ghost use Rattle.fx_typing.specs.Builds as builds;
 ghost use Rattle.fx_typing.specs.Calls as calls;
-ghost use Rattle.fx_typing.specs.Deeds.{by_name};
+ghost use Rattle.fx_typing.specs.Deeds.{by_first_name};
 ghost use Rattle.fx_typing.specs.Parts as parts;
 ghost use Rattle.fx_core.specs.Lawful.{IsLawful};
-ghost use Rattle.fx_core.specs.Rules.{number_of};
+ghost use Rattle.fx_core.specs.Rules.{rule_number};
 ghost use Rattle.fx_core.specs.Term.{Term};
 ghost use Rattle.fx_typing.specs.Meaning as meaning;
-ghost use Rattle.fx_typing.specs.Answers.{Answers};
-ghost use Rattle.fx_typing.specs.TypedView.{typed, piece};
-ghost use Rattle.fx_resolve.specs.MeaningView.{place};
-ghost use Rattle.fx_resolve.specs.PartView.{part};
+ghost use Rattle.fx_typing.specs.Answers.{IsAnswerOf};
+ghost use Rattle.fx_typing.specs.TypedView.{typed, piece_view};
+ghost use Rattle.fx_resolve.specs.MeaningView.{place_view};
+ghost use Rattle.fx_resolve.specs.PartView.{judged_part};
 ghost use Rattle.fx_resolve.specs.SettingView.{setting};
 
 use crate::deeds::{act, until_settled};
@@ -34,7 +34,7 @@ use fx_core::sources::Source;
 use fx_core::{Rule, make_core};
 use fx_node_typing::limits::check_limits;
 use fx_node_typing::lists::{table_of, with_of};
-use fx_node_typing::local::{make, make_form};
+use fx_node_typing::node_rule::{make, make_form};
 use fx_resolve::{Part, Place, Stand, pick};
 use fx_types::types::{Columns, Ty};
 use fx_types::values::{Fields, Value};
@@ -45,7 +45,7 @@ use std::alloc::Global;
 
 // The text of a literal, which stands alone behind the other arguments.
 fn literal_in(behind: &[Piece]) -> Option<&Words>
-    ensures { option_map (λ w. w.now) result ≡ calls.literal_in (map piece behind.now) }
+    ensures { option_map (λ w. w.now) result ≡ calls.literal_in (map piece_view behind.now) }
 {
     match behind {
         [Piece::Value(None, value)] => label_of(&value.core),
@@ -65,7 +65,7 @@ fn function_by(fun: Fun, literal: Option<&Words>) -> Option<Fun>
 
 // A function that a literal may change, which is one argument more than its row has.
 fn make_with_literal(alloc: Global, fun: Fun, arguments: Vec<Piece>) -> Result<Typed, Wrong>
-    ensures { Answers typed (calls.made_literal fun (map piece arguments.items)) result }
+    ensures { IsAnswerOf typed (calls.made_literal fun (map piece_view arguments.items)) result }
 {
     let most = row_of(fun).most as usize;
     if arguments.len() <= most {
@@ -107,7 +107,7 @@ fn blank_record(alloc: Global, columns: Columns) -> Result<Typed, Memory>
 // `Defaults`: rows.
 fn defaults_of(alloc: Global, names: &Names, all: Vec<Part>) -> Result<Typed, Wrong>
     requires { IsLawful names.now }
-    ensures { Answers typed (by_name (map part all.entry.items) (calls.defaults_of names.now)) result }
+    ensures { IsAnswerOf typed (by_first_name (map judged_part all.entry.items) (calls.defaults_of names.now)) result }
 {
     let (name, _) = take_name(all)?;
     let rows = find_rows(alloc, names, &name)?;
@@ -116,8 +116,8 @@ fn defaults_of(alloc: Global, names: &Names, all: Vec<Part>) -> Result<Typed, Wr
 
 /// A rule that the place of a node breaks, where the node breaks no lower one.
 pub fn unless(breaks: bool, rule: Rule, made: Result<Typed, Wrong>) -> Result<Typed, Wrong>
-    ensures { (r : Result (Term × Shape) ℕ) → Answers typed r made
-        → Answers typed (parts.unless breaks (number_of rule) r) result }
+    ensures { (r : Result (Term × Shape) ℕ) → IsAnswerOf typed r made
+        → IsAnswerOf typed (parts.unless_rule breaks (rule_number rule) r) result }
 {
     match made {
         Ok(value) => {
@@ -140,7 +140,7 @@ pub fn unless(breaks: bool, rule: Rule, made: Result<Typed, Wrong>) -> Result<Ty
 
 // A call of a function, or the lowest rule that its parts break.
 fn make_or_lowest(alloc: Global, fun: Fun, all: Vec<Part>) -> Result<Typed, Wrong>
-    ensures { Answers typed (calls.made_or_lowest fun (map part all.entry.items)) result }
+    ensures { IsAnswerOf typed (calls.made_or_lowest fun (map judged_part all.entry.items)) result }
 {
     // Both are asked first, since the parts go into the tree.
     let is_taken = taken_name(alloc, fun, all.as_slice())?.is_some();
@@ -156,7 +156,7 @@ fn make_or_lowest(alloc: Global, fun: Fun, all: Vec<Part>) -> Result<Typed, Wron
 // An acting call that gives values to variables of its screen alone.
 fn act_on_screen(alloc: Global, at: &Place, acting: Acting, all: Vec<Part>) -> Result<Typed, Wrong>
     requires { IsLawful at.now.names.now }
-    ensures { Answers typed (calls.acted_on_screen (place at.now) acting (map part all.entry.items)) result }
+    ensures { IsAnswerOf typed (calls.acted_on_screen (place_view at.now) acting (map judged_part all.entry.items)) result }
 {
     let known = gives_variables(at.names, at.screen, acting, all.as_slice());
     let found = act(alloc, at.names, at.screen, acting, all);
@@ -168,7 +168,7 @@ fn act_on_screen(alloc: Global, at: &Place, acting: Acting, all: Vec<Part>) -> R
 // limits.
 fn is_large(at: &Place, acting: Acting, all: &[Part]) -> bool
     requires { IsLawful at.now.names.now }
-    ensures { result ≡ (is_some (large_given at.now.names.now at.now.screen acting (map part all.now)) && at.now.settled) }
+    ensures { result ≡ (is_some (large_given at.now.names.now at.now.screen acting (map judged_part all.now)) && at.now.settled) }
 {
     first_large_type(at.names, at.screen, acting, all).is_some() && at.settled
 }
@@ -177,7 +177,7 @@ fn is_large(at: &Place, acting: Acting, all: &[Part]) -> bool
 // type passes the limits; but what is no variable is none.
 fn act_at(alloc: Global, at: &Place, acting: Acting, all: Vec<Part>) -> Result<Typed, Wrong>
     requires { IsLawful at.now.names.now }
-    ensures { Answers typed (calls.acted_by (place at.now) acting (map part all.entry.items)) result }
+    ensures { IsAnswerOf typed (calls.acted_by (place_view at.now) acting (map judged_part all.entry.items)) result }
 {
     let large = is_large(at, acting, all.as_slice());
     let found = act_on_screen(alloc, at, acting, all);
@@ -194,7 +194,7 @@ fn act_or_lowest(
 ) -> Result<Typed, Wrong>
     requires { IsLawful at.now.names.now }
     ensures { (ss : List meaning.Scope)
-        → Answers typed (calls.acted_or_lowest (place at.now) (setting ss stand) acting (map part all.entry.items)) result }
+        → IsAnswerOf typed (calls.acted_or_lowest (place_view at.now) (setting ss stand) acting (map judged_part all.entry.items)) result }
 {
     let fits = could_act(alloc, acting, all.as_slice())?;
     let found = act_at(alloc, at, acting, all);
@@ -212,7 +212,7 @@ pub fn call_by_shape(
 ) -> Result<Typed, Wrong>
     requires { IsLawful at.now.names.now }
     ensures { (ss : List meaning.Scope)
-        → Answers typed (calls.called_by (place at.now) (setting ss stand) shape (map part all.entry.items)) result }
+        → IsAnswerOf typed (calls.called_by (place_view at.now) (setting ss stand) shape (map judged_part all.entry.items)) result }
 {
     match shape {
         SigShape::One(fun) => make_or_lowest(alloc, fun, all),
@@ -242,8 +242,8 @@ fn call_within_limits(
     all: Vec<Part>,
 ) -> Result<Typed, Wrong>
     requires { IsLawful at.now.names.now }
-    ensures { (ss : List meaning.Scope) → Answers typed (builds.bounded
-        (calls.called_by (place at.now) (setting ss stand) shape (map part all.entry.items))) result }
+    ensures { (ss : List meaning.Scope) → IsAnswerOf typed (builds.bounded
+        (calls.called_by (place_view at.now) (setting ss stand) shape (map judged_part all.entry.items))) result }
 {
     let made = call_by_shape(alloc, at, stand, shape, all)?;
     check_limits(made)
@@ -259,7 +259,7 @@ fn call_by_signature(
 ) -> Result<Typed, Wrong>
     requires { IsLawful at.now.names.now }
     ensures { (ss : List meaning.Scope)
-        → Answers typed (calls.called_with (place at.now) (setting ss stand) signature (map part all.entry.items)) result }
+        → IsAnswerOf typed (calls.called_with (place_view at.now) (setting ss stand) signature (map judged_part all.entry.items)) result }
 {
     let Some(signature) = signature else {
         return Err(Wrong::Refused(Rule::NoFunction));
@@ -287,7 +287,7 @@ pub fn call(
 ) -> Result<Typed, Wrong>
     requires { IsLawful at.now.names.now }
     ensures { (ss : List meaning.Scope)
-        → Answers typed (calls.called (place at.now) (setting ss stand) name.now (map part all.entry.items)) result }
+        → IsAnswerOf typed (calls.called (place_view at.now) (setting ss stand) name.now (map judged_part all.entry.items)) result }
 {
     let signature = signature_of(at.names, name);
     call_by_signature(alloc, at, stand, signature, all)

@@ -3,21 +3,21 @@ ghost use Rattle.std.specs.Prelude.{◌≡◌, ◌&&◌, IfOk, Ok, Result, codes
 ghost use Rattle.fx_types.specs.TypeView.{shape};
 ghost use Rattle.fx_types.specs.Types.{Shape, column, column_list, no_columns, numbers, records};
 ghost use Rattle.fx_typing.specs.Deeds as deeds;
-ghost use Rattle.fx_core.specs.Rules.{number_of};
+ghost use Rattle.fx_core.specs.Rules.{rule_number};
 ghost use Rattle.fx_core.specs.Term.{Term};
 ghost use Rattle.fx_core.specs.ColumnLists.{field_in};
 ghost use Rattle.fx_typing.specs.Local as local;
 ghost use Rattle.fx_typing.specs.Ways.{way};
-ghost use Rattle.fx_typing.specs.Answers.{Answers};
+ghost use Rattle.fx_typing.specs.Answers.{IsAnswerOf};
 ghost use Rattle.fx_typing.specs.TypedView.{typed};
 ghost use Rattle.fx_call_typing.specs.Changes.{unless_broken};
 
 use fx_base::Memory;
 use fx_core::deeds::Target;
 use fx_core::{Core, Rule, make_core};
+use fx_node_typing::first_break::keep;
 use fx_node_typing::given::{alone, joins_to};
 use fx_node_typing::lists::come_to;
-use fx_node_typing::lowest::keep;
 use fx_types::types::{Columns, Ty};
 use fx_types::words::Words;
 use fx_typing::columns::{field_in, without};
@@ -49,7 +49,7 @@ fn fields_join(alloc: Global, columns: &Columns, fields: &Columns) -> Result<boo
 
 // The rule that fields break which are not some of the columns: `UnknownColumn` or `WrongType`.
 fn misfit(alloc: Global, columns: &Columns, fields: &Columns) -> Result<Rule, Memory>
-    ensures { IfOk result (λ r. number_of r ≡ deeds.misfit (column_list columns.now) (column_list fields.now)) }
+    ensures { IfOk result (λ r. rule_number r ≡ deeds.misfit (column_list columns.now) (column_list fields.now)) }
 {
     if fields_join(alloc, columns, fields)? {
         return Ok(Rule::UnknownColumn);
@@ -112,7 +112,7 @@ fn break_by_id(alloc: Global, fields: &Columns) -> Result<Option<Rule>, Memory>
 
 // A record with a field `ID`, which is a number.
 fn by_id(alloc: Global, core: Core, fields: Columns) -> Result<Typed, Wrong>
-    ensures { Answers typed (deeds.by_id core (column_list fields) (field_in (codes "ID") (column_list fields))) result }
+    ensures { IsAnswerOf typed (deeds.by_id core (column_list fields) (field_in (codes "ID") (column_list fields))) result }
 {
     let broken = break_by_id(alloc, &fields)?;
     match broken {
@@ -137,7 +137,7 @@ fn blank_of(alloc: Global, core: Core, columns: Columns) -> Result<Typed, Memory
 
 // A record as one of these columns.
 fn come_whole(alloc: Global, columns: &Columns, core: Core, fields: Columns) -> Result<Typed, Wrong>
-    ensures { Answers typed (local.by_way (way (records (column_list fields)) (records (column_list columns.now)))
+    ensures { IsAnswerOf typed (local.by_way (way (records (column_list fields)) (records (column_list columns.now)))
         core (records (column_list columns.now))) result }
 {
     let whole = columns.copy(alloc)?;
@@ -150,7 +150,7 @@ fn come_whole(alloc: Global, columns: &Columns, core: Core, fields: Columns) -> 
 
 // A record of some of the columns, as one of all.
 fn whole_row(alloc: Global, columns: &Columns, core: Core, fields: Columns) -> Result<Typed, Wrong>
-    ensures { Answers typed (deeds.when_columns (column_list columns.now) (column_list fields)
+    ensures { IsAnswerOf typed (deeds.when_columns (column_list columns.now) (column_list fields)
         (local.by_way (way (records (column_list fields)) (records (column_list columns.now))) core (records (column_list columns.now)))) result }
 {
     let broken = break_by_fields(alloc, columns, &fields)?;
@@ -163,7 +163,7 @@ fn whole_row(alloc: Global, columns: &Columns, core: Core, fields: Columns) -> R
 /// A row that is named for a change: in a table by its `ID`, in a collection by all that it has. One
 /// of type Blank is a blank record. The rule is `WrongType` or `UnknownColumn`.
 pub fn identify_row(alloc: Global, rows: &Changing, named: Typed) -> Result<Typed, Wrong>
-    ensures { Answers typed (deeds.row_named rows.now.target (column_list rows.now.columns) (typed named)) result }
+    ensures { IsAnswerOf typed (deeds.row_typed rows.now.target (column_list rows.now.columns) (typed named)) result }
 {
     let Typed { core, ty } = named;
     match rows.target {
@@ -182,7 +182,7 @@ pub fn identify_row(alloc: Global, rows: &Changing, named: Typed) -> Result<Type
 
 /// Rows that are named for a change, in turn, or the lowest rule that one of them breaks.
 pub fn identify_rows(alloc: Global, rows: &Changing, named: Vec<Typed>) -> Result<Vec<Typed>, Wrong>
-    ensures { Answers (λ xs. map typed xs.items)
+    ensures { IsAnswerOf (λ xs. map typed xs.items)
         (deeds.rows_named_by rows.now.target (column_list rows.now.columns) (map typed named.items)) result }
 {
     let mut found = Ok(Vec::new(alloc));
@@ -253,7 +253,7 @@ fn break_by_change(alloc: Global, rows: &Changing, fields: &Columns) -> Result<O
 
 // A record of some of the columns, as a change.
 fn change_by(alloc: Global, rows: &Changing, core: Core, fields: Columns) -> Result<Typed, Wrong>
-    ensures { Answers typed (deeds.change_of rows.now.target (column_list rows.now.columns) (core, records (column_list fields))) result }
+    ensures { IsAnswerOf typed (deeds.change_of rows.now.target (column_list rows.now.columns) (core, records (column_list fields))) result }
 {
     let broken = break_by_change(alloc, rows, &fields)?;
     match broken {
@@ -274,7 +274,7 @@ fn no_change(alloc: Global, core: Core) -> Result<Typed, Memory>
 /// What changes in a row: a record of some of the columns, `ID` aside in a table, as a table of one
 /// row. One of type Blank has no fields. The rule is `WrongType` or `UnknownColumn`.
 pub fn change_of(alloc: Global, rows: &Changing, change: Typed) -> Result<Typed, Wrong>
-    ensures { Answers typed (deeds.change_of rows.now.target (column_list rows.now.columns) (typed change)) result }
+    ensures { IsAnswerOf typed (deeds.change_of rows.now.target (column_list rows.now.columns) (typed change)) result }
 {
     let Typed { core, ty } = change;
     match ty {
@@ -286,7 +286,7 @@ pub fn change_of(alloc: Global, rows: &Changing, change: Typed) -> Result<Typed,
 
 /// What changes in a row, in turn, or the lowest rule that one of the changes breaks.
 pub fn changes_of(alloc: Global, rows: &Changing, changes: Vec<Typed>) -> Result<Vec<Typed>, Wrong>
-    ensures { Answers (λ xs. map typed xs.items)
+    ensures { IsAnswerOf (λ xs. map typed xs.items)
         (deeds.changes_of rows.now.target (column_list rows.now.columns) (map typed changes.items)) result }
 {
     let mut found = Ok(Vec::new(alloc));

@@ -3,9 +3,9 @@ ghost use Rattle.std.specs.Prelude.{◌≡◌, map, if◌then◌else◌};
 ghost use Rattle.fx_core.specs.declared.deeds.Deed.TheVariants as deed;
 ghost use Rattle.fx_typing.specs.Deeds as deeds;
 ghost use Rattle.fx_core.specs.Lawful.{IsLawful};
-ghost use Rattle.fx_typing.specs.Answers.{Answers};
+ghost use Rattle.fx_typing.specs.Answers.{IsAnswerOf};
 ghost use Rattle.fx_typing.specs.TypedView.{typed};
-ghost use Rattle.fx_resolve.specs.PartView.{part};
+ghost use Rattle.fx_resolve.specs.PartView.{judged_part};
 
 use crate::gathering::{collect_deed, rows_for};
 use crate::values::values;
@@ -30,7 +30,7 @@ fn collect_to(
     collection: &Collection,
     values: Vec<Typed>,
 ) -> Result<Typed, Wrong>
-    ensures { Answers typed (deeds.collect_to (if clears then deed.ClearCollect else deed.Collect)
+    ensures { IsAnswerOf typed (deeds.collect_to (if clears then deed.ClearCollect else deed.Collect)
         (number, collection.now) (map typed values.items)) result }
 {
     if values.is_empty() {
@@ -49,8 +49,8 @@ pub fn collect_of(
     parts: Vec<Part>,
 ) -> Result<Typed, Wrong>
     requires { IsLawful names.now }
-    ensures { Answers typed (deeds.collect_of (if clears then deed.ClearCollect else deed.Collect)
-        names.now name.now (map part parts.entry.items)) result }
+    ensures { IsAnswerOf typed (deeds.collect_of (if clears then deed.ClearCollect else deed.Collect)
+        names.now name.now (map judged_part parts.entry.items)) result }
 {
     let values = values(alloc, parts)?;
     match find_collection(names, name) {
@@ -67,7 +67,7 @@ pub fn clear_of(
     parts: Vec<Part>,
 ) -> Result<Typed, Wrong>
     requires { IsLawful names.now }
-    ensures { Answers typed (deeds.clear_of names.now name.now (map part parts.entry.items)) result }
+    ensures { IsAnswerOf typed (deeds.clear_of names.now name.now (map judged_part parts.entry.items)) result }
 {
     let Some((number, collection)) = find_collection(names, name) else {
         return Err(Wrong::Refused(Rule::NotAVariable));

@@ -4,10 +4,10 @@ ghost use Rattle.fx_types.specs.Types.{Shape};
 ghost use Rattle.fx_typing.specs.Deeds as deeds;
 ghost use Rattle.fx_core.specs.Lawful.{IsLawful};
 ghost use Rattle.fx_core.specs.Term.{Term};
-ghost use Rattle.fx_typing.specs.Answers.{Answers};
+ghost use Rattle.fx_typing.specs.Answers.{IsAnswerOf};
 ghost use Rattle.fx_typing.specs.TypedView.{typed};
-ghost use Rattle.fx_resolve.specs.PartView.{part};
-ghost use Rattle.fx_call_typing.specs.Acts.{is_by_name, acted_on};
+ghost use Rattle.fx_resolve.specs.PartView.{judged_part};
+ghost use Rattle.fx_call_typing.specs.Acts.{is_by_name, named_call};
 
 use crate::collections::{clear_of, collect_of};
 use crate::filtering::{remove_if, update_if};
@@ -19,7 +19,7 @@ use fx_core::deeds::Deed;
 use fx_core::functions::Acting;
 use fx_core::names::Names;
 use fx_core::{CoreArgs, Rule};
-use fx_node_typing::few::one;
+use fx_node_typing::arity::one;
 use fx_node_typing::given::{alone, do_nothing, perform};
 use fx_node_typing::lists::come_to;
 use fx_resolve::Part;
@@ -33,7 +33,7 @@ use std::alloc::Global;
 // `Navigate`: a screen.
 fn navigate_of(alloc: Global, names: &Names, name: &Words, parts: Vec<Part>) -> Result<Typed, Wrong>
     requires { IsLawful names.now }
-    ensures { Answers typed (deeds.navigate_of names.now name.now (map part parts.entry.items)) result }
+    ensures { IsAnswerOf typed (deeds.navigate_of names.now name.now (map judged_part parts.entry.items)) result }
 {
     let Some((number, _)) = find_screen(names, name) else {
         return Err(Wrong::Refused(Rule::NotAVariable));
@@ -43,7 +43,7 @@ fn navigate_of(alloc: Global, names: &Names, name: &Words, parts: Vec<Part>) -> 
 
 // `Notify`: a text.
 fn notify_of(alloc: Global, values: Vec<Typed>) -> Result<Typed, Wrong>
-    ensures { Answers typed (deeds.notify_of (map typed values.items)) result }
+    ensures { IsAnswerOf typed (deeds.notify_of (map typed values.items)) result }
 {
     let Some(value) = one(values) else {
         return Err(Wrong::Refused(Rule::WrongCount));
@@ -55,7 +55,7 @@ fn notify_of(alloc: Global, values: Vec<Typed>) -> Result<Typed, Wrong>
 // `Reset`: a control that takes input.
 fn reset_of(alloc: Global, names: &Names, name: &Words, parts: Vec<Part>) -> Result<Typed, Wrong>
     requires { IsLawful names.now }
-    ensures { Answers typed (deeds.reset_of names.now name.now (map part parts.entry.items)) result }
+    ensures { IsAnswerOf typed (deeds.reset_of names.now name.now (map judged_part parts.entry.items)) result }
 {
     let Some((number, control)) = find_control(names, name) else {
         return Err(Wrong::Refused(Rule::NotAVariable));
@@ -85,7 +85,7 @@ fn act_on(
     rest: Vec<Part>,
 ) -> Result<Typed, Wrong>
     requires { IsLawful names.now }
-    ensures { Answers typed (acted_on names.now acting name.now (map part rest.entry.items)) result }
+    ensures { IsAnswerOf typed (named_call names.now acting name.now (map judged_part rest.entry.items)) result }
 {
     match acting {
         Acting::Set => set_of(alloc, names, name, rest),
@@ -110,7 +110,7 @@ fn act_plainly(
 ) -> Result<Typed, Wrong>
     requires lawful { IsLawful names.now }
     requires plain { is_by_name acting ≡ false }
-    ensures { Answers typed (deeds.acted names.now screen acting (map part parts.entry.items)) result }
+    ensures { IsAnswerOf typed (deeds.acted names.now screen acting (map judged_part parts.entry.items)) result }
 {
     match acting {
         Acting::UpdateContext => update_of(alloc, names, screen, parts),
@@ -130,7 +130,7 @@ pub fn act(
     parts: Vec<Part>,
 ) -> Result<Typed, Wrong>
     requires { IsLawful names.now }
-    ensures { Answers typed (deeds.acted names.now screen acting (map part parts.entry.items)) result }
+    ensures { IsAnswerOf typed (deeds.acted names.now screen acting (map judged_part parts.entry.items)) result }
 {
     if !is_by_name(acting) {
         return act_plainly(alloc, names, screen, acting, parts);
@@ -146,8 +146,8 @@ pub fn until_settled(
     settled: bool,
     made: Result<Typed, Wrong>,
 ) -> Result<Typed, Wrong>
-    ensures { (r : Result (Term × Shape) ℕ) → Answers typed r made
-        → Answers typed (deeds.until_settled settled r) result }
+    ensures { (r : Result (Term × Shape) ℕ) → IsAnswerOf typed r made
+        → IsAnswerOf typed (deeds.until_settled settled r) result }
 {
     match made {
         Ok(value) => Ok(value),

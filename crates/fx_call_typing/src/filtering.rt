@@ -7,9 +7,9 @@ ghost use Rattle.fx_typing.specs.Parts as parts;
 ghost use Rattle.fx_core.specs.Lawful.{IsLawful};
 ghost use Rattle.fx_core.specs.Term as term;
 ghost use Rattle.fx_typing.specs.WellTyped.{target_source};
-ghost use Rattle.fx_typing.specs.Answers.{Answers};
+ghost use Rattle.fx_typing.specs.Answers.{IsAnswerOf};
 ghost use Rattle.fx_typing.specs.TypedView.{typed};
-ghost use Rattle.fx_resolve.specs.PartView.{part};
+ghost use Rattle.fx_resolve.specs.PartView.{judged_part};
 ghost use Rattle.fx_call_typing.specs.Changes.{changing_view, removed_from};
 
 use crate::changing::{Changing, change_of};
@@ -21,9 +21,9 @@ use fx_core::functions::Fun;
 use fx_core::names::Names;
 use fx_core::sources::Source;
 use fx_core::{Rule, make_core};
-use fx_node_typing::few::{first, one};
+use fx_node_typing::arity::{first, one};
 use fx_node_typing::given::{alone, perform};
-use fx_node_typing::local::make;
+use fx_node_typing::node_rule::make;
 use fx_resolve::Part;
 use fx_types::types::Ty;
 use fx_types::words::Words;
@@ -58,7 +58,7 @@ fn filter_of(
     alias: Option<Words>,
     conditions: Vec<Part>,
 ) -> Result<Typed, Wrong>
-    ensures { Answers typed (deeds.filter_of (changing_view rows.now) alias (map part conditions.entry.items)) result }
+    ensures { IsAnswerOf typed (deeds.filter_of (changing_view rows.now) alias (map judged_part conditions.entry.items)) result }
 {
     let table = all_rows(alloc, rows)?;
     let pieces = pieces_behind(alloc, Piece::Value(alias, table), conditions)?;
@@ -72,7 +72,7 @@ fn remove_from(
     alias: Option<Words>,
     conditions: Vec<Part>,
 ) -> Result<Typed, Wrong>
-    ensures { Answers typed (removed_from (changing_view rows.now) alias (map part conditions.entry.items)) result }
+    ensures { IsAnswerOf typed (removed_from (changing_view rows.now) alias (map judged_part conditions.entry.items)) result }
 {
     let filtered = filter_of(alloc, rows, alias, conditions)?;
     let cores = alone(alloc, filtered.core)?;
@@ -88,8 +88,8 @@ fn remove_named(
     conditions: Vec<Part>,
 ) -> Result<Typed, Wrong>
     requires { IsLawful names.now }
-    ensures { Answers typed
-        (deeds.remove_if names.now (parts.target alias name.now ∷ map part conditions.entry.items)) result }
+    ensures { IsAnswerOf typed
+        (deeds.remove_if names.now (parts.target alias name.now ∷ map judged_part conditions.entry.items)) result }
 {
     let rows = find_rows(alloc, names, name)?;
     remove_from(alloc, &rows, alias, conditions)
@@ -103,8 +103,8 @@ fn remove_on(
     conditions: Vec<Part>,
 ) -> Result<Typed, Wrong>
     requires { IsLawful names.now }
-    ensures { Answers typed
-        (deeds.remove_if names.now (part target.entry ∷ map part conditions.entry.items)) result }
+    ensures { IsAnswerOf typed
+        (deeds.remove_if names.now (judged_part target.entry ∷ map judged_part conditions.entry.items)) result }
 {
     match target {
         Part::Target(alias, name) => remove_named(alloc, names, alias, &name, conditions),
@@ -115,7 +115,7 @@ fn remove_on(
 /// `RemoveIf`: rows, which may have a name, and conditions.
 pub fn remove_if(alloc: Global, names: &Names, parts: Vec<Part>) -> Result<Typed, Wrong>
     requires { IsLawful names.now }
-    ensures { Answers typed (deeds.remove_if names.now (map part parts.entry.items)) result }
+    ensures { IsAnswerOf typed (deeds.remove_if names.now (map judged_part parts.entry.items)) result }
 {
     match first(parts) {
         Some((target, conditions)) => remove_on(alloc, names, target, conditions),
@@ -125,7 +125,7 @@ pub fn remove_if(alloc: Global, names: &Names, parts: Vec<Part>) -> Result<Typed
 
 // A part alone.
 fn only(alloc: Global, one: Part) -> Result<Vec<Part>, Memory>
-    ensures { IfOk result (λ ps. map part ps.items ≡ part one.entry ∷ []) }
+    ensures { IfOk result (λ ps. map judged_part ps.items ≡ judged_part one.entry ∷ []) }
 {
     let mut all = Vec::new(alloc);
     all.push(one)?;
@@ -140,8 +140,8 @@ fn update_by(
     condition: Part,
     change: Typed,
 ) -> Result<Typed, Wrong>
-    ensures { Answers typed
-        (deeds.update_to (changing_view rows.now) alias (part condition.entry) (typed change ∷ [])) result }
+    ensures { IsAnswerOf typed
+        (deeds.update_to (changing_view rows.now) alias (judged_part condition.entry) (typed change ∷ [])) result }
 {
     let conditions = only(alloc, condition)?;
     let filtered = filter_of(alloc, rows, alias, conditions)?;
@@ -159,8 +159,8 @@ fn update_to(
     condition: Part,
     changes: Vec<Typed>,
 ) -> Result<Typed, Wrong>
-    ensures { Answers typed
-        (deeds.update_to (changing_view rows.now) alias (part condition.entry) (map typed changes.items)) result }
+    ensures { IsAnswerOf typed
+        (deeds.update_to (changing_view rows.now) alias (judged_part condition.entry) (map typed changes.items)) result }
 {
     match one(changes) {
         Some(change) => update_by(alloc, rows, alias, condition, change),
@@ -178,8 +178,8 @@ fn update_named(
     changes: Vec<Part>,
 ) -> Result<Typed, Wrong>
     requires { IsLawful names.now }
-    ensures { Answers typed (deeds.update_if names.now
-        (parts.target alias name.now ∷ part condition.entry ∷ map part changes.entry.items)) result }
+    ensures { IsAnswerOf typed (deeds.update_if names.now
+        (parts.target alias name.now ∷ judged_part condition.entry ∷ map judged_part changes.entry.items)) result }
 {
     let changes = values(alloc, changes)?;
     let rows = find_rows(alloc, names, name)?;
@@ -195,8 +195,8 @@ fn update_on(
     changes: Vec<Part>,
 ) -> Result<Typed, Wrong>
     requires { IsLawful names.now }
-    ensures { Answers typed (deeds.update_if names.now
-        (part target.entry ∷ part condition.entry ∷ map part changes.entry.items)) result }
+    ensures { IsAnswerOf typed (deeds.update_if names.now
+        (judged_part target.entry ∷ judged_part condition.entry ∷ map judged_part changes.entry.items)) result }
 {
     match target {
         Part::Target(alias, name) => update_named(alloc, names, alias, &name, condition, changes),
@@ -207,7 +207,7 @@ fn update_on(
 /// `UpdateIf`: rows, which may have a name, a condition, and what changes.
 pub fn update_if(alloc: Global, names: &Names, parts: Vec<Part>) -> Result<Typed, Wrong>
     requires { IsLawful names.now }
-    ensures { Answers typed (deeds.update_if names.now (map part parts.entry.items)) result }
+    ensures { IsAnswerOf typed (deeds.update_if names.now (map judged_part parts.entry.items)) result }
 {
     let Some((target, rest)) = first(parts) else {
         return Err(Wrong::Refused(Rule::NotAVariable));

@@ -10,7 +10,7 @@ ghost use Rattle.fx_core.specs.Lawful.{IsLawful};
 ghost use Rattle.fx_typing.specs.Columns.{is_told_or_missing};
 ghost use Rattle.fx_core.specs.ColumnLists.{field_in};
 ghost use Rattle.fx_typing.specs.Ways.{is_open, way};
-ghost use Rattle.fx_resolve.specs.PartView.{part};
+ghost use Rattle.fx_resolve.specs.PartView.{judged_part};
 
 use fx_base::Memory;
 use fx_core::functions::{Acting, Fun};
@@ -54,7 +54,7 @@ fn has_no_text(alloc: Global, columns: &Columns) -> Result<bool, Memory>
 
 // Whether a part is a record with a `Message` that is no text.
 fn tells_no_text(alloc: Global, one: &Part) -> Result<bool, Memory>
-    ensures { IfOk result (λ b. b ≡ breaks.mistells fun.Error (part one.now ∷ [])) }
+    ensures { IfOk result (λ b. b ≡ breaks.mistells fun.Error (judged_part one.now ∷ [])) }
 {
     match one {
         Part::Piece(Piece::Value(_, value)) => match &value.ty {
@@ -67,7 +67,7 @@ fn tells_no_text(alloc: Global, one: &Part) -> Result<bool, Memory>
 
 /// Whether an error is told with a `Message` that is no text.
 pub fn mistells(alloc: Global, fun: Fun, all: &[Part]) -> Result<bool, Memory>
-    ensures { IfOk result (λ b. b ≡ breaks.mistells fun (map part all.now)) }
+    ensures { IfOk result (λ b. b ≡ breaks.mistells fun (map judged_part all.now)) }
 {
     match (fun, all) {
         (Fun::Error, [one]) => tells_no_text(alloc, one),
@@ -77,7 +77,7 @@ pub fn mistells(alloc: Global, fun: Fun, all: &[Part]) -> Result<bool, Memory>
 
 // Whether a part can be a row or a change.
 fn could_be_row(one: &Part) -> bool
-    ensures { result ≡ breaks.could_be_row (part one.now) }
+    ensures { result ≡ breaks.could_be_row (judged_part one.now) }
 {
     match one {
         Part::Piece(Piece::Value(_, value)) => matches!(value.ty, Ty::Rec(_) | Ty::Blank),
@@ -87,7 +87,7 @@ fn could_be_row(one: &Part) -> bool
 
 // Whether all parts can be rows or changes.
 fn could_be_rows(all: &[Part]) -> bool
-    ensures { result ≡ breaks.all_could breaks.could_be_row (map part all.now) }
+    ensures { result ≡ breaks.all_could breaks.could_be_row (map judged_part all.now) }
 {
     for one in all {
         if !could_be_row(one) {
@@ -99,7 +99,7 @@ fn could_be_rows(all: &[Part]) -> bool
 
 // Whether a part can be a condition.
 fn could_be_condition(alloc: Global, one: &Part) -> Result<bool, Memory>
-    ensures { IfOk result (λ b. b ≡ breaks.could_be_condition (part one.now)) }
+    ensures { IfOk result (λ b. b ≡ breaks.could_be_condition (judged_part one.now)) }
 {
     match one {
         Part::Piece(Piece::Value(_, value)) => is_open(alloc, &value.ty, &Ty::Boolean),
@@ -109,7 +109,7 @@ fn could_be_condition(alloc: Global, one: &Part) -> Result<bool, Memory>
 
 // Whether all parts can be conditions.
 fn could_be_conditions(alloc: Global, all: &[Part]) -> Result<bool, Memory>
-    ensures { IfOk result (λ b. b ≡ breaks.all_could breaks.could_be_condition (map part all.now)) }
+    ensures { IfOk result (λ b. b ≡ breaks.all_could breaks.could_be_condition (map judged_part all.now)) }
 {
     for one in all {
         if !could_be_condition(alloc, one)? {
@@ -121,7 +121,7 @@ fn could_be_conditions(alloc: Global, all: &[Part]) -> Result<bool, Memory>
 
 // Whether parts can be a condition and changes.
 fn could_update(alloc: Global, all: &[Part]) -> Result<bool, Memory>
-    ensures { (q : parts.Part) → IfOk result (λ b. b ≡ breaks.could_act acts.UpdateIf (q ∷ map part all.now)) }
+    ensures { (q : parts.JudgedPart) → IfOk result (λ b. b ≡ breaks.could_act acts.UpdateIf (q ∷ map judged_part all.now)) }
 {
     let Some((condition, changes)) = all.split_first() else {
         return Ok(true);
@@ -131,7 +131,7 @@ fn could_update(alloc: Global, all: &[Part]) -> Result<bool, Memory>
 
 /// Whether the parts of an acting call can be rows, conditions and changes, whatever it acts on.
 pub fn could_act(alloc: Global, acting: Acting, all: &[Part]) -> Result<bool, Memory>
-    ensures { IfOk result (λ b. b ≡ breaks.could_act acting (map part all.now)) }
+    ensures { IfOk result (λ b. b ≡ breaks.could_act acting (map judged_part all.now)) }
 {
     let Some((_, others)) = all.split_first() else {
         return Ok(true);
@@ -160,7 +160,7 @@ fn all_on_screen(names: &Names, screen: Option<u32>, variables: &[Words]) -> boo
 /// Whether an acting call gives values of a screen's variables to what is a variable of this screen.
 pub fn gives_variables(names: &Names, screen: Option<u32>, acting: Acting, all: &[Part]) -> bool
     requires { IsLawful names.now }
-    ensures { result ≡ breaks.gives_variables names.now screen acting (map part all.now) }
+    ensures { result ≡ breaks.gives_variables names.now screen acting (map judged_part all.now) }
 {
     match (acting, all.first()) {
         (Acting::UpdateContext, Some(Part::Assigned(variables, _))) => {

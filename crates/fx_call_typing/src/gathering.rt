@@ -3,7 +3,7 @@ ghost use Rattle.std.specs.Prelude.{◌≡◌, IfOk, map, if◌then◌else◌};
 ghost use Rattle.fx_types.specs.TypeView.{shape};
 ghost use Rattle.fx_core.specs.declared.deeds.Deed.TheVariants as deed;
 ghost use Rattle.fx_typing.specs.Deeds as deeds;
-ghost use Rattle.fx_typing.specs.Answers.{Answers};
+ghost use Rattle.fx_typing.specs.Answers.{IsAnswerOf};
 ghost use Rattle.fx_typing.specs.TypedView.{typed};
 
 use fx_base::Memory;
@@ -18,7 +18,7 @@ use std::alloc::Global;
 
 // A collected value as rows: a table's own, and else one row.
 fn rows_of(alloc: Global, value: Typed) -> Result<Typed, Memory>
-    ensures { IfOk result (λ t. typed t ≡ deeds.rows_of (typed value)) }
+    ensures { IfOk result (λ t. typed t ≡ deeds.rows_collected (typed value)) }
 {
     let Typed { core, ty } = value;
     match ty {
@@ -38,7 +38,7 @@ fn rows_of(alloc: Global, value: Typed) -> Result<Typed, Memory>
 
 // A collected value as rows that are given to a collection of this type.
 fn give_rows(alloc: Global, ty: &Ty, value: Typed) -> Result<Typed, Wrong>
-    ensures { Answers typed (deeds.given (shape ty.now) (deeds.rows_of (typed value))) result }
+    ensures { IsAnswerOf typed (deeds.given_variable (shape ty.now) (deeds.rows_collected (typed value))) result }
 {
     let rows = rows_of(alloc, value)?;
     give(alloc, ty, rows)
@@ -47,7 +47,7 @@ fn give_rows(alloc: Global, ty: &Ty, value: Typed) -> Result<Typed, Wrong>
 /// Collected values as rows that are given to a collection of this type, or the rule that the first
 /// wrong one breaks.
 pub fn rows_for(alloc: Global, ty: &Ty, collected: Vec<Typed>) -> Result<Vec<Typed>, Wrong>
-    ensures { Answers (λ rs. map typed rs.items) (deeds.rows_given (shape ty.now) (map typed collected.items)) result }
+    ensures { IsAnswerOf (λ rs. map typed rs.items) (deeds.rows_given (shape ty.now) (map typed collected.items)) result }
 {
     let mut rows = Vec::new(alloc);
     for value in collected {

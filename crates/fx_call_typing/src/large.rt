@@ -3,7 +3,7 @@ ghost use Rattle.std.specs.Prelude.{◌≡◌, map, option_map};
 ghost use Rattle.fx_types.specs.TypeView.{shape};
 ghost use Rattle.fx_typing.specs.Breaks as breaks;
 ghost use Rattle.fx_core.specs.Lawful.{IsLawful};
-ghost use Rattle.fx_resolve.specs.PartView.{part};
+ghost use Rattle.fx_resolve.specs.PartView.{judged_part};
 
 use fx_core::functions::Acting;
 use fx_core::names::{Collection, Names, Variable};
@@ -69,7 +69,7 @@ pub fn first_large_type<'n>(
 ) -> Option<&'n Ty>
     requires { IsLawful names.now }
     ensures { option_map (λ t. shape t.now) result
-        ≡ breaks.large_given names.now screen acting (map part all.now) }
+        ≡ breaks.large_given names.now screen acting (map judged_part all.now) }
 {
     match (acting, all.first()) {
         (Acting::Set, Some(Part::Target(_, name))) => large_variable(global_variable(names, name)),

@@ -2,9 +2,9 @@
 ghost use Rattle.std.specs.Prelude.{◌≡◌, map};
 ghost use Rattle.fx_typing.specs.Deeds as deeds;
 ghost use Rattle.fx_core.specs.Lawful.{IsLawful};
-ghost use Rattle.fx_typing.specs.Answers.{Answers};
+ghost use Rattle.fx_typing.specs.Answers.{IsAnswerOf};
 ghost use Rattle.fx_typing.specs.TypedView.{typed};
-ghost use Rattle.fx_resolve.specs.PartView.{part};
+ghost use Rattle.fx_resolve.specs.PartView.{judged_part};
 ghost use Rattle.fx_call_typing.specs.Changes.{changing_view, rows_to_change};
 
 use crate::changing::Changing;
@@ -24,7 +24,7 @@ use std::alloc::Global;
 /// collection is given no rows.
 pub fn find_rows(alloc: Global, names: &Names, name: &Words) -> Result<Changing, Wrong>
     requires { IsLawful names.now }
-    ensures { Answers changing_view (rows_to_change names.now name.now) result }
+    ensures { IsAnswerOf changing_view (rows_to_change names.now name.now) result }
 {
     let Some(RowsNamed { target, ty }) = find_target(alloc, names, name)? else {
         return Err(Wrong::Refused(Rule::NotAVariable));
@@ -43,7 +43,7 @@ pub fn patch_of(
     parts: Vec<Part>,
 ) -> Result<Typed, Wrong>
     requires { IsLawful names.now }
-    ensures { Answers typed (deeds.patch_of names.now name.now (map part parts.entry.items)) result }
+    ensures { IsAnswerOf typed (deeds.patch_of names.now name.now (map judged_part parts.entry.items)) result }
 {
     let values = values(alloc, parts)?;
     let rows = find_rows(alloc, names, name)?;
@@ -58,7 +58,7 @@ pub fn remove_of(
     parts: Vec<Part>,
 ) -> Result<Typed, Wrong>
     requires { IsLawful names.now }
-    ensures { Answers typed (deeds.remove_of names.now name.now (map part parts.entry.items)) result }
+    ensures { IsAnswerOf typed (deeds.remove_of names.now name.now (map judged_part parts.entry.items)) result }
 {
     let values = values(alloc, parts)?;
     let rows = find_rows(alloc, names, name)?;

@@ -3,7 +3,7 @@ ghost use Rattle.std.specs.Prelude.{◌≡◌, IfOk, None, bytes_eq, if◌then�
 ghost use Rattle.fx_types.specs.Types.{column_list};
 ghost use Rattle.fx_typing.specs.Breaks as breaks;
 ghost use Rattle.fx_core.specs.ColumnLists as lists;
-ghost use Rattle.fx_resolve.specs.PartView.{part};
+ghost use Rattle.fx_resolve.specs.PartView.{judged_part};
 
 use fx_base::Memory;
 use fx_core::functions::Fun;
@@ -16,7 +16,7 @@ use std::alloc::Global;
 
 // The name of a column.
 fn name_of<'p>(one: &'p Part) -> Option<&'p Words>
-    ensures { option_map (λ w. w.now) result ≡ breaks.name_of (part one.now) }
+    ensures { option_map (λ w. w.now) result ≡ breaks.part_name (judged_part one.now) }
 {
     match one {
         Part::Piece(Piece::Label(name)) => Some(name),
@@ -26,7 +26,7 @@ fn name_of<'p>(one: &'p Part) -> Option<&'p Words>
 
 // The names of columns.
 fn column_names<'p>(alloc: Global, columns: &'p Columns) -> Result<Vec<&'p Words>, Memory>
-    ensures { IfOk result (λ ns. map (λ w. w.now) ns.items ≡ breaks.column_names (column_list columns.now)) }
+    ensures { IfOk result (λ ns. map (λ w. w.now) ns.items ≡ breaks.names_of_columns (column_list columns.now)) }
 {
     let mut names = Vec::new(alloc);
     for (name, _) in columns.as_slice() {
@@ -37,7 +37,7 @@ fn column_names<'p>(alloc: Global, columns: &'p Columns) -> Result<Vec<&'p Words
 
 // The names of the columns of a part, of which one that is no table has none.
 fn names_in<'p>(alloc: Global, one: &'p Part) -> Result<Vec<&'p Words>, Memory>
-    ensures { IfOk result (λ ns. map (λ w. w.now) ns.items ≡ breaks.names_in (part one.now)) }
+    ensures { IfOk result (λ ns. map (λ w. w.now) ns.items ≡ breaks.names_in (judged_part one.now)) }
 {
     match one {
         Part::Piece(Piece::Value(_, value)) => match &value.ty {
@@ -85,7 +85,7 @@ fn rename_next<'p>(
     to: Option<&'p Words>,
     names: Vec<&'p Words>,
 ) -> Result<Vec<&'p Words>, Memory>
-    ensures { IfOk result (λ ns. map (λ w. w.now) ns.items ≡ breaks.with_renamed (option_map (λ w. w.now) from.entry)
+    ensures { IfOk result (λ ns. map (λ w. w.now) ns.items ≡ breaks.names_renamed (option_map (λ w. w.now) from.entry)
         (option_map (λ w. w.now) to.entry) (map (λ w. w.now) names.entry.items)) }
 {
     match (from, to) {
@@ -109,7 +109,7 @@ fn with_name<'p>(name: Option<&'p Words>, names: Vec<&'p Words>) -> Result<Vec<&
 // A name that is one of these.
 fn find_name<'p>(name: Option<&'p Words>, names: &[&Words]) -> Option<&'p Words>
     ensures { option_map (λ w. w.now) result
-        ≡ breaks.taken_or (option_map (λ w. w.now) name.entry) (map (λ w. w.now) names.now) None }
+        ≡ breaks.name_taken_or (option_map (λ w. w.now) name.entry) (map (λ w. w.now) names.now) None }
 {
     match name {
         Some(name) if is_one_of(name, names) => Some(name),
@@ -120,7 +120,7 @@ fn find_name<'p>(name: Option<&'p Words>, names: &[&Words]) -> Option<&'p Words>
 // The first name of a new column, in turn, that is taken.
 fn taken_added_name<'p>(all: &'p [Part], names: Vec<&'p Words>) -> Result<Option<&'p Words>, Memory>
     ensures { IfOk result (λ o. option_map (λ w. w.now) o
-        ≡ breaks.taken_added (map part all.now) (map (λ w. w.now) names.entry.items)) }
+        ≡ breaks.taken_added (map judged_part all.now) (map (λ w. w.now) names.entry.items)) }
 {
     let mut names = names;
     let mut more = all;
@@ -142,7 +142,7 @@ fn taken_renamed_name<'p>(
     names: Vec<&'p Words>,
 ) -> Result<Option<&'p Words>, Memory>
     ensures { IfOk result (λ o. option_map (λ w. w.now) o
-        ≡ breaks.taken_renamed (map part all.now) (map (λ w. w.now) names.entry.items)) }
+        ≡ breaks.taken_renamed (map judged_part all.now) (map (λ w. w.now) names.entry.items)) }
 {
     let mut names = names;
     let mut more = all;
@@ -163,7 +163,7 @@ fn taken_name_by_answer<'p>(
     answer: Answer,
     all: &'p [Part],
 ) -> Result<Option<&'p Words>, Memory>
-    ensures { IfOk result (λ o. option_map (λ w. w.now) o ≡ breaks.taken_by answer (map part all.now)) }
+    ensures { IfOk result (λ o. option_map (λ w. w.now) o ≡ breaks.taken_by answer (map judged_part all.now)) }
 {
     let Some((first, others)) = all.split_first() else {
         return Ok(None);
@@ -177,7 +177,7 @@ fn taken_name_by_answer<'p>(
 
 /// The first new name of a column that is taken, in a call of a function that has as many parts as it takes.
 pub fn taken_name<'p>(alloc: Global, fun: Fun, all: &'p [Part]) -> Result<Option<&'p Words>, Memory>
-    ensures { IfOk result (λ o. option_map (λ w. w.now) o ≡ breaks.taken_at fun (map part all.now)) }
+    ensures { IfOk result (λ o. option_map (λ w. w.now) o ≡ breaks.taken_at fun (map judged_part all.now)) }
 {
     let row = row_of(fun);
     if row.takes_count(all.len()) {

@@ -1,10 +1,10 @@
 //! The parts of a node as its rule takes them.
 ghost use Rattle.std.specs.Prelude.{◌≡◌, ◌∷◌, [], IfOk, map};
 ghost use Rattle.fx_typing.specs.Parts as parts;
-ghost use Rattle.fx_typing.specs.Answers.{Answers};
-ghost use Rattle.fx_typing.specs.TypedView.{typed, piece};
-ghost use Rattle.fx_resolve.specs.PartView.{part};
-ghost use Rattle.fx_node_typing.specs.Lists.{named_first, value_of};
+ghost use Rattle.fx_typing.specs.Answers.{IsAnswerOf};
+ghost use Rattle.fx_typing.specs.TypedView.{typed, piece_view};
+ghost use Rattle.fx_resolve.specs.PartView.{judged_part};
+ghost use Rattle.fx_node_typing.specs.Lists.{named_first, value_part};
 
 use fx_base::Memory;
 use fx_core::Rule;
@@ -16,7 +16,7 @@ use std::alloc::Global;
 
 // A part as a value, or the rule `WrongType`.
 fn value_of(one: Part) -> Result<Typed, Wrong>
-    ensures { Answers typed (value_of (part one.entry)) result }
+    ensures { IsAnswerOf typed (value_part (judged_part one.entry)) result }
 {
     match one {
         Part::Piece(Piece::Value(_, value)) => Ok(value),
@@ -26,7 +26,7 @@ fn value_of(one: Part) -> Result<Typed, Wrong>
 
 /// The parts as values, or the rule `WrongType` where one is none.
 pub fn values(alloc: Global, all: Vec<Part>) -> Result<Vec<Typed>, Wrong>
-    ensures { Answers (λ xs. map typed xs.items) (parts.values (map part all.entry.items)) result }
+    ensures { IsAnswerOf (λ xs. map typed xs.items) (parts.values (map judged_part all.entry.items)) result }
 {
     let mut found = Vec::new(alloc);
     for one in all {
@@ -45,7 +45,7 @@ fn no_name(alloc: Global) -> Result<Words, Memory>
 
 // A part as the one rule takes it.
 fn piece_of(alloc: Global, one: Part) -> Result<Piece, Memory>
-    ensures { IfOk result (λ p. piece p ≡ parts.piece_of (part one.entry)) }
+    ensures { IfOk result (λ p. piece_view p ≡ parts.piece_of (judged_part one.entry)) }
 {
     match one {
         Part::Piece(inner) => Ok(inner),
@@ -57,7 +57,7 @@ fn piece_of(alloc: Global, one: Part) -> Result<Piece, Memory>
 
 /// The parts as the one rule takes them.
 pub fn pieces(alloc: Global, all: Vec<Part>) -> Result<Vec<Piece>, Memory>
-    ensures { IfOk result (λ ps. map piece ps.items ≡ parts.pieces (map part all.entry.items)) }
+    ensures { IfOk result (λ ps. map piece_view ps.items ≡ parts.pieces (map judged_part all.entry.items)) }
 {
     let mut found = Vec::new(alloc);
     for one in all {
@@ -68,7 +68,7 @@ pub fn pieces(alloc: Global, all: Vec<Part>) -> Result<Vec<Piece>, Memory>
 
 /// A piece, and the parts behind it as the one rule takes them.
 pub fn pieces_behind(alloc: Global, first: Piece, all: Vec<Part>) -> Result<Vec<Piece>, Memory>
-    ensures { IfOk result (λ ps. map piece ps.items ≡ piece first ∷ parts.pieces (map part all.entry.items)) }
+    ensures { IfOk result (λ ps. map piece_view ps.items ≡ piece_view first ∷ parts.pieces (map judged_part all.entry.items)) }
 {
     let mut found = pieces(alloc, all)?;
     found.insert(0, first)?;
@@ -78,7 +78,7 @@ pub fn pieces_behind(alloc: Global, first: Piece, all: Vec<Part>) -> Result<Vec<
 /// The name of what changes and the parts behind it, or the rule `WrongType` where its rows have a
 /// name, or `NotAVariable` where there is no such name.
 pub fn take_name<'a>(all: Vec<Part<'a>>) -> Result<(Words, Vec<Part<'a>>), Wrong>
-    ensures { Answers (λ p. (p.0, map part p.1.items)) (named_first (map part all.entry.items)) result }
+    ensures { IsAnswerOf (λ p. (p.0, map judged_part p.1.items)) (named_first (map judged_part all.entry.items)) result }
 {
     let mut all = all;
     if all.is_empty() {

@@ -6,18 +6,18 @@ ghost use Rattle.fx_typing.specs.Targets.{screen_variable};
 ghost use Rattle.fx_typing.specs.Parts as parts;
 ghost use Rattle.fx_core.specs.Lawful.{IsLawful};
 ghost use Rattle.fx_core.specs.Term.{Term};
-ghost use Rattle.fx_typing.specs.Answers.{Answers};
+ghost use Rattle.fx_typing.specs.Answers.{IsAnswerOf};
 ghost use Rattle.fx_typing.specs.TypedView.{typed};
-ghost use Rattle.fx_resolve.specs.PartView.{part};
+ghost use Rattle.fx_resolve.specs.PartView.{judged_part};
 
 use crate::values::values;
 use fx_core::deeds::Deed;
 use fx_core::names::{Names, Variable};
 use fx_core::sources::Source;
 use fx_core::{Core, Rule};
-use fx_node_typing::few::one;
+use fx_node_typing::arity::one;
+use fx_node_typing::first_break::both;
 use fx_node_typing::given::{alone, give, give_context, perform};
-use fx_node_typing::lowest::both;
 use fx_resolve::Part;
 use fx_resolve::targets::{global_variable, screen_variable};
 use fx_types::words::Words;
@@ -32,7 +32,7 @@ fn set_to(
     variable: &Variable,
     values: Vec<Typed>,
 ) -> Result<Typed, Wrong>
-    ensures { Answers typed (deeds.set_to (number, variable.now) (map typed values.items)) result }
+    ensures { IsAnswerOf typed (deeds.set_to (number, variable.now) (map typed values.items)) result }
 {
     let Some(value) = one(values) else {
         return Err(Wrong::Refused(Rule::WrongCount));
@@ -44,7 +44,7 @@ fn set_to(
 /// `Set`: a global variable and its value.
 pub fn set_of(alloc: Global, names: &Names, name: &Words, parts: Vec<Part>) -> Result<Typed, Wrong>
     requires { IsLawful names.now }
-    ensures { Answers typed (deeds.set_of names.now name.now (map part parts.entry.items)) result }
+    ensures { IsAnswerOf typed (deeds.set_of names.now name.now (map judged_part parts.entry.items)) result }
 {
     let values = values(alloc, parts)?;
     match global_variable(names, name) {
@@ -62,7 +62,7 @@ fn give_one(
     value: Typed,
 ) -> Result<(Source, Core), Wrong>
     requires { IsLawful names.now }
-    ensures { Answers (λ g. g) (deeds.give_one (screen_variable names.now screen name.now) (typed value)) result }
+    ensures { IsAnswerOf (λ g. g) (deeds.give_one (screen_variable names.now screen name.now) (typed value)) result }
 {
     let Some((number, variable)) = screen_variable(names, screen, name) else {
         return Err(Wrong::Refused(Rule::NotAVariable));
@@ -76,8 +76,8 @@ fn keep(
     kept: Result<Vec<(Source, Core)>, Wrong>,
     next: Result<(Source, Core), Wrong>,
 ) -> Result<Vec<(Source, Core)>, Wrong>
-    ensures { (p : Result (List (GivenSource × Term)) ℕ) (q : Result (GivenSource × Term) ℕ) → Answers (λ gs. gs.items) p kept → Answers (λ g. g) q next
-        → Answers (λ gs. gs.items) (parts.lowest (λ gs g. gs ++ g ∷ []) p q) result }
+    ensures { (p : Result (List (GivenSource × Term)) ℕ) (q : Result (GivenSource × Term) ℕ) → IsAnswerOf (λ gs. gs.items) p kept → IsAnswerOf (λ g. g) q next
+        → IsAnswerOf (λ gs. gs.items) (parts.lowest (λ gs g. gs ++ g ∷ []) p q) result }
 {
     let (mut all, last) = both(kept, next)?;
     all.push(last)?;
@@ -93,7 +93,7 @@ fn give_all(
     values: Vec<Typed>,
 ) -> Result<Vec<(Source, Core)>, Wrong>
     requires { IsLawful names.now }
-    ensures { Answers (λ gs. gs.items) (deeds.give_all names.now screen variables.items (map typed values.items)) result }
+    ensures { IsAnswerOf (λ gs. gs.items) (deeds.give_all names.now screen variables.items (map typed values.items)) result }
 {
     let mut given = Ok(Vec::new(alloc));
     let mut left = values.into_iter();
@@ -109,7 +109,7 @@ fn give_all(
 // `UpdateContext` of this part, on this screen.
 fn update_by(alloc: Global, names: &Names, screen: u32, assigned: Part) -> Result<Typed, Wrong>
     requires { IsLawful names.now }
-    ensures { Answers typed (deeds.update_of names.now (Some screen) (part assigned.entry ∷ [])) result }
+    ensures { IsAnswerOf typed (deeds.update_of names.now (Some screen) (judged_part assigned.entry ∷ [])) result }
 {
     match assigned {
         Part::Assigned(variables, values) => {
@@ -128,7 +128,7 @@ pub fn update_of(
     parts: Vec<Part>,
 ) -> Result<Typed, Wrong>
     requires { IsLawful names.now }
-    ensures { Answers typed (deeds.update_of names.now screen (map part parts.entry.items)) result }
+    ensures { IsAnswerOf typed (deeds.update_of names.now screen (map judged_part parts.entry.items)) result }
 {
     let Some(screen) = screen else {
         return Err(Wrong::Refused(Rule::NotAVariable));

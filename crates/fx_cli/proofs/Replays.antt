@@ -2,13 +2,13 @@
 use Rattle.std.proofs.Common.{◌≡◌, ℕ, ◌+◌, ◌<◌, Bool, true, List, [], ◌∷◌, ◌++◌, Option, Some, length, refl, ap, sym, ◌∙◌, subst, append_assoc}
 use Rattle.std.proofs.lemmas.List.{append-nil, length-append}
 use Rattle.fx_base.specs.Telling.{Tells}
-use Rattle.app_wire.specs.Doorway.{Closes, Comes, Doorway, fresh_talk, with_hang_up, with_last}
+use Rattle.app_wire.specs.Doorway.{Closes, NextComes, Doorway, fresh_talk, with_hang_up, with_last}
 use Rattle.app_wire.specs.Moments.{Ticks}
 use Rattle.app_wire.proofs.Doorways.{last_at_end}
 use Rattle.office.specs.Answers.{Converses, moments_of, with_bytes}
 use Rattle.office.proofs.Plays.{two}
 use Rattle.office.specs.declared.converse.ConvEnd.{ConvEnd}
-use Rattle.fx_cli.specs.Held.{Conversation, EndsIn, GoesOnAfter, Held, HoldsNext, IsHeld, LeavesNone, Replayed, Sends, SendsOne, Standing, all_moments}
+use Rattle.fx_cli.specs.Conversations.{Conversation, ConversationEndsIn, GoesOnAfter, HeldInTurn, HoldsNext, IsHeld, LeavesNone, Replayed, Sends, SendsOne, OfficeAt, all_moments}
 use Rattle.fx_cli.specs.declared.replay.ReplayEnd.{ReplayEnd}
 use Rattle.fx_cli.specs.declared.replay.ReplayEnd.TheVariants.{Done, Fault, Full}
 
@@ -27,7 +27,7 @@ pub ticks_more : (old : Option (List ℕ)) (cs : List Conversation) (mid : Optio
 ticks_more old cs mid c new h k = subst (λ ms. Ticks old ms new) (sym (moments_more cs c)) (ticks_join old (all_moments cs) mid (moments_of c.exchanges) new h k)
 
 -- a conversation that came, was talked to, and was hung up
-pub sends_one : (one : Bool) (c : Conversation) (w x y z : Doorway) → Comes true w x → Converses one c.end c.exchanges x y → Closes y z → SendsOne one c w z
+pub sends_one : (one : Bool) (c : Conversation) (w x y z : Doorway) → NextComes true w x → Converses one c.end c.exchanges x y → Closes y z → SendsOne one c w z
 sends_one one c w x y z came t closed =
     let whole : z ≡ record x { unread = []; begun = with_last with_hang_up (with_last (with_bytes t.taken t.written) x.begun) } =
     closed ∙ ap (λ (d : Doorway). record d { unread = []; begun = with_last with_hang_up d.begun }) t.talked.is in
@@ -49,20 +49,20 @@ pub sends_more : (one : Bool) (cs : List Conversation) (c : Conversation) (x y z
 sends_more one [] c x y z h k = (z, subst (λ d. SendsOne one c d z) h k, refl)
 sends_more one (d ∷ ds) c x y z h k = (h.0, h.1, sends_more one ds c h.0 y z h.2 k)
 
-pub held_more : (one : Bool) (old : Standing) (count : ℕ) (cs : List Conversation) (mid : Standing) (between : ℕ) → Held one old count cs mid between
-    → (c : Conversation) → IsHeld one mid between c → GoesOnAfter one c.end → Held one old count (cs ++ c ∷ []) c.office c.after
+pub held_more : (one : Bool) (old : OfficeAt) (count : ℕ) (cs : List Conversation) (mid : OfficeAt) (between : ℕ) → HeldInTurn one old count cs mid between
+    → (c : Conversation) → IsHeld one mid between c → GoesOnAfter one c.end → HeldInTurn one old count (cs ++ c ∷ []) c.office c.after
 held_more one old count [] mid between h c k on = (subst (λ n. IsHeld one old n c) h.1 (subst (λ s. IsHeld one s between c) h.0 k), on, (refl, refl))
 held_more one old count (d ∷ ds) mid between h c k on = (h.0, h.1, held_more one d.office d.after ds mid between h.2 c k on)
 
-leaves_any : (stop : ReplayEnd) (one : Bool) (end : ConvEnd) → EndsIn stop one end → (b : Doorway) → LeavesNone stop b
+leaves_any : (stop : ReplayEnd) (one : Bool) (end : ConvEnd) → ConversationEndsIn stop one end → (b : Doorway) → LeavesNone stop b
 leaves_any Done one end is b = absurd is
 leaves_any Fault one end is b = tt
 leaves_any Full one end is b = tt
 
 -- a conversation that ends a replay
-pub replay_stops : (most : ℕ) (at_most : ReplayEnd) (one : Bool) (old mid new : Standing) (count between now : ℕ) (clock clock_mid clock_now : Option (List ℕ)) (doors doors_mid doors_now : Option Doorway)
-    (cs : List Conversation) (end : ConvEnd) (stop : ReplayEnd) → length cs < most → Ticks clock (all_moments cs) clock_mid → Held one old count cs mid between
-    → Tells (Sends one cs) doors doors_mid → HoldsNext one end mid new between now clock_mid clock_now doors_mid doors_now → EndsIn stop one end
+pub replay_stops : (most : ℕ) (at_most : ReplayEnd) (one : Bool) (old mid new : OfficeAt) (count between now : ℕ) (clock clock_mid clock_now : Option (List ℕ)) (doors doors_mid doors_now : Option Doorway)
+    (cs : List Conversation) (end : ConvEnd) (stop : ReplayEnd) → length cs < most → Ticks clock (all_moments cs) clock_mid → HeldInTurn one old count cs mid between
+    → Tells (Sends one cs) doors doors_mid → HoldsNext one end mid new between now clock_mid clock_now doors_mid doors_now → ConversationEndsIn stop one end
     → Replayed most at_most one old new count now clock clock_now doors doors_now stop
 replay_stops most at_most one old mid new count between now clock clock_mid clock_now doors doors_mid doors_now cs end stop few ticks is_held sends h is = record {
   held = cs;
@@ -70,21 +70,21 @@ replay_stops most at_most one old mid new count between now clock clock_mid cloc
   mid = mid;
   between = between;
   is_held = is_held;
-  ends = (few, h.held, subst (EndsIn stop one) (sym h.ended) is, sym h.counted, sym h.left);
+  ends = (few, h.held, subst (ConversationEndsIn stop one) (sym h.ended) is, sym h.counted, sym h.left);
   ticks = ticks_more clock cs clock_mid h.conversation clock_now ticks h.ticks;
   told = two (λ x y z s k. (sends_more one cs h.conversation x y z s k, λ _. leaves_any stop one end is z)) sends h.told;
 }
 
 -- one after which it goes on
-pub held_on : (one : Bool) (old mid new : Standing) (count between now : ℕ) (clock clock_mid clock_now : Option (List ℕ)) (doors doors_mid doors_now : Option Doorway)
-    (cs : List Conversation) (n : ℕ) (end : ConvEnd) → Ticks clock (all_moments cs) clock_mid → Held one old count cs mid between → length cs ≡ n
+pub held_on : (one : Bool) (old mid new : OfficeAt) (count between now : ℕ) (clock clock_mid clock_now : Option (List ℕ)) (doors doors_mid doors_now : Option Doorway)
+    (cs : List Conversation) (n : ℕ) (end : ConvEnd) → Ticks clock (all_moments cs) clock_mid → HeldInTurn one old count cs mid between → length cs ≡ n
     → Tells (Sends one cs) doors doors_mid → HoldsNext one end mid new between now clock_mid clock_now doors_mid doors_now → GoesOnAfter one end
-    → (cs' : List Conversation) × Ticks clock (all_moments cs') clock_now × Held one old count cs' new now × (length cs' ≡ n + 1) × Tells (Sends one cs') doors doors_now
+    → (cs' : List Conversation) × Ticks clock (all_moments cs') clock_now × HeldInTurn one old count cs' new now × (length cs' ≡ n + 1) × Tells (Sends one cs') doors doors_now
 held_on one old mid new count between now clock clock_mid clock_now doors doors_mid doors_now cs n end ticks is_held e sends h on = (
   cs ++ h.conversation ∷ [],
   ticks_more clock cs clock_mid h.conversation clock_now ticks h.ticks,
-  subst (λ k. Held one old count (cs ++ h.conversation ∷ []) new k) h.counted
-      (subst (λ s. Held one old count (cs ++ h.conversation ∷ []) s h.conversation.after) h.left
+  subst (λ k. HeldInTurn one old count (cs ++ h.conversation ∷ []) new k) h.counted
+      (subst (λ s. HeldInTurn one old count (cs ++ h.conversation ∷ []) s h.conversation.after) h.left
       (held_more one old count cs mid between is_held h.conversation h.held (subst (GoesOnAfter one) (sym h.ended) on))),
   length-append cs (h.conversation ∷ []) ∙ ap (λ k. k + 1) e,
   two (sends_more one cs h.conversation) sends h.told,

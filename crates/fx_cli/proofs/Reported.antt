@@ -10,7 +10,7 @@ use Rattle.fx_core.specs.declared.broken.Broken.{Broken as Break}
 use Rattle.fx_core.specs.declared.app_end.AppEnd.{AppEnd}
 use Rattle.fx_core.specs.declared.app_end.AppEnd.TheVariants as end
 use Rattle.row_keeper.specs.declared.keeper.Keeper as keeper
-use Rattle.fx_cli.specs.Held.{Standing}
+use Rattle.fx_cli.specs.Conversations.{OfficeAt}
 use Rattle.fx_cli.specs.declared.files.Files as files
 use Rattle.fx_cli.specs.declared.replay.ReplayEnd.{ReplayEnd}
 use Rattle.fx_cli.specs.declared.replay.ReplayEnd.TheVariants as replay
@@ -18,7 +18,7 @@ use Rattle.fx_cli.specs.declared.report.Report.{Report}
 use Rattle.fx_cli.specs.declared.report.Report.TheVariants.{Shown, Checked, Broken, Usage, OutOfMemory, Unread, KeeperFault, OtherSchema, Replayed}
 use Rattle.fx_cli.specs.declared.words.Form.{Form}
 use Rattle.fx_cli.specs.declared.words.Form.TheVariants.{View, Check, Serve}
-use Rattle.fx_cli.specs.Report.{EndsOver, EndsService, EndsWith, HasFile, IsChecking, IsRefusal, JudgedAs, Reports, Takes, Wanted, no_service, no_show, status_of}
+use Rattle.fx_cli.specs.Report.{EndsOver, EndsService, RunEndsWith, HasFile, IsChecking, IsRefusal, JudgedAs, Reports, MatchesFile, Wanted, no_service, no_show, status_of}
 
 abbrev form_in : Form → Wanted → Form
 form_in other None = other
@@ -43,7 +43,7 @@ not_served wanted name other h k = let same : Check ≡ Serve = same_form wanted
 
 -- bytes that were read of a told file are its first bytes
 same_bytes : {F : Type 0} (f : files.Ghosts F) (old new : F) (wanted : Wanted) (form : Form) (bytes read : List ℕ)
-    → HasFile f old wanted form bytes → Takes f old new wanted form read → read ≡ bytes
+    → HasFile f old wanted form bytes → MatchesFile f old new wanted form read → read ≡ bytes
 same_bytes f old new wanted form bytes read has takes =
     let first = takes.first has.contents has.is_told in
     let told_first = has.first in
@@ -53,10 +53,10 @@ same_bytes f old new wanted form bytes read has takes =
 
 -- what was read is what is told, and is judged as it is
 moved : {F : Type 0} (f : files.Ghosts F) (old new : F) (wanted : Wanted) (form other : Form) (bytes read : List ℕ) (v : Result App (List Break))
-    → HasFile f old wanted form bytes → Takes f old new wanted other read → JudgedAs other read v → JudgedAs form bytes v
+    → HasFile f old wanted form bytes → MatchesFile f old new wanted other read → JudgedAs other read v → JudgedAs form bytes v
 moved f old new wanted form other bytes read v has takes is =
     let same : other ≡ form = same_form wanted other form takes.name has.name takes.asks.is_wanted has.is_wanted in
-    let taken = subst (λ (x : Form). Takes f old new wanted x read) same takes in
+    let taken = subst (λ (x : Form). MatchesFile f old new wanted x read) same takes in
     let bytes_are = same_bytes f old new wanted form bytes read has taken in
     subst (λ (bs : List ℕ). JudgedAs form bs v) bytes_are (subst (λ (x : Form). JudgedAs x read v) same is)
 
@@ -70,7 +70,7 @@ differ texts apps Serve bytes a bs p q = apps bytes a bs p q
 pub built_at : IsOneVerdict → IsOneApp → {F : Type 0} (f : files.Ghosts F) (old new : F) (shows : App → String Global → Type 0) (ends : App → Report → Type 0) (wanted : Wanted) (r : Report)
     (sink_rose : Type 0) (bytes : List ℕ) (a : App)
     → Reports f old new shows ends wanted r → HasFile f old wanted View bytes → Judged bytes (Ok a)
-    → EndsWith 0 (status_of r) (Rose (f.faults old) (f.faults new)) sink_rose
+    → RunEndsWith 0 (status_of r) (Rose (f.faults old) (f.faults new)) sink_rose
 built_at texts apps f old new shows ends wanted (Shown text) s bytes a h has is = inl refl
 built_at texts apps f old new shows ends wanted (Checked text) s bytes a h has is = absurd (not_view wanted h.takes.name has.name h.takes.asks.is_wanted has.is_wanted)
 built_at texts apps f old new shows ends wanted (Broken text) s bytes a h has is =
@@ -86,7 +86,7 @@ built_at texts apps f old new shows ends wanted (Replayed end) s bytes a h has i
 pub refused_at : IsOneVerdict → IsOneApp → {F : Type 0} (f : files.Ghosts F) (old new : F) (shows : App → String Global → Type 0) (ends : App → Report → Type 0) (wanted : Wanted) (r : Report)
     (sink_rose : Type 0) (form : Form) (bytes : List ℕ) (bs : List Break)
     → Reports f old new shows ends wanted r → HasFile f old wanted form bytes → JudgedAs form bytes (Err bs)
-    → EndsWith 1 (status_of r) (Rose (f.faults old) (f.faults new)) sink_rose
+    → RunEndsWith 1 (status_of r) (Rose (f.faults old) (f.faults new)) sink_rose
 refused_at texts apps f old new shows ends wanted (Shown text) s form bytes bs h has is =
     absurd (differ texts apps form bytes h.app bs (moved f old new wanted form View bytes h.bytes (Ok h.app) has h.takes h.judged) is)
 refused_at texts apps f old new shows ends wanted (Checked text) s form bytes bs h has is =
@@ -127,7 +127,7 @@ replayed_at texts apps f old new shows ends wanted (Replayed end) s bytes a h ha
 pub checked_at : IsOneVerdict → IsOneApp → {F : Type 0} (f : files.Ghosts F) (old new : F) (shows : App → String Global → Type 0) (ends : App → Report → Type 0) (wanted : Wanted) (r : Report)
     (sink_rose : Type 0) (bytes : List ℕ) (a : App)
     → Reports f old new shows ends wanted r → HasFile f old wanted Check bytes → JudgedApp bytes (Ok a)
-    → EndsWith 0 (status_of r) (Rose (f.faults old) (f.faults new)) sink_rose
+    → RunEndsWith 0 (status_of r) (Rose (f.faults old) (f.faults new)) sink_rose
 checked_at texts apps f old new shows ends wanted (Shown text) s bytes a h has is = absurd (not_view wanted has.name h.takes.name has.is_wanted h.takes.asks.is_wanted)
 checked_at texts apps f old new shows ends wanted (Checked text) s bytes a h has is = inl refl
 checked_at texts apps f old new shows ends wanted (Broken text) s bytes a h has is =
@@ -141,7 +141,7 @@ checked_at texts apps f old new shows ends wanted (Replayed end) s bytes a h has
 
 -- a file was read, and is refused
 pub reports_refused : {F : Type 0} (f : files.Ghosts F) (old new : F) (shows : App → String Global → Type 0) (ends : App → Report → Type 0) (form : Form) (name bytes : List ℕ) (e : AppEnd) (r : Report)
-    → Takes f old new (Some (form, name)) form bytes → judged.Tells (λ bs. JudgedAs form bytes (Err bs)) e → IsRefusal e r → Reports f old new shows ends (Some (form, name)) r
+    → MatchesFile f old new (Some (form, name)) form bytes → judged.ReportsBreaks (λ bs. JudgedAs form bytes (Err bs)) e → IsRefusal e r → Reports f old new shows ends (Some (form, name)) r
 reports_refused f old new shows ends form name bytes (end.Refused all) (Broken text) takes tells is =
     record { form = form; bytes = bytes; breaks = all.items; takes = takes; judged = tells; lines = is }
 reports_refused f old new shows ends form name bytes e OutOfMemory takes tells is = refl
@@ -149,8 +149,8 @@ reports_refused f old new shows ends form name bytes e r takes tells is = absurd
 
 -- a file was read, and is an app, and serving it came to a report
 pub reports_over : {F K : Type 0} (f : files.Ghosts F) (g : keeper.Ghosts K) (store : List ℕ) (old new : F) (k l : K)
-    (serves : ReplayEnd → Standing → Standing → Type 0) (name bytes : List ℕ) (a : App) (r : Report)
-    → Takes f old new (Some (Serve, name)) Serve bytes → JudgedApp bytes (Ok a) → EndsOver g store k l serves a r
+    (serves : ReplayEnd → OfficeAt → OfficeAt → Type 0) (name bytes : List ℕ) (a : App) (r : Report)
+    → MatchesFile f old new (Some (Serve, name)) Serve bytes → JudgedApp bytes (Ok a) → EndsOver g store k l serves a r
     → Reports f old new no_show (EndsOver g store k l serves) (Some (Serve, name)) r
 reports_over f g store old new k l serves name bytes a (Shown text) takes judged h = absurd h
 reports_over f g store old new k l serves name bytes a (Checked text) takes judged h = absurd h
@@ -164,7 +164,7 @@ reports_over f g store old new k l serves name bytes a (Replayed end) takes judg
 
 -- a file was read, and is an app, and what is told of it came to a report
 pub reports_checked : {F : Type 0} (f : files.Ghosts F) (old new : F) (name bytes : List ℕ) (a : App) (r : Report)
-    → Takes f old new (Some (Check, name)) Check bytes → JudgedApp bytes (Ok a) → IsChecking a r → Reports f old new no_show no_service (Some (Check, name)) r
+    → MatchesFile f old new (Some (Check, name)) Check bytes → JudgedApp bytes (Ok a) → IsChecking a r → Reports f old new no_show no_service (Some (Check, name)) r
 reports_checked f old new name bytes a (Checked text) takes judged h = record { bytes = bytes; app = a; takes = takes; judged = judged; lines = h }
 reports_checked f old new name bytes a OutOfMemory takes judged h = refl
 reports_checked f old new name bytes a r takes judged h = absurd h

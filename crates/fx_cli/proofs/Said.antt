@@ -12,7 +12,7 @@ use Rattle.fx_cli.specs.declared.report.Report.TheVariants.{Shown, Checked, Brok
 use Rattle.fx_cli.specs.declared.sink.Sink as sink
 use Rattle.fx_cli.specs.declared.words.Form.TheVariants.{View, Check, Serve}
 use Rattle.fx_cli.specs.Outside.{Work, WorkSight}
-use Rattle.fx_cli.specs.Report.{EndsService, EndsWith, IsIdle, IsReadOnceAtMost, IsService, IsSaid, IsTimeless, LeavesKeeper, Reports, Wanted, status_of, text_of, text_of_end}
+use Rattle.fx_cli.specs.Report.{EndsService, RunEndsWith, NothingBegun, IsReadOnceAtMost, IsService, IsSaid, IsTimeless, LeavesKeeper, Reports, Wanted, status_of, report_text, text_of_end}
 use Rattle.fx_cli.specs.Run.{LeavesAlone}
 use Rattle.fx_cli.specs.Words.{service, wanted}
 use Rattle.fx_cli.specs.Telling.{Grows}
@@ -78,20 +78,20 @@ is_fault (Replayed replay.Fault) e = refl
 is_fault (Replayed replay.Full) e = absurd (other 9 6 refl e)
 
 -- what was replayed, up to this end
-pub replay_at : (end : ReplayEnd) → {F : Type 0} (f : files.Ghosts F) (old new : F) (shows : App → String Global → Type 0) (ends : App → Report → Type 0) (wanted : Wanted) (r : Report) → Reports f old new shows ends wanted r → r ≡ Replayed end → (o o' : Option (List ℕ)) → Tells (Grows (text_of r)) o o'
+pub replay_at : (end : ReplayEnd) → {F : Type 0} (f : files.Ghosts F) (old new : F) (shows : App → String Global → Type 0) (ends : App → Report → Type 0) (wanted : Wanted) (r : Report) → Reports f old new shows ends wanted r → r ≡ Replayed end → (o o' : Option (List ℕ)) → Tells (Grows (report_text r)) o o'
     → IsService f old new wanted (λ app. ends app (Replayed end)) × Tells (Grows (text_of_end end)) o o'
 replay_at end f old new shows ends wanted r h e o o' t =
-    (subst (λ x. Reports f old new shows ends wanted x) e h, subst (λ x. Tells (Grows (text_of x)) o o') e t)
+    (subst (λ x. Reports f old new shows ends wanted x) e h, subst (λ x. Tells (Grows (report_text x)) o o') e t)
 
 -- a status other than 7 is that of the report, and its text was written
 pub said_with : {O : Type 0} (see : sink.Ghosts O) (o o' : O) (r : Report) (status n : ℕ) → IsSaid see o o' r status → nat_eq n 7 ≡ false → status ≡ n
-    → (status_of r ≡ n) × Tells (Grows (text_of r)) (see.told o) (see.told o')
+    → (status_of r ≡ n) × Tells (Grows (report_text r)) (see.told o) (see.told o')
 said_with see o o' r status n (inl h) other e = (sym h.0 ∙ e, h.1)
 said_with see o o' r status n (inr h) other e = let seven : n ≡ 7 = sym e ∙ h.0 in let same = rw seven at other in absurd (cc)
 
 -- how a run ends is how its report ends, but for a fault of the sink
 pub or_fault : {O : Type 0} (see : sink.Ghosts O) (o o' : O) (wanted status : ℕ) (r : Report) (files_rose : Type 0) → IsSaid see o o' r status
-    → EndsWith wanted (status_of r) files_rose (Rose (see.faults o) (see.faults o')) → EndsWith wanted status files_rose (Rose (see.faults o) (see.faults o'))
+    → RunEndsWith wanted (status_of r) files_rose (Rose (see.faults o) (see.faults o')) → RunEndsWith wanted status files_rose (Rose (see.faults o) (see.faults o'))
 or_fault see o o' wanted status r files_rose (inl h) ends = rw h.0 ends
 or_fault see o o' wanted status r files_rose (inr h) ends = inr (inr (inr h.1))
 
@@ -116,7 +116,7 @@ module _ {D K F C : Type 0} (see : WorkSight D K F C) (words : List (String Glob
   viewed_leaves name (Replayed end) is known same timeless read kept = tt
 
   -- and a replay
-  pub replayed_leaves : (name : List ℕ) (r : Report) → wanted words ≡ Some (Serve, name) → (r ≡ Usage → ⊥) → (IsIdle r → (new.doors ≡ old.doors) × (new.clock ≡ old.clock))
+  pub replayed_leaves : (name : List ℕ) (r : Report) → wanted words ≡ Some (Serve, name) → (r ≡ Usage → ⊥) → (NothingBegun r → (new.doors ≡ old.doors) × (new.clock ≡ old.clock))
       → LeavesKeeper see.keeper (service words).store old.keeper new.keeper r → LeavesAlone see words old new r
   replayed_leaves name (Shown text) is known idle kept = ((idle tt).0, kept)
   replayed_leaves name (Checked text) is known idle kept = ((idle tt).0, (idle tt).1, kept)

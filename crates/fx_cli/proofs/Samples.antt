@@ -5,31 +5,31 @@ use Rattle.std.specs.declared.alloc.Global.{Global}
 use Rattle.std.proofs.lemmas.Slice.Eq.{bytes_eq-Decides}
 use Rattle.app_cells.specs.declared.app.App.{App}
 use Rattle.fx_base.specs.Faults.{Rose}
-use Rattle.fx_base.specs.Silence.{Goes, IsLater, IsLost, Marks}
+use Rattle.fx_base.specs.Silence.{MayFallSilent, IsLater, SilenceCause, Marks}
 use Rattle.fx_base.proofs.Silences.{rose_before}
 use Rattle.fx_core.specs.declared.app_end.AppEnd.{AppEnd}
 use Rattle.fx_core.specs.declared.app_end.AppEnd.TheVariants as end
 use Rattle.fx_core.specs.declared.broken.Broken.{Broken as Break}
 use Rattle.office.specs.Answers.{Exchange}
 use Rattle.office.specs.session_requests.Opening.{CanOpen}
-use Rattle.office.specs.State.{State, schema_of, started}
+use Rattle.office.specs.State.{OfficeState, schema_of, started}
 use Rattle.office.specs.Step.{Step}
 use Rattle.office.specs.app_loader.Judged.{JudgedApp}
 use Rattle.office.specs.app_loader.JudgedFormulas as judged
 use Rattle.office.specs.app_loader.Verdicts.{IsOneApp}
-use Rattle.office.specs.app_semantics.Sound.{IsSound}
+use Rattle.office.specs.app_semantics.Sound.{IsSoundApp}
 use Rattle.app_wire.specs.Framing.{Asked}
 use Rattle.row_keeper.specs.Causes.{HasCause}
 use Rattle.row_keeper.specs.declared.keeper.Keeper.{Ghosts}
 use Rattle.row_keeper.specs.declared.keeper.KeeperEnd.{KeeperEnd}
 use Rattle.row_keeper.specs.declared.keeper.KeeperEnd.TheVariants.{Failed, Memory}
-use Rattle.sample_app.specs.Counts.{HasRows}
+use Rattle.sample_app.specs.Counts.{HasRowCount}
 use Rattle.sample_app.specs.Sample.{app_text, requests}
 use Rattle.sample_app.specs.Summary.{summary}
-use Rattle.fx_cli.specs.Held.{Standing}
+use Rattle.fx_cli.specs.Conversations.{OfficeAt}
 use Rattle.fx_cli.specs.Opening.{IsAsked}
-use Rattle.fx_cli.specs.Report.{EndsWith, IsRefusal, IsSaid}
-use Rattle.fx_cli.specs.Sampled.{EndsSample, IsGenerated, IsPlayed, IsSampled, IsTold, Performs, ReportsSample}
+use Rattle.fx_cli.specs.Report.{RunEndsWith, IsRefusal, IsSaid}
+use Rattle.fx_cli.specs.Sampled.{EndsSample, IsGenerated, IsPlayed, IsSampled, IsSampleReport, PlaysSample, ReportsSample}
 use Rattle.fx_cli.specs.Words.{app_if, wanted}
 use Rattle.fx_cli.specs.declared.report.Report.{Report}
 use Rattle.fx_cli.specs.declared.report.Report.TheVariants.{Shown, Checked, Broken, Usage, OutOfMemory, Unread, KeeperFault, OtherSchema, Replayed}
@@ -38,23 +38,23 @@ use Rattle.fx_cli.specs.declared.words.Form.{Form}
 use Rattle.fx_cli.specs.declared.words.Form.TheVariants.{View, Check}
 
 -- one exchange more
-pub performs_more : (moment : ℕ) (old : State) (before : Marks) (xs : List Exchange) (mid : State) (between : Marks) → Performs moment old before xs mid between
-    → (x : Exchange) → x.moment ≡ moment → IsLater between x.marks → Step (IsLost between x.marks) mid moment x.asked x.said x.state
-    → Performs moment old before (xs ++ x ∷ []) x.state x.marks
+pub performs_more : (moment : ℕ) (old : OfficeState) (before : Marks) (xs : List Exchange) (mid : OfficeState) (between : Marks) → PlaysSample moment old before xs mid between
+    → (x : Exchange) → x.moment ≡ moment → IsLater between x.marks → Step (SilenceCause between x.marks) mid moment x.asked x.said x.state
+    → PlaysSample moment old before (xs ++ x ∷ []) x.state x.marks
 performs_more moment old before [] mid between h x at later step = (
   at,
   subst (λ b. IsLater b x.marks) h.1 later,
-  subst (λ b. Step (IsLost b x.marks) old moment x.asked x.said x.state) h.1 (subst (λ m. Step (IsLost between x.marks) m moment x.asked x.said x.state) h.0 step),
+  subst (λ b. Step (SilenceCause b x.marks) old moment x.asked x.said x.state) h.1 (subst (λ m. Step (SilenceCause between x.marks) m moment x.asked x.said x.state) h.0 step),
   (refl, refl),
 )
 performs_more moment old before (y ∷ ys) mid between h x at later step = (h.0, h.1, h.2, performs_more moment y.state y.marks ys mid between h.3 x at later step)
 
 -- the requests were put over a keeper that was given back, and the rows were counted then
-pub sampled_over : {K : Type 0} (g : Ghosts K) (all : List Asked) (replies : List (List ℕ)) (old : Standing) (sessions : ℕ) (k l : K) (t : Result (String Global) KeeperEnd)
-    → (state : State) × (state.tables ≡ g.told k) × (sessions ≡ length state.sessions) × IsPlayed all replies old (record { state = state; marks = g.marks k })
+pub sampled_over : {K : Type 0} (g : Ghosts K) (all : List Asked) (replies : List (List ℕ)) (old : OfficeAt) (sessions : ℕ) (k l : K) (t : Result (String Global) KeeperEnd)
+    → (state : OfficeState) × (state.tables ≡ g.told k) × (sessions ≡ length state.sessions) × IsPlayed all replies old (record { state = state; marks = g.marks k })
     → IsLater (g.marks k) (g.marks l)
-    → IfOk t (λ text. (rows : ℕ) × Goes (IsLost (g.marks k) (g.marks l)) (HasRows rows) (g.told k) (g.told l) × (string_bytes text ≡ summary rows sessions replies))
-    → IfOk t (λ text. (state : State) × (state.tables ≡ g.told l) × IsSampled all old (record { state = state; marks = g.marks l }) (string_bytes text))
+    → IfOk t (λ text. (rows : ℕ) × MayFallSilent (SilenceCause (g.marks k) (g.marks l)) (HasRowCount rows) (g.told k) (g.told l) × (string_bytes text ≡ summary rows sessions replies))
+    → IfOk t (λ text. (state : OfficeState) × (state.tables ≡ g.told l) × IsSampled all old (record { state = state; marks = g.marks l }) (string_bytes text))
 sampled_over g all replies old sessions k l (Err e) played later h = tt
 sampled_over g all replies old sessions k l (Ok text) played later h = (
   record played.0 { tables = g.told l },
@@ -64,7 +64,7 @@ sampled_over g all replies old sessions k l (Ok text) played later h = (
     between = record { state = played.0; marks = g.marks k };
     played = played.3;
     rows = h.0;
-    counted = subst (λ y. Goes (IsLost (g.marks k) (g.marks l)) (HasRows h.0) y (g.told l)) (sym played.1) h.1;
+    counted = subst (λ y. MayFallSilent (SilenceCause (g.marks k) (g.marks l)) (HasRowCount h.0) y (g.told l)) (sym played.1) h.1;
     others = refl;
     later = later;
     told = h.2 ∙ ap (λ (n : ℕ). summary h.0 n replies) played.2;
@@ -86,7 +86,7 @@ sample_app g n old new a (Replayed end) judged h = absurd h
 
 -- a text that is refused
 pub sample_refused : {K : Type 0} (g : Ghosts K) (n : ℕ) (old new : K) (e : AppEnd) (r : Report)
-    → judged.Tells (λ bs. JudgedApp app_text (Err bs)) e → IsRefusal e r → ReportsSample g n old new r
+    → judged.ReportsBreaks (λ bs. JudgedApp app_text (Err bs)) e → IsRefusal e r → ReportsSample g n old new r
 sample_refused g n old new (end.Refused all) (Broken text) tells is = (all.items, tells, is)
 sample_refused g n old new e OutOfMemory tells is = tt
 sample_refused g n old new e r tells is = absurd is
@@ -94,10 +94,10 @@ sample_refused g n old new e r tells is = absurd is
 -- what is told of requests that were put over an opened keeper, or of what stopped them
 pub told_ends : {K : Type 0} (g : Ghosts K) (n : ℕ) (old opened new : K) (a : App)
     (t : Result (String Global) KeeperEnd) (r : Report)
-    → IsSound a → CanOpen a.names → IsAsked g [] (schema_of a) None old opened
-    → IfOk t (λ text. (state : State) × (state.tables ≡ g.told new)
+    → IsSoundApp a → CanOpen a.names → IsAsked g [] (schema_of a) None old opened
+    → IfOk t (λ text. (state : OfficeState) × (state.tables ≡ g.told new)
     × IsSampled (requests n) (record { state = started a (g.told opened); marks = g.marks opened }) (record { state = state; marks = g.marks new }) (string_bytes text))
-    → HasCause (g.marks opened) (g.marks new) t → IsLater (g.marks old) (g.marks opened) → IsTold t r → EndsSample g n old new a r
+    → HasCause (g.marks opened) (g.marks new) t → IsLater (g.marks old) (g.marks opened) → IsSampleReport t r → EndsSample g n old new a r
 told_ends g n old opened new a (Ok text) r sound opens asked sampled cause later is =
     subst (λ x. EndsSample g n old new a x) (sym is)
     (record { accepted = sound; opens = opens; opened = opened; is_opened = asked; state = sampled.0; tables = sampled.1; served = sampled.2 })
@@ -155,7 +155,7 @@ never_six g see n old new (Replayed end) status o o' h (inl k) e = h
 
 -- a sample that breaks a rule ends with 1
 pub sample_spoilt : IsOneApp → {K O : Type 0} (g : Ghosts K) (see : sink.Ghosts O) (n : ℕ) (old new : K) (r : Report) (status : ℕ) (o o' : O)
-    → ReportsSample g n old new r → IsSaid see o o' r status → (bs : List Break) → JudgedApp app_text (Err bs) → EndsWith 1 status ⊥ (Rose (see.faults o) (see.faults o'))
+    → ReportsSample g n old new r → IsSaid see o o' r status → (bs : List Break) → JudgedApp app_text (Err bs) → RunEndsWith 1 status ⊥ (Rose (see.faults o) (see.faults o'))
 sample_spoilt apps g see n old new r status o o' h (inr k) bs is = inr (inr (inr k.1))
 sample_spoilt apps g see n old new (Shown text) status o o' h (inl k) bs is = absurd (apps app_text h.app bs h.judged is)
 sample_spoilt apps g see n old new (Checked text) status o o' h (inl k) bs is = absurd h

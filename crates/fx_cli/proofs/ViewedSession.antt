@@ -7,7 +7,7 @@ use Rattle.fx_core.specs.declared.sources.Source.{Source}
 use Rattle.fx_core.specs.declared.sources.Source.TheVariants as source
 use Rattle.fx_value.specs.Fits.{fits_in}
 use Rattle.session_state.specs.Changes.{FitsNames, HoldsTables, IsOwn}
-use Rattle.session_state.specs.Sessions.{Holds, held, opened}
+use Rattle.session_state.specs.Sessions.{Holds, stored_value, opened}
 use Rattle.session_state.proofs.Fitting.{fits_opened}
 use Rattle.office.specs.app_semantics.Holding.{HoldsFitting}
 
@@ -31,7 +31,7 @@ held_all n tables (source.Chosen k) t own e = own
 held_all n tables (source.Table k) t own e = own
 held_all n tables source.Today t own e = own
 
-fit_all : (n : Names) → HoldsTables n → (x : Source) (t : Shape) → IsOwn x → sources n x ≡ Some t → fits_in (held (opened n) x) t ≡ true
+fit_all : (n : Names) → HoldsTables n → (x : Source) (t : Shape) → IsOwn x → sources n x ≡ Some t → fits_in (stored_value (opened n) x) t ≡ true
 fit_all n tables (source.Global k) t own e = (fits n tables).values_fit (source.Global k) t own e
 fit_all n tables (source.Context k) t own e = (fits n tables).values_fit (source.Context k) t own e
 fit_all n tables (source.Gathered k) t own e = (fits n tables).values_fit (source.Gathered k) t own e

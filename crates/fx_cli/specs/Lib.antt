@@ -1,5 +1,5 @@
 pub mod Disk
-pub mod Held
+pub mod Conversations
 pub mod Opening
 pub mod Outside
 pub mod Plain

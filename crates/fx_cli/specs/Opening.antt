@@ -1,17 +1,17 @@
 -- How a keeper is opened for an app: it is attached to the store of a name, and takes the shape of the app's tables.
 use Rattle.std.specs.Prelude.{◌≡◌, ◌≢◌, ◌⊎◌, ℕ, List, Option, Some, None, IfNone, IfSome, IsSome}
 use Rattle.fx_base.specs.Faults.{Rose}
-use Rattle.fx_base.specs.Silence.{Goes, IsLater, IsLost, Marks}
+use Rattle.fx_base.specs.Silence.{MayFallSilent, IsLater, SilenceCause, Marks}
 use Rattle.fx_base.specs.Telling.{Stays}
 use Rattle.fx_core.specs.declared.schema.Schema.{Schema}
 use Rattle.row_keeper.specs.Changes.{Shapes}
 use Rattle.row_keeper.specs.Over.{Becomes}
 use Rattle.row_keeper.specs.declared.keeper.Keeper.{Ghosts}
 use Rattle.app_cells.specs.declared.app.App.{App}
-use Rattle.office.specs.app_semantics.Sound.{IsSound}
+use Rattle.office.specs.app_semantics.Sound.{IsSoundApp}
 use Rattle.office.specs.session_requests.Opening.{CanOpen}
-use Rattle.office.specs.State.{State, schema_of, started}
-use Rattle.fx_cli.specs.Held.{Standing}
+use Rattle.office.specs.State.{OfficeState, schema_of, started}
+use Rattle.fx_cli.specs.Conversations.{OfficeAt}
 
 -- a fault was counted
 abbrev pub Counted : Marks → Marks → Type 0
@@ -24,7 +24,7 @@ Unsaid before now = Unit {0}
 module _ {K : Type 0} (g : Ghosts K) (name : List ℕ) where
   -- It was attached to the store of the name.
   pub record IsAttached (old new : K) : Type 0 where
-    pub named : Goes (IsLost (g.marks old) (g.marks new)) (λ _ n. n ≡ Some name) (g.attached old) (g.attached new)
+    pub named : MayFallSilent (SilenceCause (g.marks old) (g.marks new)) (λ _ n. n ≡ Some name) (g.attached old) (g.attached new)
     pub promised : g.attaches old name new
     pub later : IsLater (g.marks old) (g.marks new)
 
@@ -50,11 +50,11 @@ module _ {K : Type 0} (g : Ghosts K) (name : List ℕ) where
 
   -- Opened for an app, which is a sound one of which sessions can be opened, it was served: that began with the tables and the
   -- marks that it had then, without a session or a desk, and ended with those that it has now.
-  pub record IsServed (old new : K) (app : App) (serves : Standing → Standing → Type 0) : Type 0 where
-    pub accepted : IsSound app
+  pub record IsServed (old new : K) (app : App) (serves : OfficeAt → OfficeAt → Type 0) : Type 0 where
+    pub accepted : IsSoundApp app
     pub opens : CanOpen app.names
     pub opened : K
     pub is_opened : IsAsked (schema_of app) None old opened
-    pub state : State
+    pub state : OfficeState
     pub tables : state.tables ≡ g.told new
     pub served : serves (record { state = started app (g.told opened); marks = g.marks opened }) (record { state = state; marks = g.marks new })

@@ -9,16 +9,16 @@ use Rattle.view_text.specs.PlainText.{plain_text}
 use Rattle.office.specs.NamedReply.{IsNamedList}
 
 -- the line of a name with its value
-abbrev pub line_of : List ℕ × Data → List ℕ
-line_of shown = encode_utf8_all shown.0 ++ (codes " = " ++ (plain_text shown.1 ++ codes "\n"))
+abbrev pub value_line : List ℕ × Data → List ℕ
+value_line shown = encode_utf8_all shown.0 ++ (codes " = " ++ (plain_text shown.1 ++ codes "\n"))
 
 -- the text of an app at a moment: a line for each named formula, in order, with its value in a session that was just
 -- opened, where no rows are told
-abbrev pub IsShown : ℕ → App → List ℕ → Type 0
-IsShown moment app text =
-    (values : List (List ℕ × Data)) × IsNamedList (present app (opened app.names) None moment) values × (text ≡ flat_map line_of values)
+abbrev pub IsAppText : ℕ → App → List ℕ → Type 0
+IsAppText moment app text =
+    (values : List (List ℕ × Data)) × IsNamedList (present app (opened app.names) None moment) values × (text ≡ flat_map value_line values)
 
 -- that text at the one moment that a clock gave
 abbrev pub IsShownNow : Option (List ℕ) → Option (List ℕ) → App → List ℕ → Type 0
 IsShownNow clock clock_now app text =
-    (moment : ℕ) × Ticks clock (moment ∷ []) clock_now × IsShown moment app text
+    (moment : ℕ) × Ticks clock (moment ∷ []) clock_now × IsAppText moment app text

@@ -5,7 +5,7 @@ use Rattle.fx_base.specs.Faults.{Rose}
 use Rattle.fx_base.specs.Telling.{Tells}
 use Rattle.app_cells.specs.declared.app.App.{App}
 use Rattle.app_reports.specs.Plans.{checked_text}
-use Rattle.office.specs.app_loader.Judged.{Judged, JudgedApp, longest}
+use Rattle.office.specs.app_loader.Judged.{Judged, JudgedApp, most_source_bytes}
 use Rattle.app_wire.specs.Moments.{Tick}
 use Rattle.fx_core.specs.BrokenText.{ended_line}
 use Rattle.fx_core.specs.declared.broken.Broken.{Broken as Break}
@@ -13,9 +13,9 @@ use Rattle.fx_core.specs.declared.app_end.AppEnd.{AppEnd}
 use Rattle.fx_core.specs.declared.app_end.AppEnd.TheVariants as end
 use Rattle.fx_core.specs.declared.schema.Schema.{Schema}
 use Rattle.row_keeper.specs.declared.keeper.Keeper as keeper
-use Rattle.app_file.specs.Files.{most_bytes}
+use Rattle.app_file.specs.Files.{most_file_bytes}
 use Rattle.office.specs.State.{schema_of}
-use Rattle.fx_cli.specs.Held.{Standing}
+use Rattle.fx_cli.specs.Conversations.{OfficeAt}
 use Rattle.fx_cli.specs.Opening.{Counted, IsAsked, IsServed, IsStopped, Unsaid}
 use Rattle.fx_cli.specs.declared.files.Files as files
 use Rattle.fx_cli.specs.declared.replay.ReplayEnd.{ReplayEnd}
@@ -25,7 +25,7 @@ use Rattle.fx_cli.specs.declared.report.Report.TheVariants.{Shown, Checked, Brok
 use Rattle.fx_cli.specs.declared.sink.Sink as sink
 use Rattle.fx_cli.specs.declared.words.Form.{Form}
 use Rattle.fx_cli.specs.declared.words.Form.TheVariants.{View, Check, Serve}
-use Rattle.fx_cli.specs.Telling.{AreFirst, Contents, Grows, GrowsInPart}
+use Rattle.fx_cli.specs.Telling.{AreFirstBytes, Contents, Grows, GrowsInPart}
 
 unfoldable pub usage_text : List ℕ
 usage_text = codes "usage: pfx view FILE | check APP | replay APP | serve APP DB PORT [COUNT] | gen N\n"
@@ -49,10 +49,10 @@ abbrev pub unread_text : List ℕ → List ℕ
 unread_text name = codes "pfx: cannot read " ++ (name ++ codes "\n")
 
 -- one byte more than the longest file of each form
-abbrev pub most_read : Form → ℕ
-most_read View = longest + 1
-most_read Check = most_bytes + 1
-most_read Serve = most_bytes + 1
+abbrev pub most_file_read : Form → ℕ
+most_file_read View = most_source_bytes + 1
+most_file_read Check = most_file_bytes + 1
+most_file_read Serve = most_file_bytes + 1
 
 -- a form of words, and a file that goes with it
 abbrev pub Wanted : Type 0
@@ -68,10 +68,10 @@ pub record AsksFor {F : Type 0} (f : files.Ghosts F) (old new : F) (wanted : Wan
   pub grown : f.asked new ≡ f.asked old ++ name ∷ []
 
 -- The file that is wanted is the one that was asked for, and these are its first bytes, where that is told.
-pub record Takes {F : Type 0} (f : files.Ghosts F) (old new : F) (wanted : Wanted) (form : Form) (bytes : List ℕ) : Type 0 where
+pub record MatchesFile {F : Type 0} (f : files.Ghosts F) (old new : F) (wanted : Wanted) (form : Form) (bytes : List ℕ) : Type 0 where
   pub name : List ℕ
   pub asks : AsksFor f old new wanted form name
-  pub first : AreFirst (f.told old) name (most_read form) bytes
+  pub first : AreFirstBytes (f.told old) name (most_file_read form) bytes
 
 -- it is told that these are the first bytes of the file that is wanted
 pub record HasFile {F : Type 0} (f : files.Ghosts F) (files : F) (wanted : Wanted) (form : Form) (bytes : List ℕ) : Type 0 where
@@ -79,7 +79,7 @@ pub record HasFile {F : Type 0} (f : files.Ghosts F) (files : F) (wanted : Wante
   pub contents : Contents
   pub is_wanted : wanted ≡ Some (form, name)
   pub is_told : f.told files ≡ Some contents
-  pub first : option_map (take (most_read form)) (contents name) ≡ Some bytes
+  pub first : option_map (take (most_file_read form)) (contents name) ≡ Some bytes
 
 -- the bytes of a file, judged as its form is: a text of named formulas, or an app file
 abbrev pub JudgedAs : Form → List ℕ → Result App (List Break) → Type 0
@@ -88,10 +88,10 @@ JudgedAs Check = JudgedApp
 JudgedAs Serve = JudgedApp
 
 -- The file is named formulas that break no rule, and was shown so.
-pub record IsView {F : Type 0} (f : files.Ghosts F) (old new : F) (wanted : Wanted) (shows : App → Type 0) : Type 0 where
+pub record ReportsView {F : Type 0} (f : files.Ghosts F) (old new : F) (wanted : Wanted) (shows : App → Type 0) : Type 0 where
   pub bytes : List ℕ
   pub app : App
-  pub takes : Takes f old new wanted View bytes
+  pub takes : MatchesFile f old new wanted View bytes
   pub judged : Judged bytes (Ok app)
   pub shown : shows app
 
@@ -99,7 +99,7 @@ pub record IsView {F : Type 0} (f : files.Ghosts F) (old new : F) (wanted : Want
 pub record IsCheck {F : Type 0} (f : files.Ghosts F) (old new : F) (wanted : Wanted) (text : List ℕ) : Type 0 where
   pub bytes : List ℕ
   pub app : App
-  pub takes : Takes f old new wanted Check bytes
+  pub takes : MatchesFile f old new wanted Check bytes
   pub judged : JudgedApp bytes (Ok app)
   pub lines : text ≡ checked_text app
 
@@ -107,7 +107,7 @@ pub record IsCheck {F : Type 0} (f : files.Ghosts F) (old new : F) (wanted : Wan
 pub record IsService {F : Type 0} (f : files.Ghosts F) (old new : F) (wanted : Wanted) (ends : App → Type 0) : Type 0 where
   pub bytes : List ℕ
   pub app : App
-  pub takes : Takes f old new wanted Serve bytes
+  pub takes : MatchesFile f old new wanted Serve bytes
   pub judged : JudgedApp bytes (Ok app)
   pub ended : ends app
 
@@ -116,7 +116,7 @@ pub record IsBroken {F : Type 0} (f : files.Ghosts F) (old new : F) (wanted : Wa
   pub form : Form
   pub bytes : List ℕ
   pub breaks : List Break
-  pub takes : Takes f old new wanted form bytes
+  pub takes : MatchesFile f old new wanted form bytes
   pub judged : JudgedAs form bytes (Err breaks)
   pub lines : text ≡ flat_map ended_line breaks
 
@@ -130,7 +130,7 @@ pub record IsMissed {F : Type 0} (f : files.Ghosts F) (old new : F) (wanted : Wa
 
 -- When serving an app comes to each report: a call failed that opens the keeper over the store of a name, the keeper keeps
 -- another schema, or it was served up to an end, as `serves` says.
-abbrev pub EndsOver : {K : Type 0} → keeper.Ghosts K → List ℕ → K → K → (ReplayEnd → Standing → Standing → Type 0) → App → Report → Type 0
+abbrev pub EndsOver : {K : Type 0} → keeper.Ghosts K → List ℕ → K → K → (ReplayEnd → OfficeAt → OfficeAt → Type 0) → App → Report → Type 0
 EndsOver g store old new serves app KeeperFault = IsStopped g store Counted old new
 EndsOver g store old new serves app OtherSchema = (other : Schema) × IsAsked g store (schema_of app) (Some other) old new
 EndsOver g store old new serves app (Replayed end) = IsServed g store old new app (serves end)
@@ -140,7 +140,7 @@ EndsOver g store old new serves app r = ⊥
 -- When a run that wants this comes to each report. The values of an app were shown so, as `shows` says, and serving an app
 -- came to the report, as `ends` says.
 abbrev pub Reports : {F : Type 0} → files.Ghosts F → F → F → (App → String Global → Type 0) → (App → Report → Type 0) → Wanted → Report → Type 0
-Reports f old new shows ends wanted (Shown text) = IsView f old new wanted (λ app. shows app text)
+Reports f old new shows ends wanted (Shown text) = ReportsView f old new wanted (λ app. shows app text)
 Reports f old new shows ends wanted (Checked text) = IsCheck f old new wanted (string_bytes text)
 Reports f old new shows ends wanted (Broken text) = IsBroken f old new wanted (string_bytes text)
 Reports f old new shows ends wanted Usage = wanted ≡ None
@@ -158,16 +158,16 @@ abbrev pub no_service : App → Report → Type 0
 no_service app report = ⊥
 
 -- no conversation was begun
-abbrev pub IsIdle : Report → Type 0
-IsIdle (Replayed end) = ⊥
-IsIdle (Shown text) = Unit {0}
-IsIdle (Checked text) = Unit {0}
-IsIdle (Broken text) = Unit {0}
-IsIdle Usage = Unit {0}
-IsIdle OutOfMemory = Unit {0}
-IsIdle (Unread text) = Unit {0}
-IsIdle KeeperFault = Unit {0}
-IsIdle OtherSchema = Unit {0}
+abbrev pub NothingBegun : Report → Type 0
+NothingBegun (Replayed end) = ⊥
+NothingBegun (Shown text) = Unit {0}
+NothingBegun (Checked text) = Unit {0}
+NothingBegun (Broken text) = Unit {0}
+NothingBegun Usage = Unit {0}
+NothingBegun OutOfMemory = Unit {0}
+NothingBegun (Unread text) = Unit {0}
+NothingBegun KeeperFault = Unit {0}
+NothingBegun OtherSchema = Unit {0}
 
 -- nothing was evaluated
 abbrev pub IsTimeless : Report → Type 0
@@ -253,28 +253,28 @@ text_of_end replay.Fault = fault_text
 text_of_end replay.Full = limit_text
 
 -- what a report says
-abbrev pub text_of : Report → List ℕ
-text_of (Shown text) = string_bytes text
-text_of (Checked text) = string_bytes text
-text_of (Broken text) = string_bytes text
-text_of Usage = usage_text
-text_of OutOfMemory = memory_text
-text_of (Unread text) = string_bytes text
-text_of KeeperFault = keeper_text
-text_of OtherSchema = schema_text
-text_of (Replayed end) = text_of_end end
+abbrev pub report_text : Report → List ℕ
+report_text (Shown text) = string_bytes text
+report_text (Checked text) = string_bytes text
+report_text (Broken text) = string_bytes text
+report_text Usage = usage_text
+report_text OutOfMemory = memory_text
+report_text (Unread text) = string_bytes text
+report_text KeeperFault = keeper_text
+report_text OtherSchema = schema_text
+report_text (Replayed end) = text_of_end end
 
 -- a report was said: the run ends with its status and wrote its text, or a fault of the sink was counted, the run ends with
 -- 7 and wrote a first part of the text
 abbrev pub IsSaid : {O : Type 0} → sink.Ghosts O → O → O → Report → ℕ → Type 0
 IsSaid o old new report status =
-    ((status ≡ status_of report) × Tells (Grows (text_of report)) (o.told old) (o.told new))
-    ⊎ ((status ≡ 7) × Rose (o.faults old) (o.faults new) × Tells (GrowsInPart (text_of report)) (o.told old) (o.told new))
+    ((status ≡ status_of report) × Tells (Grows (report_text report)) (o.told old) (o.told new))
+    ⊎ ((status ≡ 7) × Rose (o.faults old) (o.faults new) × Tells (GrowsInPart (report_text report)) (o.told old) (o.told new))
 
 -- a run ended with this status, or for want of memory, or by a counted fault
-abbrev pub EndsWith : ℕ → ℕ → Type 0 → Type 0 → Type 0
-EndsWith wanted status files_rose sink_rose = (status ≡ wanted) ⊎ (status ≡ 3) ⊎ files_rose ⊎ sink_rose
+abbrev pub RunEndsWith : ℕ → ℕ → Type 0 → Type 0 → Type 0
+RunEndsWith wanted status files_rose sink_rose = (status ≡ wanted) ⊎ (status ≡ 3) ⊎ files_rose ⊎ sink_rose
 
 -- a run that serves an app ended so: its keeper failed or keeps another schema, the doors failed, the most was answered, or all was
 abbrev pub EndsService : ℕ → Type 0 → Type 0 → Type 0
-EndsService status files_rose sink_rose = (status ≡ 5) ⊎ (status ≡ 6) ⊎ (status ≡ 8) ⊎ (status ≡ 9) ⊎ EndsWith 0 status files_rose sink_rose
+EndsService status files_rose sink_rose = (status ≡ 5) ⊎ (status ≡ 6) ⊎ (status ≡ 8) ⊎ (status ≡ 9) ⊎ RunEndsWith 0 status files_rose sink_rose

@@ -8,12 +8,12 @@ use Rattle.app_cells.specs.declared.app.App.{App}
 use Rattle.fx_core.specs.declared.broken.Broken.{Broken as Break}
 use Rattle.office.specs.app_loader.Judged.{JudgedApp}
 use Rattle.sample_app.specs.Sample.{app_text}
-use Rattle.fx_cli.specs.Held.{Serves, Standing}
+use Rattle.fx_cli.specs.Conversations.{Serves, OfficeAt}
 use Rattle.fx_cli.specs.Opening.{IsServed, IsStopped, Unsaid}
 use Rattle.fx_cli.specs.Outside.{Outside, Sight, Work, WorkSight}
 use Rattle.fx_cli.specs.Plain.{IsShownNow}
 use Rattle.fx_cli.specs.Report as by_parts
-use Rattle.fx_cli.specs.Report.{EndsOver, EndsService, EndsWith, HasFile, IsReadOnceAtMost, IsSaid, IsService, JudgedAs, Wants}
+use Rattle.fx_cli.specs.Report.{EndsOver, EndsService, RunEndsWith, HasFile, IsReadOnceAtMost, IsSaid, IsService, JudgedAs, Wants}
 use Rattle.fx_cli.specs.Sampled.{ReportsSample}
 use Rattle.fx_cli.specs.Telling.{Grows}
 use Rattle.fx_cli.specs.Words.{sample, service, wanted}
@@ -26,7 +26,7 @@ use Rattle.fx_cli.specs.declared.words.Form.TheVariants.{View, Check, Serve}
 
 module _ {D K F C : Type 0} (see : WorkSight D K F C) (words : List (String Global)) (old new : Work D K F C) where
   -- an app was served as the words say, which brought its office from one standing to another and ended so
-  abbrev pub ServesTo : ReplayEnd → Standing → Standing → Type 0
+  abbrev pub ServesTo : ReplayEnd → OfficeAt → OfficeAt → Type 0
   ServesTo end a b = Serves (service words).port (service words).most (see.doors.single old.doors) a b
       (see.doors.faults old.doors) (see.doors.faults new.doors) (see.clock.told old.clock) (see.clock.told new.clock)
       (see.doors.told old.doors) (see.doors.told new.doors) end
@@ -75,7 +75,7 @@ module _ {D K F O C : Type 0} (see : Sight D K F O C) (words : List (String Glob
 
   -- It ended with this status, or for want of memory, or by a counted fault of the files or of the sink.
   abbrev pub EndsBut : ℕ → ℕ → Type 0
-  EndsBut wanted status = EndsWith wanted status FilesRose SinkRose
+  EndsBut wanted status = RunEndsWith wanted status FilesRose SinkRose
 
   -- A file that breaks no rule is shown or checked, and an app is served up to an end, where its keeper doesn't fail and keeps no
   -- other schema.

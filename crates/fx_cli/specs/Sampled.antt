@@ -2,7 +2,7 @@
 use Rattle.std.specs.Prelude.{◌≡◌, ℕ, List, [], ◌∷◌, length, map, flat_map, Option, Some, None, Result, Ok, Err, String, string_bytes}
 use Rattle.std.specs.declared.alloc.Global.{Global}
 use Rattle.fx_base.specs.Faults.{Rose}
-use Rattle.fx_base.specs.Silence.{Goes, IsLater, IsLost, Marks}
+use Rattle.fx_base.specs.Silence.{MayFallSilent, IsLater, SilenceCause, Marks}
 use Rattle.fx_base.specs.Telling.{Tells}
 use Rattle.app_cells.specs.declared.app.App.{App}
 use Rattle.app_wire.specs.Framing.{Asked}
@@ -10,16 +10,16 @@ use Rattle.fx_core.specs.BrokenText.{ended_line}
 use Rattle.fx_core.specs.declared.broken.Broken.{Broken as Break}
 use Rattle.fx_core.specs.declared.schema.Schema.{Schema}
 use Rattle.office.specs.Answers.{Exchange}
-use Rattle.office.specs.State.{State, schema_of}
+use Rattle.office.specs.State.{OfficeState, schema_of}
 use Rattle.office.specs.Step.{Step}
 use Rattle.office.specs.app_loader.Judged.{JudgedApp}
 use Rattle.row_keeper.specs.declared.keeper.Keeper.{Ghosts}
 use Rattle.row_keeper.specs.declared.keeper.KeeperEnd.{KeeperEnd}
 use Rattle.row_keeper.specs.declared.keeper.KeeperEnd.TheVariants.{Failed, Memory}
-use Rattle.sample_app.specs.Counts.{HasRows}
+use Rattle.sample_app.specs.Counts.{HasRowCount}
 use Rattle.sample_app.specs.Sample.{app_text, requests}
 use Rattle.sample_app.specs.Summary.{summary}
-use Rattle.fx_cli.specs.Held.{Standing}
+use Rattle.fx_cli.specs.Conversations.{OfficeAt}
 use Rattle.fx_cli.specs.Opening.{IsAsked, IsServed}
 use Rattle.fx_cli.specs.Telling.{Grows}
 use Rattle.fx_cli.specs.declared.report.Report.{Report}
@@ -31,25 +31,25 @@ sample_moment = 1704067200
 
 -- From old the office answers these, one after another, each by its step at this moment, and is new then: none by want of memory
 -- or by a fault.
-abbrev pub Performs : ℕ → State → Marks → List Exchange → State → Marks → Type 0
-Performs moment old before [] new now = (new ≡ old) × (now ≡ before)
-Performs moment old before (x ∷ xs) new now =
-    (x.moment ≡ moment) × IsLater before x.marks × Step (IsLost before x.marks) old moment x.asked x.said x.state × Performs moment x.state x.marks xs new now
+abbrev pub PlaysSample : ℕ → OfficeState → Marks → List Exchange → OfficeState → Marks → Type 0
+PlaysSample moment old before [] new now = (new ≡ old) × (now ≡ before)
+PlaysSample moment old before (x ∷ xs) new now =
+    (x.moment ≡ moment) × IsLater before x.marks × Step (SilenceCause before x.marks) old moment x.asked x.said x.state × PlaysSample moment x.state x.marks xs new now
 
 -- these requests were answered so, at the moment of the sample, with these replies
-pub record IsPlayed (asked : List Asked) (replies : List (List ℕ)) (old new : Standing) : Type 0 where
+pub record IsPlayed (asked : List Asked) (replies : List (List ℕ)) (old new : OfficeAt) : Type 0 where
   pub exchanges : List Exchange
   pub asked_are : map (λ (x : Exchange). x.asked) exchanges ≡ asked
   pub replies_are : map (λ (x : Exchange). x.said) exchanges ≡ replies
-  pub performed : Performs sample_moment old.state old.marks exchanges new.state new.marks
+  pub performed : PlaysSample sample_moment old.state old.marks exchanges new.state new.marks
 
 -- These requests were answered so, the rows were counted then, and this is told of it.
-pub record IsSampled (asked : List Asked) (old new : Standing) (text : List ℕ) : Type 0 where
+pub record IsSampled (asked : List Asked) (old new : OfficeAt) (text : List ℕ) : Type 0 where
   pub replies : List (List ℕ)
-  pub between : Standing
+  pub between : OfficeAt
   pub played : IsPlayed asked replies old between
   pub rows : ℕ
-  pub counted : Goes (IsLost between.marks new.marks) (HasRows rows) between.state.tables new.state.tables
+  pub counted : MayFallSilent (SilenceCause between.marks new.marks) (HasRowCount rows) between.state.tables new.state.tables
   pub others : new.state ≡ record between.state { tables = new.state.tables }
   pub later : IsLater between.marks new.marks
   pub told : text ≡ summary rows (length between.state.sessions) replies
@@ -84,7 +84,7 @@ pub record IsGenerated {K : Type 0} (g : Ghosts K) (n : ℕ) (old new : K) (out 
   pub written : Tells (Grows text) out out_now
 
 -- the report of what is told, or of what stopped the requests
-abbrev pub IsTold : Result (String Global) KeeperEnd → Report → Type 0
-IsTold (Ok text) r = r ≡ Shown text
-IsTold (Err Memory) r = r ≡ OutOfMemory
-IsTold (Err Failed) r = r ≡ KeeperFault
+abbrev pub IsSampleReport : Result (String Global) KeeperEnd → Report → Type 0
+IsSampleReport (Ok text) r = r ≡ Shown text
+IsSampleReport (Err Memory) r = r ≡ OutOfMemory
+IsSampleReport (Err Failed) r = r ≡ KeeperFault

@@ -9,8 +9,8 @@ abbrev pub Contents : Type 0
 Contents = List ℕ → Option (List ℕ)
 
 -- these are the first bytes of the file of this name, where that is told
-abbrev pub AreFirst : Option Contents → List ℕ → ℕ → List ℕ → Type 0
-AreFirst told name most bytes = (contents : Contents) → told ≡ Some contents → option_map (take most) (contents name) ≡ Some bytes
+abbrev pub AreFirstBytes : Option Contents → List ℕ → ℕ → List ℕ → Type 0
+AreFirstBytes told name most bytes = (contents : Contents) → told ≡ Some contents → option_map (take most) (contents name) ≡ Some bytes
 
 -- the names asked for, after a call for this one
 abbrev pub asked_after : {T : Type 0} → Result T FileEnd → List (List ℕ) → List ℕ → List (List ℕ)
@@ -19,10 +19,10 @@ asked_after (Err Failed) asked name = asked ++ name ∷ []
 asked_after (Err Memory) asked name = asked
 
 -- a fault is counted where a call fails, and none where memory runs out
-abbrev pub Counts : {T : Type 0} → Result T FileEnd → ℕ → ℕ → Type 0
-Counts (Ok bytes) before now = before ≤ now
-Counts (Err Failed) before now = Rose before now
-Counts (Err Memory) before now = now ≡ before
+abbrev pub CountsFault : {T : Type 0} → Result T FileEnd → ℕ → ℕ → Type 0
+CountsFault (Ok bytes) before now = before ≤ now
+CountsFault (Err Failed) before now = Rose before now
+CountsFault (Err Memory) before now = now ≡ before
 
 -- what was written grows by these bytes
 abbrev pub Grows : List ℕ → List ℕ → List ℕ → Type 0

@@ -24,8 +24,8 @@ number_to most text = if is_number_to most text then Some (digits_value 10 text)
 abbrev pub port_of : List ℕ → Option ℕ
 port_of text = number_to 65535 text
 
-abbrev pub count_of : List ℕ → Option ℕ
-count_of text = number_to 1000000000 text
+abbrev pub service_count : List ℕ → Option ℕ
+service_count text = number_to 1000000000 text
 
 -- it is this word
 abbrev pub is_word : List ℕ → String Global → Bool
@@ -47,7 +47,7 @@ wanted (command ∷ app ∷ store ∷ []) = None
 wanted (command ∷ app ∷ store ∷ port ∷ []) =
     app_if (is_word (codes "serve") command && is_some (port_of (string_bytes port))) (string_bytes app)
 wanted (command ∷ app ∷ store ∷ port ∷ count ∷ []) =
-    app_if (is_word (codes "serve") command && (is_some (port_of (string_bytes port)) && is_some (count_of (string_bytes count)))) (string_bytes app)
+    app_if (is_word (codes "serve") command && (is_some (port_of (string_bytes port)) && is_some (service_count (string_bytes count)))) (string_bytes app)
 wanted (command ∷ app ∷ store ∷ port ∷ count ∷ other ∷ words) = None
 
 -- plain digits that write a number of at most 1,000,000
@@ -79,5 +79,5 @@ or_usual (Some n) = n
 abbrev pub service : List (String Global) → Service
 service (command ∷ app ∷ store ∷ port ∷ []) = record { store = string_bytes store; port = port_of (string_bytes port); most = 1000000 }
 service (command ∷ app ∷ store ∷ port ∷ count ∷ []) =
-    record { store = string_bytes store; port = port_of (string_bytes port); most = or_usual (count_of (string_bytes count)) }
+    record { store = string_bytes store; port = port_of (string_bytes port); most = or_usual (service_count (string_bytes count)) }
 service words = record { store = []; port = None; most = 1000000 }

@@ -1,7 +1,7 @@
 //! Where a run reads.
 ghost use Rattle.fx_cli.specs.declared.files.FileEnd.TheVariants.{Memory};
 ghost use Rattle.std.specs.Prelude.{◌≡◌, ◌++◌, ◌∷◌, [], ◌≤◌, ℕ, IfOk, List, OnErr, OnOk, Option, map, string_bytes, vec_len};
-ghost use Rattle.fx_cli.specs.Telling.{AreFirst, Contents, Counts, asked_after};
+ghost use Rattle.fx_cli.specs.Telling.{AreFirstBytes, Contents, CountsFault, asked_after};
 
 use fx_base::Memory;
 use std::alloc::Global;
@@ -38,10 +38,10 @@ pub trait Files {
 
     /// The first `most` bytes of a file, or all where it has no more.
     fn read(&mut self, name: &str, most: u32) -> Result<Vec<u8>, FileEnd>
-        ensures bytes { IfOk result (λ v. AreFirst (told self.old) name.now most v.items) }
+        ensures bytes { IfOk result (λ v. AreFirstBytes (told self.old) name.now most v.items) }
         ensures short { IfOk result (λ v. vec_len v ≤ most) }
         ensures asked { asked self.new ≡ asked_after result (asked self.old) name.now }
-        ensures faults { Counts result (faults self.old) (faults self.new) }
+        ensures faults { CountsFault result (faults self.old) (faults self.new) }
         ensures later { faults self.old ≤ faults self.new }
         ensures told { told self.new ≡ told self.old };
 }

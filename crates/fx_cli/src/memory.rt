@@ -1,6 +1,6 @@
 //! Files and a sink in memory, which can fail at any call.
 ghost use Rattle.std.specs.Prelude.{◌≡◌, IfOk, Some, [], option_copied, option_map, take};
-ghost use Rattle.fx_base.specs.Faults.{planned};
+ghost use Rattle.fx_base.specs.Faults.{fault_plan};
 ghost use Rattle.fx_cli.specs.Disk.{bytes_named, files_of};
 
 use crate::files::{AskedNames, FileEnd, Files};
@@ -33,7 +33,7 @@ impl MemoryFiles {
     pub fn new(alloc: Global, files: Vec<(String, Vec<u8>)>, fails: Vec<u64>) -> MemoryFiles
         ensures files { result.files ≡ files_of files.items }
         ensures asked { result.asked ≡ [] }
-        ensures plan { result.plan ≡ planned fails.items }
+        ensures plan { result.plan ≡ fault_plan fails.items }
     {
         MemoryFiles {
             alloc,
@@ -120,7 +120,7 @@ impl MemorySink {
     /// Nothing is written yet. The calls of the numbers in `fails`, counted from 1, fail.
     pub fn new(alloc: Global, fails: Vec<u64>) -> MemorySink
         ensures written { result.written ≡ [] }
-        ensures plan { result.plan ≡ planned fails.items }
+        ensures plan { result.plan ≡ fault_plan fails.items }
     {
         MemorySink {
             written: Vec::new(alloc),

@@ -3,8 +3,8 @@ ghost use Rattle.std.specs.Prelude.{◌≡◌, ◌≢◌, ◌≤◌, IfOk, IfSom
 ghost use Rattle.fx_base.specs.Faults.{Rose};
 ghost use Rattle.fx_base.specs.Silence.{IsLater};
 ghost use Rattle.fx_base.specs.Telling.{Stays, Tells};
-ghost use Rattle.app_wire.specs.Doorway.{Comes};
-ghost use Rattle.fx_cli.specs.Held.{HoldsNext, Replayed, Serves, StopsAt, standing};
+ghost use Rattle.app_wire.specs.Doorway.{NextComes};
+ghost use Rattle.fx_cli.specs.Conversations.{HoldsNext, Replayed, Serves, StopsAt, office_at};
 ghost use Rattle.fx_cli.specs.declared.replay.ReplayEnd.TheVariants.{Fault};
 
 use crate::words::Service;
@@ -34,7 +34,7 @@ pub fn hold_all<K: Keeper + Drop, D: Doors, C: Clock, L: Ledger>(
     clock: &mut C,
     steps: &mut Steps<L>,
 ) -> ReplayEnd
-    ensures served { Serves service.entry.port service.entry.most (D.single doors.old) (standing office.old) (standing office.new) (D.faults doors.old) (D.faults doors.new) (C.told clock.old) (C.told clock.new) (D.told doors.old) (D.told doors.new) result }
+    ensures served { Serves service.entry.port service.entry.most (D.single doors.old) (office_at office.old) (office_at office.new) (D.faults doors.old) (D.faults doors.new) (C.told clock.old) (C.told clock.new) (D.told doors.old) (D.told doors.new) result }
     ensures cause { result ≡ ReplayEnd.Fault → Rose (D.faults doors.old) (D.faults doors.new) }
     ensures later { D.faults doors.old ≤ D.faults doors.new }
     ensures marks { IsLater office.old.marks office.new.marks }
@@ -55,7 +55,7 @@ fn hold_on_port<K: Keeper + Drop, D: Doors, C: Clock, L: Ledger>(
     clock: &mut C,
     steps: &mut Steps<L>,
 ) -> ReplayEnd
-    ensures served { Serves (Some port) most (D.single doors.old) (standing office.old) (standing office.new) (D.faults doors.old) (D.faults doors.new) (C.told clock.old) (C.told clock.new) (D.told doors.old) (D.told doors.new) result }
+    ensures served { Serves (Some port) most (D.single doors.old) (office_at office.old) (office_at office.new) (D.faults doors.old) (D.faults doors.new) (C.told clock.old) (C.told clock.new) (D.told doors.old) (D.told doors.new) result }
     ensures cause { result ≡ ReplayEnd.Fault → Rose (D.faults doors.old) (D.faults doors.new) }
     ensures later { D.faults doors.old ≤ D.faults doors.new }
     ensures marks { IsLater office.old.marks office.new.marks }
@@ -77,7 +77,7 @@ pub fn replay<K: Keeper + Drop, D: Doors, C: Clock, L: Ledger>(
     at_most: ReplayEnd,
 ) -> ReplayEnd
     requires { at_most ≢ Fault }
-    ensures replayed { Replayed most at_most (D.single doors.old) (standing office.old) (standing office.new) (D.faults doors.old) (D.faults doors.new) (C.told clock.old) (C.told clock.new) (D.told doors.old) (D.told doors.new) result }
+    ensures replayed { Replayed most at_most (D.single doors.old) (office_at office.old) (office_at office.new) (D.faults doors.old) (D.faults doors.new) (C.told clock.old) (C.told clock.new) (D.told doors.old) (D.told doors.new) result }
     ensures cause { result ≡ ReplayEnd.Fault → Rose (D.faults doors.old) (D.faults doors.new) }
     ensures later { D.faults doors.old ≤ D.faults doors.new }
     ensures marks { IsLater office.old.marks office.new.marks }
@@ -117,8 +117,8 @@ fn hold_next<K: Keeper + Drop, D: Doors, C: Clock, L: Ledger>(
     clock: &mut C,
     steps: &mut Steps<L>,
 ) -> Result<Option<ConvEnd>, Failed>
-    ensures held { IfOk result (λ turn. IfSome turn (λ end. HoldsNext (D.single doors.old) end (standing office.old) (standing office.new) (D.faults doors.old) (D.faults doors.new) (C.told clock.old) (C.told clock.new) (D.told doors.old) (D.told doors.new))) }
-    ensures none { result ≡ Ok None → Tells (Comes false) (D.told doors.old) (D.told doors.new) }
+    ensures held { IfOk result (λ turn. IfSome turn (λ end. HoldsNext (D.single doors.old) end (office_at office.old) (office_at office.new) (D.faults doors.old) (D.faults doors.new) (C.told clock.old) (C.told clock.new) (D.told doors.old) (D.told doors.new))) }
+    ensures none { result ≡ Ok None → Tells (NextComes false) (D.told doors.old) (D.told doors.new) }
     ensures same { result ≡ Ok None → (clock.new ≡ clock.old) × (office.new ≡ office.old) }
     ensures failed { OnErr result (Tells Stays (D.told doors.old) (D.told doors.new) × (clock.new ≡ clock.old) × (office.new ≡ office.old)) }
     ensures cause { OnErr result (Rose (D.faults doors.old) (D.faults doors.new)) }

@@ -3,16 +3,16 @@ ghost use Rattle.std.specs.Prelude.{◌≡◌, ◌≤◌, [], Some, false, strin
 ghost use Rattle.fx_base.specs.Faults.{Rose};
 ghost use Rattle.fx_base.specs.Silence.{IsLater};
 ghost use Rattle.office.specs.app_loader.Edits.{IsLoaded};
-ghost use Rattle.office.specs.app_semantics.Sound.{IsSound};
+ghost use Rattle.office.specs.app_semantics.Sound.{IsSoundApp};
 ghost use Rattle.office.specs.session_requests.Opening.{CanOpen};
-ghost use Rattle.office.specs.State.{State, schema_of, started};
+ghost use Rattle.office.specs.State.{OfficeState, schema_of, started};
 ghost use Rattle.row_requests.specs.Sound.{AreSound};
 ghost use Rattle.session_state.specs.Changes.{HoldsTables};
-ghost use Rattle.fx_cli.specs.Held.{Serves};
+ghost use Rattle.fx_cli.specs.Conversations.{Serves};
 ghost use Rattle.fx_cli.specs.Outside.{work_of, work_sight};
-ghost use Rattle.fx_cli.specs.Plain.{IsShown, IsShownNow};
+ghost use Rattle.fx_cli.specs.Plain.{IsAppText, IsShownNow};
 ghost use Rattle.fx_cli.specs.Report as by_parts;
-ghost use Rattle.fx_cli.specs.Report.{EndsOver, IsChecking, IsIdle, IsReadOnceAtMost, IsRefusal, IsShowing, IsTimeless, IsUnread, LeavesKeeper, fault_text, keeper_text, limit_text, memory_text, no_service, no_show, schema_text, status_of, status_of_end, text_of, text_of_end, unread_text, usage_text};
+ghost use Rattle.fx_cli.specs.Report.{EndsOver, IsChecking, NothingBegun, IsReadOnceAtMost, IsRefusal, IsShowing, IsTimeless, IsUnread, LeavesKeeper, fault_text, keeper_text, limit_text, memory_text, no_service, no_show, schema_text, status_of, status_of_end, report_text, text_of_end, unread_text, usage_text};
 ghost use Rattle.fx_cli.specs.Run.{LeavesAlone, Reports};
 ghost use Rattle.fx_cli.specs.declared.words.Form.TheVariants.{Check, Serve, View};
 
@@ -76,7 +76,7 @@ impl Report {
 
     /// What it says.
     pub fn text(&self) -> &[u8]
-        ensures { result.now ≡ text_of self.now }
+        ensures { result.now ≡ report_text self.now }
     {
         match self {
             Report::Shown(text) => text.as_bytes(),
@@ -255,10 +255,10 @@ fn check(alloc: Global, app: &App) -> Report
 
 /// The values of an app's formulas at a moment.
 fn show<L: Ledger>(alloc: Global, app: &App, moment: u64, steps: &mut Steps<L>) -> Report
-    requires sound { IsSound app.now }
+    requires sound { IsSoundApp app.now }
     requires tables { HoldsTables app.now.names }
     requires bare { app.now.names.schema.tables ≡ [] }
-    ensures { IsShowing (IsShown moment app.now) result }
+    ensures { IsShowing (IsAppText moment app.now) result }
 {
     match view_text(alloc, app, moment, steps) {
         Ok(text) => Report::Shown(text),
@@ -282,7 +282,7 @@ fn serve_file<D: Doors, K: Keeper, F: Files, C: Clock, L: Ledger>(
         (EndsOver K.Keeper service.entry.store.now keeper.old keeper.new
         (λ end old new. Serves service.entry.port service.entry.most (D.single doors.old) old new (D.faults doors.old) (D.faults doors.new) (C.told clock.old) (C.told clock.new) (D.told doors.old) (D.told doors.new) end)) (Some (Serve, name.now)) result }
     ensures cause { result ≡ Report.Replayed ReplayEnd.Fault → Rose (D.faults doors.old) (D.faults doors.new) }
-    ensures unheld { IsIdle result → (doors.new ≡ doors.old) × (clock.new ≡ clock.old) }
+    ensures unheld { NothingBegun result → (doors.new ≡ doors.old) × (clock.new ≡ clock.old) }
     ensures unopened { LeavesKeeper K.Keeper service.entry.store.now keeper.old keeper.new result }
     ensures later { F.faults files.old ≤ F.faults files.new }
     ensures doors_later { D.faults doors.old ≤ D.faults doors.new }
@@ -314,13 +314,13 @@ fn serve_app<D: Doors, K: Keeper, C: Clock, L: Ledger>(
     steps: &mut Steps<L>,
 ) -> Report
     requires idle { K.in_transaction keeper.old ≡ false }
-    requires app { IsSound app }
+    requires app { IsSoundApp app }
     requires loaded { IsLoaded app }
     requires opens { CanOpen app.names }
     ensures ends { EndsOver K.Keeper service.entry.store.now keeper.old keeper.new
         (λ end old new. Serves service.entry.port service.entry.most (D.single doors.old) old new (D.faults doors.old) (D.faults doors.new) (C.told clock.old) (C.told clock.new) (D.told doors.old) (D.told doors.new) end) app result }
     ensures cause { result ≡ Report.Replayed ReplayEnd.Fault → Rose (D.faults doors.old) (D.faults doors.new) }
-    ensures unheld { IsIdle result → (doors.new ≡ doors.old) × (clock.new ≡ clock.old) }
+    ensures unheld { NothingBegun result → (doors.new ≡ doors.old) × (clock.new ≡ clock.old) }
     ensures unopened { LeavesKeeper K.Keeper service.entry.store.now keeper.old keeper.new result }
     ensures doors_later { D.faults doors.old ≤ D.faults doors.new }
     ensures keeper_later { IsLater (K.marks keeper.old) (K.marks keeper.new) }
@@ -354,11 +354,11 @@ fn serve_over<D: Doors, K: Keeper, C: Clock, L: Ledger>(
 ) -> ReplayEnd
     requires idle { K.in_transaction keeper.old ≡ false }
     requires shaped { K.shaped keeper.old ≡ Some (schema_of app) }
-    requires app { IsSound app }
+    requires app { IsSoundApp app }
     requires loaded { IsLoaded app }
     requires opens { CanOpen app.names }
     requires sound { AreSound (schema_of app) (K.told keeper.old) }
-    ensures served { (state : State) × (state.tables ≡ K.told keeper.new)
+    ensures served { (state : OfficeState) × (state.tables ≡ K.told keeper.new)
         × Serves service.entry.port service.entry.most (D.single doors.old) (record { state = started app (K.told keeper.old); marks = K.marks keeper.old }) (record { state = state; marks = K.marks keeper.new })
         (D.faults doors.old) (D.faults doors.new) (C.told clock.old) (C.told clock.new) (D.told doors.old) (D.told doors.new) result }
     ensures cause { result ≡ ReplayEnd.Fault → Rose (D.faults doors.old) (D.faults doors.new) }

@@ -6,18 +6,18 @@ ghost use Rattle.fx_base.specs.Faults.{Rose};
 ghost use Rattle.fx_base.specs.Silence.{IsLater};
 ghost use Rattle.fx_core.specs.declared.broken.Broken.{Broken};
 ghost use Rattle.office.specs.session_requests.Opening.{CanOpen};
-ghost use Rattle.office.specs.State.{State, schema_of, started};
+ghost use Rattle.office.specs.State.{OfficeState, schema_of, started};
 ghost use Rattle.office.specs.app_loader.Edits.{IsLoaded};
 ghost use Rattle.office.specs.app_loader.Judged.{JudgedApp};
-ghost use Rattle.office.specs.app_semantics.Sound.{IsSound};
+ghost use Rattle.office.specs.app_semantics.Sound.{IsSoundApp};
 ghost use Rattle.numbered_requests.specs.Replies.{IsReply, said};
 ghost use Rattle.row_requests.specs.Sound.{AreSound};
-ghost use Rattle.sample_app.specs.Counts.{HasRows};
+ghost use Rattle.sample_app.specs.Counts.{HasRowCount};
 ghost use Rattle.sample_app.specs.Sample.{app_text as sample_text};
 ghost use Rattle.sample_app.specs.Summary.{summary as summary_of};
-ghost use Rattle.fx_cli.specs.Held.{standing};
-ghost use Rattle.fx_cli.specs.Report.{EndsWith, IsSaid};
-ghost use Rattle.fx_cli.specs.Sampled.{EndsSample, IsPlayed, IsSampled, IsTold, ReportsSample};
+ghost use Rattle.fx_cli.specs.Conversations.{office_at};
+ghost use Rattle.fx_cli.specs.Report.{RunEndsWith, IsSaid};
+ghost use Rattle.fx_cli.specs.Sampled.{EndsSample, IsPlayed, IsSampled, IsSampleReport, ReportsSample};
 ghost use Rattle.row_keeper.specs.Causes as by_marks;
 ghost use Rattle.row_keeper.specs.Over.{Becomes, HasCause};
 
@@ -49,7 +49,7 @@ pub(crate) fn run_sample<K: Keeper, O: Sink, L: Ledger>(
     requires idle { K.in_transaction keeper.old ≡ false }
     requires few { n ≤ 1000000 }
     ensures sampled { (report : Report) × ReportsSample K.Keeper n keeper.old keeper.new report × IsSaid O.Sink out.old out.new report result.0 }
-    ensures spoilt { (bs : List Broken) → JudgedApp sample_text (Err bs) → EndsWith 1 result.0 ⊥ (Rose (O.faults out.old) (O.faults out.new)) }
+    ensures spoilt { (bs : List Broken) → JudgedApp sample_text (Err bs) → RunEndsWith 1 result.0 ⊥ (Rose (O.faults out.old) (O.faults out.new)) }
     ensures keeper_later { IsLater (K.marks keeper.old) (K.marks keeper.new) }
     ensures out_later { O.faults out.old ≤ O.faults out.new }
     ensures idle { K.in_transaction keeper.new ≡ false }
@@ -91,7 +91,7 @@ fn put_app<K: Keeper, L: Ledger>(
 ) -> Report
     requires idle { K.in_transaction keeper.old ≡ false }
     requires few { n ≤ 1000000 }
-    requires app { IsSound app }
+    requires app { IsSoundApp app }
     requires loaded { IsLoaded app }
     requires opens { CanOpen app.names }
     ensures ends { EndsSample K.Keeper n keeper.old keeper.new app result }
@@ -117,7 +117,7 @@ fn put_app<K: Keeper, L: Ledger>(
 
 /// The report of what is told, or of what stopped the requests.
 fn report_of(told: Result<String, KeeperEnd>) -> Report
-    ensures { IsTold told result }
+    ensures { IsSampleReport told result }
 {
     match told {
         Ok(text) => Report::Shown(text),
@@ -137,11 +137,11 @@ fn put_over<K: Keeper, L: Ledger>(
 ) -> Result<String, KeeperEnd>
     requires idle { K.in_transaction keeper.old ≡ false }
     requires shaped { K.shaped keeper.old ≡ Some (schema_of app) }
-    requires app { IsSound app }
+    requires app { IsSoundApp app }
     requires loaded { IsLoaded app }
     requires opens { CanOpen app.names }
     requires sound { AreSound (schema_of app) (K.told keeper.old) }
-    ensures sampled { IfOk result (λ text. (state : State) × (state.tables ≡ K.told keeper.new)
+    ensures sampled { IfOk result (λ text. (state : OfficeState) × (state.tables ≡ K.told keeper.new)
         × IsSampled (map asked requests.now) (record { state = started app (K.told keeper.old); marks = K.marks keeper.old }) (record { state = state; marks = K.marks keeper.new }) (string_bytes text)) }
     ensures cause { HasCause K.Keeper keeper.old keeper.new result }
     ensures idle { K.in_transaction keeper.new ≡ false }
@@ -170,11 +170,11 @@ fn play_over<K: Keeper, L: Ledger>(
 ) -> Result<Played, KeeperEnd>
     requires idle { K.in_transaction keeper.old ≡ false }
     requires shaped { K.shaped keeper.old ≡ Some (schema_of app) }
-    requires app { IsSound app }
+    requires app { IsSoundApp app }
     requires loaded { IsLoaded app }
     requires opens { CanOpen app.names }
     requires sound { AreSound (schema_of app) (K.told keeper.old) }
-    ensures played { IfOk result (λ p. (state : State) × (state.tables ≡ K.told keeper.new) × (p.sessions ≡ length state.sessions)
+    ensures played { IfOk result (λ p. (state : OfficeState) × (state.tables ≡ K.told keeper.new) × (p.sessions ≡ length state.sessions)
         × IsPlayed (map asked requests.now) (map said p.replies.items) (record { state = started app (K.told keeper.old); marks = K.marks keeper.old }) (record { state = state; marks = K.marks keeper.new })) }
     ensures whole { IfOk result (λ p. All IsReply p.replies.items) }
     ensures shaped { IfOk result (λ p. K.shaped keeper.new ≡ Some (schema_of p.app)) }
@@ -205,7 +205,7 @@ fn play<K: Keeper + Drop, L: Ledger>(
     requests: &[Request],
     steps: &mut Steps<L>,
 ) -> Result<Vec<Reply>, KeeperEnd>
-    ensures played { IfOk result (λ replies. IsPlayed (map asked requests.now) (map said replies.items) (standing office.old) (standing office.new)) }
+    ensures played { IfOk result (λ replies. IsPlayed (map asked requests.now) (map said replies.items) (office_at office.old) (office_at office.new)) }
     ensures whole { IfOk result (λ replies. All IsReply replies.items) }
     ensures cause { by_marks.HasCause office.old.marks office.new.marks result }
     ensures loan { office.new.loan ≡ office.old.loan }
@@ -224,7 +224,7 @@ fn tell<K: Keeper>(alloc: Global, played: &Played, keeper: &mut K) -> Result<Str
     requires sound { AreSound (schema_of played.now.app) (K.told keeper.old) }
     requires whole { All IsReply played.now.replies.items }
     ensures told { IfOk result (λ text. (rows : ℕ) × Becomes K.Keeper keeper.old keeper.new
-        (HasRows rows)
+        (HasRowCount rows)
         × (string_bytes text ≡ summary_of rows played.now.sessions (map said played.now.replies.items))) }
     ensures cause { HasCause K.Keeper keeper.old keeper.new result }
     ensures mode { K.in_transaction keeper.new ≡ K.in_transaction keeper.old }

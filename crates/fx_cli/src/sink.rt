@@ -1,7 +1,7 @@
 //! Where a run writes.
 ghost use Rattle.std.specs.Prelude.{◌≡◌, ◌<◌, ◌≤◌, ℕ, IfOk, List, OnErr, OnOk, Option, length, take};
 ghost use Rattle.std.specs.Io.{WritesAtMost};
-ghost use Rattle.fx_base.specs.Faults.{HasCause};
+ghost use Rattle.fx_base.specs.Faults.{HasFaultCause};
 ghost use Rattle.fx_base.specs.Telling.{Changes, Stays, Tells};
 ghost use Rattle.fx_cli.specs.Telling.{Grows, GrowsInPart};
 
@@ -21,14 +21,14 @@ pub trait Sink {
         ensures some { IfOk result (λ n. 0 < length piece.now → 0 < n) }
         ensures ok { IfOk result (λ n. Changes (Grows (take n piece.now)) (told self.old) (told self.new)) }
         ensures err { OnErr result (Changes Stays (told self.old) (told self.new)) }
-        ensures cause { HasCause (faults self.old) (faults self.new) result };
+        ensures cause { HasFaultCause (faults self.old) (faults self.new) result };
 }
 
 /// Writes all of the text, or a part of it where the sink fails.
 pub fn write_all<O: Sink>(out: &mut O, text: &[u8]) -> Result<(), Failed>
     ensures ok { OnOk result (Tells (Grows text.now) (O.told out.old) (O.told out.new)) }
     ensures err { OnErr result (Tells (GrowsInPart text.now) (O.told out.old) (O.told out.new)) }
-    ensures cause { HasCause (O.faults out.old) (O.faults out.new) result }
+    ensures cause { HasFaultCause (O.faults out.old) (O.faults out.new) result }
 {
     let mut at = 0;
     'writing: while at < text.len() {

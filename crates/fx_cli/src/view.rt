@@ -1,9 +1,9 @@
 //! What `view` prints: each named formula of an app with its value.
 ghost use Rattle.std.specs.Prelude.{◌≡◌, ◌++◌, [], IfOk, OnOk, flat_map, map, string_bytes};
-ghost use Rattle.office.specs.app_semantics.Sound.{IsSound};
+ghost use Rattle.office.specs.app_semantics.Sound.{IsSoundApp};
 ghost use Rattle.session_state.specs.Changes.{HoldsTables};
-ghost use Rattle.office.specs.NamedReply.{shown};
-ghost use Rattle.fx_cli.specs.Plain.{IsShown, line_of};
+ghost use Rattle.office.specs.NamedReply.{reply_row};
+ghost use Rattle.fx_cli.specs.Plain.{IsAppText, value_line};
 
 use app_cells::App;
 use fx_base::Memory;
@@ -24,10 +24,10 @@ pub fn view_text<L: Ledger>(
     moment: u64,
     steps: &mut Steps<L>,
 ) -> Result<String, Memory>
-    requires sound { IsSound app.now }
+    requires sound { IsSoundApp app.now }
     requires tables { HoldsTables app.now.names }
     requires bare { app.now.names.schema.tables ≡ [] }
-    ensures { IfOk result (λ text. IsShown moment app.now (string_bytes text)) }
+    ensures { IfOk result (λ text. IsAppText moment app.now (string_bytes text)) }
 {
     let session = Session::new(alloc, &app.names)?;
     let mut keeper = MemoryKeeper::new(alloc, FaultPlan::new(Vec::new(alloc)));
@@ -40,7 +40,7 @@ pub fn view_text<L: Ledger>(
 
 /// The lines of values.
 fn values_text(alloc: Global, values: &[Named]) -> Result<String, Memory>
-    ensures { IfOk result (λ text. string_bytes text ≡ flat_map line_of (map shown values.now)) }
+    ensures { IfOk result (λ text. string_bytes text ≡ flat_map value_line (map reply_row values.now)) }
 {
     let mut text = String::new(alloc);
     for named in values {
@@ -51,7 +51,7 @@ fn values_text(alloc: Global, values: &[Named]) -> Result<String, Memory>
 
 /// One line more.
 fn push_line(alloc: Global, text: &mut String, named: &Named) -> Result<(), Memory>
-    ensures { OnOk result (string_bytes text.new ≡ string_bytes text.old ++ line_of (shown named.now)) }
+    ensures { OnOk result (string_bytes text.new ≡ string_bytes text.old ++ value_line (reply_row named.now)) }
 {
     let name = named.name.as_str();
     let value = plain(alloc, &named.value)?;

@@ -1,6 +1,6 @@
 //! The words that a run is given.
 ghost use Rattle.std.specs.Prelude.{◌≡◌, ◌≤◌, ◌∷◌, [], IfSome, IsSome, None, is_some, option_map, string_bytes};
-ghost use Rattle.fx_cli.specs.Words.{app_if, count_of, is_word, number_to, or_usual, port_of, sample, sample_number, service, wanted};
+ghost use Rattle.fx_cli.specs.Words.{app_if, service_count, is_word, number_to, or_usual, port_of, sample, sample_number, service, wanted};
 
 /// The most conversations that are taken where the words give no count.
 const USUAL_COUNT: u32 = 1_000_000;
@@ -130,7 +130,7 @@ pub fn service_of(words: &[String]) -> Service<'_>
 
 /// The count that a text writes, or else the usual one.
 fn count_or_usual(text: &str) -> u32
-    ensures { result ≡ or_usual (count_of text.now) }
+    ensures { result ≡ or_usual (service_count text.now) }
 {
     match count_in(text) {
         Some(count) => count,
@@ -145,7 +145,7 @@ fn is_port(word: &String) -> bool
 }
 
 fn is_count(word: &String) -> bool
-    ensures { result ≡ is_some (count_of (string_bytes word.now)) }
+    ensures { result ≡ is_some (service_count (string_bytes word.now)) }
 {
     count_in(word.as_str()).is_some()
 }
@@ -160,7 +160,7 @@ fn port_in(text: &str) -> Option<u16>
 
 /// The count that a text writes.
 fn count_in(text: &str) -> Option<u32>
-    ensures { result ≡ count_of text.now }
+    ensures { result ≡ service_count text.now }
 {
     let count = number_to(MOST_COUNT, text)?;
     Some(count as u32)

@@ -8,12 +8,12 @@ use Rattle.std.proofs.lemmas.Cmp.{nat_list_cmp_total}
 use Rattle.std.proofs.lemmas.Map.Lookups.{exact_bytes}
 use Rattle.fx_core.specs.declared.sources.Source.{Source}
 use Rattle.fx_core.specs.declared.sources.Source.TheVariants as source
-use Rattle.fx_core.specs.Reads.{rank_of, number_of, source_order, IsBelowAll, AreRising, IsAmong}
+use Rattle.fx_core.specs.Reads.{source_rank, source_number, source_order, IsSourceBelowAll, AreSourcesRising, IsAmong}
 use Rattle.fx_core.specs.Rising.{put, put_all}
 
 -- a source as the list of its kind and its number
 abbrev pub key_of : Source → List ℕ
-key_of s = rank_of s ∷ number_of s ∷ []
+key_of s = source_rank s ∷ source_number s ∷ []
 
 abbrev by_rank : ℕ → ℕ → Source
 by_rank zero n = source.Cell n
@@ -40,8 +40,8 @@ key_back (source.Table n) = refl
 key_back source.Today = refl
 
 -- a source is known by its kind and its number
-pub source_is : (s t : Source) → rank_of s ≡ rank_of t → number_of s ≡ number_of t → s ≡ t
-source_is s t e f = sym (key_back s) ∙ ap (by_rank (rank_of s)) f ∙ ap (λ r. by_rank r (number_of t)) e ∙ key_back t
+pub source_is : (s t : Source) → source_rank s ≡ source_rank t → source_number s ≡ source_number t → s ≡ t
+source_is s t e f = sym (key_back s) ∙ ap (by_rank (source_rank s)) f ∙ ap (λ r. by_rank r (source_number t)) e ∙ key_back t
 
 then_equal : (o : Ordering) → ordering_then o Equal ≡ o
 then_equal Less = refl
@@ -49,7 +49,7 @@ then_equal Equal = refl
 then_equal Greater = refl
 
 pub by_keys : (s t : Source) → source_order s t ≡ slice_cmp nat_cmp (key_of s) (key_of t)
-by_keys s t = ap (ordering_then (nat_cmp (rank_of s) (rank_of t))) (sym (then_equal (nat_cmp (number_of s) (number_of t))))
+by_keys s t = ap (ordering_then (nat_cmp (source_rank s) (source_rank t))) (sym (then_equal (nat_cmp (source_number s) (source_number t))))
 
 -- the order tells sources apart
 pub order_tells : (s t : Source) → source_order s t ≡ Equal → s ≡ t
@@ -61,29 +61,29 @@ order_chains r s t d e = by_keys r t ∙ nat_list_cmp_total.trans (key_of r) (ke
 pub order_flips : (s t : Source) → source_order s t ≡ Greater → source_order t s ≡ Less
 order_flips s t e = by_keys t s ∙ nat_list_cmp_total.antisymm (key_of t) (key_of s) ∙ ap ordering_reverse (sym (by_keys s t) ∙ e)
 
-pub below_more : (s t : Source) (ts : List Source) → source_order s t ≡ Less → IsBelowAll t ts → IsBelowAll s ts
+pub below_more : (s t : Source) (ts : List Source) → source_order s t ≡ Less → IsSourceBelowAll t ts → IsSourceBelowAll s ts
 below_more s t [] e h = tt
 below_more s t (u ∷ us) e h = (order_chains s t u e h.0, below_more s t us e h.1)
 
-below_put : (s t : Source) (ts : List Source) → source_order t s ≡ Less → IsBelowAll t ts → IsBelowAll t (put s ts)
+below_put : (s t : Source) (ts : List Source) → source_order t s ≡ Less → IsSourceBelowAll t ts → IsSourceBelowAll t (put s ts)
 below_put s t [] e h = (e, tt)
 below_put s t (u ∷ us) e h = by_order (source_order s u) (below_put s t us e h.1)
   where
-    by_order : (o : Ordering) → IsBelowAll t (put s us) → IsBelowAll t (match_ordering o (s ∷ u ∷ us) (u ∷ us) (u ∷ put s us))
+    by_order : (o : Ordering) → IsSourceBelowAll t (put s us) → IsSourceBelowAll t (match_ordering o (s ∷ u ∷ us) (u ∷ us) (u ∷ put s us))
     by_order Less k = (e, h)
     by_order Equal k = h
     by_order Greater k = (h.0, k)
 
-rising_put : (s : Source) (ts : List Source) → AreRising ts → AreRising (put s ts)
+rising_put : (s : Source) (ts : List Source) → AreSourcesRising ts → AreSourcesRising (put s ts)
 rising_put s [] h = (tt, tt)
 rising_put s (t ∷ ts) h = by_order (source_order s t) refl (rising_put s ts h.1)
   where
-    by_order : (o : Ordering) → source_order s t ≡ o → AreRising (put s ts) → AreRising (match_ordering o (s ∷ t ∷ ts) (t ∷ ts) (t ∷ put s ts))
+    by_order : (o : Ordering) → source_order s t ≡ o → AreSourcesRising (put s ts) → AreSourcesRising (match_ordering o (s ∷ t ∷ ts) (t ∷ ts) (t ∷ put s ts))
     by_order Less e k = ((e, below_more s t ts e h.0), h)
     by_order Equal e k = h
     by_order Greater e k = (below_put s t ts (order_flips s t e) h.0, k)
 
-pub rising_put_all : (ss ts : List Source) → AreRising ts → AreRising (put_all ss ts)
+pub rising_put_all : (ss ts : List Source) → AreSourcesRising ts → AreSourcesRising (put_all ss ts)
 rising_put_all [] ts h = h
 rising_put_all (s ∷ ss) ts h = rising_put_all ss (put s ts) (rising_put s ts h)
 

@@ -11,7 +11,7 @@ use Rattle.std.proofs.lemmas.List.Sums.{prefix_len-le-length}
 use Rattle.std.proofs.lemmas.Map.Text.{is_eq-slice_cmp}
 use Rattle.std.proofs.lemmas.Option.{slice_get_past}
 use Rattle.std.proofs.lemmas.Slice.Eq.{bytes_eq-Decides}
-use Rattle.fx_core.specs.Formulas.{IsNoted, IsPlaced, or_placed, place_in, retyped}
+use Rattle.fx_core.specs.Formulas.{IsIndexNoted, IsIndexOf, or_placed, formula_index, retyped}
 use Rattle.fx_types.specs.declared.types.Ty.{Ty}
 use Rattle.fx_core.specs.declared.names.FormulaName.{FormulaName}
 
@@ -28,7 +28,7 @@ position_push {X} p xs y =
 
 -- one formula more
 pub placed_push : (old new : BTreeMap (List ℕ) ℕ) (fs : List FormulaName) (f : FormulaName)
-    → IsPlaced old fs → IsNoted old new f.name (length fs) → IsPlaced new (fs ++ f ∷ [])
+    → IsIndexOf old fs → IsIndexNoted old new f.name (length fs) → IsIndexOf new (fs ++ f ∷ [])
 placed_push old new fs f h n = λ x.
     n x ∙ ap (λ o. or_placed o (cond (bytes_eq f.name x) (Some (length fs)) None)) (h x)
     ∙ sym (position_push (λ (g : FormulaName). bytes_eq g.name x) fs f)
@@ -39,15 +39,15 @@ either_place true o k h = sym (ap (λ p. or_placed p (Some k)) (h refl))
 either_place false None k h = refl
 either_place false (Some j) k h = refl
 
-pub noted : (old new : BTreeMap (List ℕ) ℕ) (name : List ℕ) (k : ℕ) → place_in old name ≡ None
-    → ((q : List ℕ) → place_in new q ≡ cond (is_at (slice_cmp nat_cmp name) q) (Some k) (place_in old q)) → IsNoted old new name k
+pub noted : (old new : BTreeMap (List ℕ) ℕ) (name : List ℕ) (k : ℕ) → formula_index old name ≡ None
+    → ((q : List ℕ) → formula_index new q ≡ cond (is_at (slice_cmp nat_cmp name) q) (Some k) (formula_index old q)) → IsIndexNoted old new name k
 noted old new name k none updates = λ q.
-    updates q ∙ ap (λ b. cond b (Some k) (place_in old q)) (is_eq-slice_cmp name q)
-    ∙ either_place (bytes_eq name q) (place_in old q) k (λ e. ap (place_in old) (sym ((bytes_eq-Decides name q).0 e)) ∙ none)
+    updates q ∙ ap (λ b. cond b (Some k) (formula_index old q)) (is_eq-slice_cmp name q)
+    ∙ either_place (bytes_eq name q) (formula_index old q) k (λ e. ap (formula_index old) (sym ((bytes_eq-Decides name q).0 e)) ∙ none)
 
 -- a name that has a place keeps it
-pub kept : (places : BTreeMap (List ℕ) ℕ) (name : List ℕ) (k : ℕ) → (place_in places name ≡ None → ⊥) → IsNoted places places name k
-kept places name k some = λ q. kept_at (bytes_eq name q) (place_in places q) (λ e. λ n. some (ap (place_in places) ((bytes_eq-Decides name q).0 e) ∙ n))
+pub kept : (places : BTreeMap (List ℕ) ℕ) (name : List ℕ) (k : ℕ) → (formula_index places name ≡ None → ⊥) → IsIndexNoted places places name k
+kept places name k some = λ q. kept_at (bytes_eq name q) (formula_index places q) (λ e. λ n. some (ap (formula_index places) ((bytes_eq-Decides name q).0 e) ∙ n))
   where
     kept_at : (b : Bool) (o : Option ℕ) → (b ≡ true → o ≡ None → ⊥) → o ≡ or_placed o (cond b (Some k) None)
     kept_at b (Some j) h = refl
@@ -69,6 +69,6 @@ length_retyped (f ∷ fs) [] e = absurd (omega arith)
 length_retyped (f ∷ fs) (t ∷ ts) e = ap suc (length_retyped fs ts (omega arith))
 
 pub placed_retyped : (places : BTreeMap (List ℕ) ℕ) (fs : List FormulaName) (ts : List Ty) → length ts ≡ length fs
-    → IsPlaced places fs → IsPlaced places (retyped fs ts)
+    → IsIndexOf places fs → IsIndexOf places (retyped fs ts)
 placed_retyped places fs ts e h = λ x. h x ∙ sym (ap (λ n. cond (nat_lt n (length (retyped fs ts))) (Some n) None) (names_apart x fs ts e)
     ∙ ap (λ m. cond (nat_lt (position_or_len (λ (f : FormulaName). bytes_eq f.name x) fs) m) (Some (position_or_len (λ (f : FormulaName). bytes_eq f.name x) fs)) None) (length_retyped fs ts e))

@@ -10,23 +10,23 @@ field_in x no_columns = None
 field_in x (column y t cs) = if bytes_eq y x then Some t else field_in x cs
 
 -- the columns without one
-abbrev pub without : List ℕ → ColumnList → ColumnList
-without x no_columns = no_columns
-without x (column y t cs) = if bytes_eq y x then cs else column y t (without x cs)
+abbrev pub columns_without : List ℕ → ColumnList → ColumnList
+columns_without x no_columns = no_columns
+columns_without x (column y t cs) = if bytes_eq y x then cs else column y t (columns_without x cs)
 
 -- the columns without those of these names
 abbrev pub without_all : List (List ℕ) → ColumnList → ColumnList
 without_all [] cs = cs
-without_all (x ∷ xs) cs = without_all xs (without x cs)
+without_all (x ∷ xs) cs = without_all xs (columns_without x cs)
 
 abbrev pub is_one_of : List ℕ → List (List ℕ) → Bool
 is_one_of x [] = false
 is_one_of x (y ∷ ys) = bytes_eq y x || is_one_of x ys
 
 -- the columns of these names alone
-abbrev pub only : List (List ℕ) → ColumnList → ColumnList
-only xs no_columns = no_columns
-only xs (column y t cs) = if is_one_of y xs then column y t (only xs cs) else only xs cs
+abbrev pub columns_only : List (List ℕ) → ColumnList → ColumnList
+columns_only xs no_columns = no_columns
+columns_only xs (column y t cs) = if is_one_of y xs then column y t (columns_only xs cs) else columns_only xs cs
 
 -- the one column of a table of values
 abbrev pub value_column : Shape → ColumnList
@@ -55,4 +55,4 @@ abbrev pub with_new : List ℕ → Shape → ColumnList → Result ColumnList �
 with_new x t cs = if_free (field_in x cs) (put_column x t cs)
 
 abbrev pub with_renamed : List ℕ → List ℕ → ColumnList → Result ColumnList ℕ
-with_renamed x y cs = and_then (if_there (field_in x cs)) (λ t. if_free (field_in y cs) (put_column y t (without x cs)))
+with_renamed x y cs = and_then (if_there (field_in x cs)) (λ t. if_free (field_in y cs) (put_column y t (columns_without x cs)))

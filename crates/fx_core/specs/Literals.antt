@@ -51,15 +51,15 @@ format_by None (Some f) = Some (fun.FormatDate f)
 format_by None None = None
 
 -- the text of a value by a format
-abbrev pub formatted : List ℕ → Option Fun
-formatted t = format_by (number_format t) (date_format t)
+abbrev pub formatting_function : List ℕ → Option Fun
+formatting_function t = format_by (number_format t) (date_format t)
 
 -- the function that a literal behind the other arguments makes of a function
 abbrev pub with_literal : Fun → List ℕ → Option Fun
 with_literal (fun.DateAdd u) t = option_map fun.DateAdd (time_unit t)
 with_literal (fun.DateDiff u) t = option_map fun.DateDiff (time_unit t)
 with_literal (fun.Sort o) t = option_map fun.Sort (sort_order t)
-with_literal fun.Text t = formatted t
+with_literal fun.Text t = formatting_function t
 with_literal f t = None
 
 -- the kinds of errors by their names

@@ -8,38 +8,38 @@ use Rattle.fx_core.specs.declared.sources.Source.TheVariants as source
 use Rattle.fx_core.specs.Term.{Term, Terms, of, nil, cons, Top, read}
 
 -- the order of sources: kind after kind, and by number
-abbrev pub rank_of : Source → ℕ
-rank_of (source.Cell n) = 0
-rank_of (source.Global n) = 1
-rank_of (source.Context n) = 2
-rank_of (source.Gathered n) = 3
-rank_of (source.Input n) = 4
-rank_of (source.Chosen n) = 5
-rank_of (source.Table n) = 6
-rank_of source.Today = 7
+abbrev pub source_rank : Source → ℕ
+source_rank (source.Cell n) = 0
+source_rank (source.Global n) = 1
+source_rank (source.Context n) = 2
+source_rank (source.Gathered n) = 3
+source_rank (source.Input n) = 4
+source_rank (source.Chosen n) = 5
+source_rank (source.Table n) = 6
+source_rank source.Today = 7
 
-abbrev pub number_of : Source → ℕ
-number_of (source.Cell n) = n
-number_of (source.Global n) = n
-number_of (source.Context n) = n
-number_of (source.Gathered n) = n
-number_of (source.Input n) = n
-number_of (source.Chosen n) = n
-number_of (source.Table n) = n
-number_of source.Today = 0
+abbrev pub source_number : Source → ℕ
+source_number (source.Cell n) = n
+source_number (source.Global n) = n
+source_number (source.Context n) = n
+source_number (source.Gathered n) = n
+source_number (source.Input n) = n
+source_number (source.Chosen n) = n
+source_number (source.Table n) = n
+source_number source.Today = 0
 
 abbrev pub source_order : Source → Source → Ordering
-source_order s t = ordering_then (nat_cmp (rank_of s) (rank_of t)) (nat_cmp (number_of s) (number_of t))
+source_order s t = ordering_then (nat_cmp (source_rank s) (source_rank t)) (nat_cmp (source_number s) (source_number t))
 
 -- the source is below each of these
-abbrev pub IsBelowAll : Source → List Source → Type 0
-IsBelowAll s [] = Unit {0}
-IsBelowAll s (t ∷ ts) = (source_order s t ≡ Less) × IsBelowAll s ts
+abbrev pub IsSourceBelowAll : Source → List Source → Type 0
+IsSourceBelowAll s [] = Unit {0}
+IsSourceBelowAll s (t ∷ ts) = (source_order s t ≡ Less) × IsSourceBelowAll s ts
 
 -- each source is below all later ones, so each stands once
-abbrev pub AreRising : List Source → Type 0
-AreRising [] = Unit {0}
-AreRising (s ∷ ss) = IsBelowAll s ss × AreRising ss
+abbrev pub AreSourcesRising : List Source → Type 0
+AreSourcesRising [] = Unit {0}
+AreSourcesRising (s ∷ ss) = IsSourceBelowAll s ss × AreSourcesRising ss
 
 -- the source is one of these
 abbrev pub IsAmong : Source → List Source → Type 0

@@ -190,9 +190,9 @@ is_ended ending.Whole n = nat_eq (n % 2) 1
 is_ended e n = true
 
 -- whether a number of arguments lies between the least and the greatest, where 255 is any number
-abbrev pub is_within : ℕ → ℕ → ℕ → Bool
-is_within least most n = nat_le least n && (nat_eq most 255 || nat_le n most)
+abbrev pub is_arity : ℕ → ℕ → ℕ → Bool
+is_arity least most n = nat_le least n && (nat_eq most 255 || nat_le n most)
 
 -- whether a row has so many arguments
 abbrev pub takes_count : Row → ℕ → Bool
-takes_count r n = is_within r.least r.most n && is_ended r.ending n
+takes_count r n = is_arity r.least r.most n && is_ended r.ending n

@@ -4,23 +4,23 @@ use Rattle.fx_core.specs.declared.rule.Rule.{Rule}
 use Rattle.fx_core.specs.declared.rule.Rule.TheVariants as rule
 
 -- the rule's number
-abbrev pub number_of : Rule → ℕ
-number_of rule.BadToken = 1
-number_of rule.Syntax = 2
-number_of rule.TooDeep = 3
-number_of rule.UnknownName = 4
-number_of rule.NameTwice = 5
-number_of rule.WrongType = 6
-number_of rule.WrongCount = 7
-number_of rule.NoFunction = 8
-number_of rule.BehaviourInPure = 9
-number_of rule.Cycle = 10
-number_of rule.VariableTypes = 11
-number_of rule.UnknownColumn = 12
-number_of rule.LimitPassed = 13
-number_of rule.BadShape = 14
-number_of rule.NotAVariable = 15
-number_of rule.NotBuilt = 16
+abbrev pub rule_number : Rule → ℕ
+rule_number rule.BadToken = 1
+rule_number rule.Syntax = 2
+rule_number rule.TooDeep = 3
+rule_number rule.UnknownName = 4
+rule_number rule.NameTwice = 5
+rule_number rule.WrongType = 6
+rule_number rule.WrongCount = 7
+rule_number rule.NoFunction = 8
+rule_number rule.BehaviourInPure = 9
+rule_number rule.Cycle = 10
+rule_number rule.VariableTypes = 11
+rule_number rule.UnknownColumn = 12
+rule_number rule.LimitPassed = 13
+rule_number rule.BadShape = 14
+rule_number rule.NotAVariable = 15
+rule_number rule.NotBuilt = 16
 
 -- the rule's name
 abbrev pub name_of : Rule → List ℕ
@@ -43,31 +43,31 @@ name_of rule.NotBuilt = codes "NotBuilt"
 
 -- the rules that the definition of typing tells, as their numbers
 abbrev pub unknown_name : ℕ
-unknown_name = number_of rule.UnknownName
+unknown_name = rule_number rule.UnknownName
 
 abbrev pub name_twice : ℕ
-name_twice = number_of rule.NameTwice
+name_twice = rule_number rule.NameTwice
 
 abbrev pub wrong_type : ℕ
-wrong_type = number_of rule.WrongType
+wrong_type = rule_number rule.WrongType
 
 abbrev pub wrong_count : ℕ
-wrong_count = number_of rule.WrongCount
+wrong_count = rule_number rule.WrongCount
 
 abbrev pub no_function : ℕ
-no_function = number_of rule.NoFunction
+no_function = rule_number rule.NoFunction
 
 abbrev pub behaviour_in_pure : ℕ
-behaviour_in_pure = number_of rule.BehaviourInPure
+behaviour_in_pure = rule_number rule.BehaviourInPure
 
 abbrev pub variable_types : ℕ
-variable_types = number_of rule.VariableTypes
+variable_types = rule_number rule.VariableTypes
 
 abbrev pub unknown_column : ℕ
-unknown_column = number_of rule.UnknownColumn
+unknown_column = rule_number rule.UnknownColumn
 
 abbrev pub limit_passed : ℕ
-limit_passed = number_of rule.LimitPassed
+limit_passed = rule_number rule.LimitPassed
 
 abbrev pub not_a_variable : ℕ
-not_a_variable = number_of rule.NotAVariable
+not_a_variable = rule_number rule.NotAVariable

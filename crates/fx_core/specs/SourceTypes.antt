@@ -72,9 +72,9 @@ if_context None t = None
 if_context (Some s) t = Some t
 
 -- what is chosen of a gallery is one of its items
-abbrev pub chosen_of : Control → Shape → Option Shape
-chosen_of control.Gallery t = Some t
-chosen_of c t = None
+abbrev pub chosen_shape : Control → Shape → Option Shape
+chosen_shape control.Gallery t = Some t
+chosen_shape c t = None
 
 -- the type of each source
 abbrev pub sources : Names → Source → Option Shape
@@ -83,6 +83,6 @@ sources n (source.Global k) = option_and_then (λ (v : Variable). if_global v.sc
 sources n (source.Context k) = option_and_then (λ (v : Variable). if_context v.screen (shape v.ty)) (slice_get n.variables k)
 sources n (source.Gathered k) = option_map (λ (c : Collection). shape c.ty) (slice_get n.collections k)
 sources n (source.Input k) = option_and_then (λ (c : ControlName). input_type c.kind) (slice_get n.controls k)
-sources n (source.Chosen k) = option_and_then (λ (c : ControlName). chosen_of c.kind (item_type c)) (slice_get n.controls k)
+sources n (source.Chosen k) = option_and_then (λ (c : ControlName). chosen_shape c.kind (item_type c)) (slice_get n.controls k)
 sources n (source.Table k) = table_type n.schema k
 sources n source.Today = Some dates

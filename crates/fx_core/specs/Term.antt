@@ -40,13 +40,13 @@ all [] = nil
 all (t ∷ ts) = cons t (all ts)
 
 -- the names of fields, and their formulas, in order
-abbrev pub names_of : List (List ℕ × Term) → List (List ℕ)
-names_of [] = []
-names_of (f ∷ fs) = f.0 ∷ names_of fs
+abbrev pub term_field_names : List (List ℕ × Term) → List (List ℕ)
+term_field_names [] = []
+term_field_names (f ∷ fs) = f.0 ∷ term_field_names fs
 
-abbrev pub parts_of : List (List ℕ × Term) → Terms
-parts_of [] = nil
-parts_of (f ∷ fs) = cons f.1 (parts_of fs)
+abbrev pub field_terms : List (List ℕ × Term) → Terms
+field_terms [] = nil
+field_terms (f ∷ fs) = cons f.1 (field_terms fs)
 
 -- how many nodes a tree has
 abbrev mutual

@@ -119,5 +119,5 @@ term_code = record { code = of_term; inj = term_same }
 abbrev pub terms_code : Coded (List Term)
 terms_code = coded_list term_code
 
-abbrev pub fields_code : Coded (List (List ℕ × Term))
-fields_code = coded_list (coded× (coded_list coded_ℕ) term_code)
+abbrev pub term_fields_code : Coded (List (List ℕ × Term))
+term_fields_code = coded_list (coded× (coded_list coded_ℕ) term_code)

@@ -44,9 +44,9 @@ abbrev pub NamedTree : Type 0
 NamedTree = FieldName × Tree
 
 -- the names of fields, in order
-abbrev pub names_of : List NamedTree → List (List ℕ)
-names_of [] = []
-names_of (f ∷ fs) = f.0.text ∷ names_of fs
+abbrev pub tree_field_names : List NamedTree → List (List ℕ)
+tree_field_names [] = []
+tree_field_names (f ∷ fs) = f.0.text ∷ tree_field_names fs
 
 -- where they stand, in order
 abbrev pub places_of : List NamedTree → List ℕ
@@ -54,9 +54,9 @@ places_of [] = []
 places_of (f ∷ fs) = f.0.at ∷ places_of fs
 
 -- the formulas of fields, in order
-abbrev pub parts_of : List NamedTree → Forest
-parts_of [] = none
-parts_of (f ∷ fs) = more f.1 (parts_of fs)
+abbrev pub field_trees : List NamedTree → Forest
+field_trees [] = none
+field_trees (f ∷ fs) = more f.1 (field_trees fs)
 
 -- how many nodes a tree has
 abbrev mutual

@@ -180,5 +180,5 @@ trees_code = coded_list tree_code
 abbrev name_code : Coded FieldName
 name_code = code_by (List ℕ × ℕ) (coded× (coded_list coded_ℕ) coded_ℕ) (λ f. (f.text, f.at)) (λ p. record { text = p.0; at = p.1 }) (λ f. refl)
 
-abbrev pub fields_code : Coded (List NamedTree)
-fields_code = coded_list (coded× name_code tree_code)
+abbrev pub tree_fields_code : Coded (List NamedTree)
+tree_fields_code = coded_list (coded× name_code tree_code)

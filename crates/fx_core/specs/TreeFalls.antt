@@ -1,7 +1,7 @@
 -- What is in a formula is smaller than it.
 use Rattle.std.specs.Prelude.{ℕ, ◌+◌, ◌≤◌, List, [], ◌∷◌}
 use Rattle.std.proofs.Common.{arith}
-use Rattle.fx_core.specs.Tree.{Tree, NamedTree, forest, parts_of, tree_size, forest_size}
+use Rattle.fx_core.specs.Tree.{Tree, NamedTree, forest, field_trees, tree_size, forest_size}
 use Rattle.fx_core.specs.TreeView.{branch}
 use Rattle.fx_core.specs.declared.expr.Node.{Node}
 use Rattle.fx_core.specs.declared.expr.Node.TheVariants as n
@@ -35,12 +35,12 @@ trees_fall [] = omega arith
 trees_fall (t ∷ ts) = omega (arith, trees_fall ts)
 
 -- how deep a field is, as the type's size has it
-abbrev pub field_depth : NamedTree → ℕ
-field_depth f = weighed-Parts-items-at-2.weight Tree (λ t. tree_size t + 1) f
+abbrev pub tree_field_depth : NamedTree → ℕ
+tree_field_depth f = weighed-Parts-items-at-2.weight Tree (λ t. tree_size t + 1) f
 
-field_depth-le : (f : NamedTree) → field_depth f ≤ tree_size f.1 + 1
+field_depth-le : (f : NamedTree) → tree_field_depth f ≤ tree_size f.1 + 1
 field_depth-le f = omega arith
 
-pub fields_fall : (fs : List NamedTree) → most field_depth fs ≤ forest_size (parts_of fs)
-fields_fall [] = omega arith
-fields_fall (f ∷ fs) = omega (arith, field_depth-le f, fields_fall fs)
+pub tree_fields_fall : (fs : List NamedTree) → most tree_field_depth fs ≤ forest_size (field_trees fs)
+tree_fields_fall [] = omega arith
+tree_fields_fall (f ∷ fs) = omega (arith, field_depth-le f, tree_fields_fall fs)

@@ -1,6 +1,6 @@
 -- What a formula is seen as.
 use Rattle.std.specs.Prelude.{ℕ}
-use Rattle.fx_core.specs.Tree.{Tree, node, Forest, none, more, forest, names_of, places_of, parts_of, Head}
+use Rattle.fx_core.specs.Tree.{Tree, node, Forest, none, more, forest, tree_field_names, places_of, field_trees, Head}
 use Rattle.fx_core.specs.Tree as tree
 use Rattle.fx_core.specs.declared.expr.Node.{Node}
 use Rattle.fx_core.specs.declared.expr.Node.TheVariants as n
@@ -23,6 +23,6 @@ branch at (n.And es) = node at tree.all (forest es)
 branch at (n.Or es) = node at tree.any (forest es)
 branch at (n.Chain es) = node at tree.chain (forest es)
 branch at (n.Alias e x) = node at (tree.alias x) (more e.value none)
-branch at (n.Rec fs) = node at (tree.rec (names_of fs) (places_of fs)) (parts_of fs)
+branch at (n.Rec fs) = node at (tree.rec (tree_field_names fs) (places_of fs)) (field_trees fs)
 branch at (n.List es) = node at tree.list (forest es)
 branch at (n.Woven es) = node at tree.woven (forest es)

@@ -1,7 +1,7 @@
 //! The lines that tell of broken rules.
 ghost use Rattle.std.specs.Prelude.{◌≡◌, ◌++◌, IfOk, OnOk, flat_map, string_bytes, encode_utf8_all};
 ghost use Rattle.std.specs.List.{list_any};
-ghost use Rattle.fx_core.specs.BrokenText.{address_of, doubled, has_mark, line_of, ended_line};
+ghost use Rattle.fx_core.specs.BrokenText.{address_of, single_quote_doubled, has_mark, broken_line, ended_line};
 
 use crate::broken::Broken;
 use fx_base::Memory;
@@ -9,9 +9,9 @@ use fx_types::words::Words;
 use std::alloc::Global;
 
 /// The line `<cell>: E<n> <Name> at <at>: <detail>`, without an end.
-#[tactic(auto, unfolding(crate::specs::BrokenText::line_of))]
+#[tactic(auto, unfolding(crate::specs::BrokenText::broken_line))]
 pub fn line(alloc: Global, broken: &Broken) -> Result<String, Memory>
-    ensures { IfOk result (λ s. string_bytes s ≡ line_of broken.now) }
+    ensures { IfOk result (λ s. string_bytes s ≡ broken_line broken.now) }
 {
     let cell = broken.cell.as_str();
     let number = broken.rule.number();
@@ -66,7 +66,7 @@ fn is_mark(c: char) -> bool
 
 /// A character, and a single quote twice.
 fn push_doubled(out: &mut String, c: char) -> Result<(), Memory>
-    ensures { OnOk result (string_bytes out.new ≡ string_bytes out.old ++ encode_utf8_all (doubled c)) }
+    ensures { OnOk result (string_bytes out.new ≡ string_bytes out.old ++ encode_utf8_all (single_quote_doubled c)) }
 {
     if c == '\'' {
         out.push('\'')?;

@@ -162,21 +162,21 @@ impl Model for Args {
 
 impl Model for Parts {
     ghost use Rattle.std.specs.Prelude.{List};
-    ghost use Rattle.fx_core.specs.Tree.{NamedTree, forest_size, parts_of};
-    ghost use Rattle.fx_core.specs.TreeCode.{fields_code};
+    ghost use Rattle.fx_core.specs.Tree.{NamedTree, forest_size, field_trees};
+    ghost use Rattle.fx_core.specs.TreeCode.{tree_fields_code};
 
     ghost Value = { List NamedTree };
 
-    ghost coded = { fields_code };
+    ghost coded = { tree_fields_code };
 
     ghost view = { λ a. a.items.items };
 
-    ghost size = { λ fs. forest_size (parts_of fs) };
+    ghost size = { λ fs. forest_size (field_trees fs) };
 
     ghost use Rattle.std.proofs.Common.{arith};
-    ghost use Rattle.fx_core.specs.TreeFalls.{fields_fall};
+    ghost use Rattle.fx_core.specs.TreeFalls.{tree_fields_fall};
 
-    ghost size_decreases = { λ a h. omega (arith, fields_fall a.items.items) };
+    ghost size_decreases = { λ a h. omega (arith, tree_fields_fall a.items.items) };
 }
 
 impl FieldName {

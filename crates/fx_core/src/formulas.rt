@@ -1,7 +1,7 @@
 //! Named formulas, found by their names.
 ghost use Rattle.std.specs.Prelude.{◌≡◌, ◌≤◌, ◌++◌, ◌∷◌, [], length, slice_get, option_map, IfOk, OnOk, OnErr, MatchOption};
 ghost use Rattle.std.specs.BTreeMap.{IsUnchanged};
-ghost use Rattle.fx_core.specs.Formulas.{IsNoted, formula_named, retyped};
+ghost use Rattle.fx_core.specs.Formulas.{IsIndexNoted, formula_named, retyped};
 
 use crate::names::FormulaName;
 use fx_base::Memory;
@@ -22,7 +22,7 @@ pub struct FormulaList {
 impl Model for FormulaList {
     ghost use Rattle.std.specs.Prelude.{List};
     ghost use Rattle.std.specs.Coded.{coded_list};
-    ghost use Rattle.fx_core.specs.Formulas.{IsPlaced};
+    ghost use Rattle.fx_core.specs.Formulas.{IsIndexOf};
     ghost use Rattle.fx_core.specs.declared.names.FormulaName.{FormulaName as Known};
     ghost use Rattle.fx_core.specs.contracts.names.FormulaName.{the_row as formula_row};
 
@@ -32,7 +32,7 @@ impl Model for FormulaList {
 
     ghost view = { λ a. a.items.items };
 
-    ghost invariant = { λ a. IsPlaced a.places a.items.items };
+    ghost invariant = { λ a. IsIndexOf a.places a.items.items };
 }
 
 impl FormulaList {
@@ -106,7 +106,7 @@ fn formula_at(formulas: &[FormulaName], place: usize) -> Option<&FormulaName>
 
 // Notes the place of a name that has none.
 fn note(places: &mut BTreeMap<Words, usize>, name: Words, place: usize) -> Result<(), Memory>
-    ensures ok { OnOk result (IsNoted places.old places.new name place) }
+    ensures ok { OnOk result (IsIndexNoted places.old places.new name place) }
     ensures err { OnErr result (IsUnchanged places.old places.new) }
 {
     if !places.contains_key(&name) {

@@ -83,7 +83,7 @@ fn date_format(text: &str) -> Option<DateFormat>
 
 /// The text of a value by a format.
 fn text_format(text: &str) -> Option<Fun>
-    ensures { result ≡ spelled.formatted text.now }
+    ensures { result ≡ spelled.formatting_function text.now }
 {
     match number_format(text) {
         Some(format) => Some(Fun::FormatNumber(format)),

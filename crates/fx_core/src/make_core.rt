@@ -2,7 +2,7 @@
 ghost use Rattle.std.specs.Prelude.{◌≡◌, IfOk};
 ghost use Rattle.fx_types.specs.TypeView.{shape};
 ghost use Rattle.fx_types.specs.ValueView.{view};
-ghost use Rattle.fx_core.specs.Term.{of, nil, cons, all, names_of, parts_of};
+ghost use Rattle.fx_core.specs.Term.{of, nil, cons, all, term_field_names, field_terms};
 ghost use Rattle.fx_core.specs.Term as top;
 
 use crate::deeds::Deed;
@@ -100,7 +100,7 @@ pub fn within(alloc: Global, scope: Core, formula: Core) -> Result<Core, Memory>
 
 /// A record of these fields.
 pub fn record_of(fields: CoreFields) -> Core
-    ensures { result ≡ of (top.rec (names_of fields)) (parts_of fields) }
+    ensures { result ≡ of (top.rec (term_field_names fields)) (field_terms fields) }
 {
     Core {
         node: CoreNode::Rec(fields),

@@ -1,7 +1,7 @@
 //! Which sources a typed tree reads.
 ghost use Rattle.std.specs.Prelude.{◌≡◌, ◌≤◌, ◌++◌, [], length, insert, IfOk, OnOk, OnErr, MatchOption, ◌↔◌};
-ghost use Rattle.fx_core.specs.Reads.{AreRising, IsAmong, source_order, rank_of, number_of, sources_in, sources_among};
-ghost use Rattle.fx_core.specs.Term.{all, parts_of};
+ghost use Rattle.fx_core.specs.Reads.{AreSourcesRising, IsAmong, source_order, source_rank, source_number, sources_in, sources_among};
+ghost use Rattle.fx_core.specs.Term.{all, field_terms};
 ghost use Rattle.fx_core.specs.Rising.{put, put_all};
 
 use crate::sources::Source;
@@ -11,7 +11,7 @@ use std::alloc::Global;
 use std::cmp::Ordering;
 
 fn rank(source: Source) -> u8
-    ensures { result ≡ rank_of source }
+    ensures { result ≡ source_rank source }
 {
     match source {
         Source::Cell(_) => 0,
@@ -26,7 +26,7 @@ fn rank(source: Source) -> u8
 }
 
 fn number(source: Source) -> u32
-    ensures { result ≡ number_of source }
+    ensures { result ≡ source_number source }
 {
     match source {
         Source::Cell(number)
@@ -80,7 +80,7 @@ impl Core {
     /// The sources that the tree names, each once, in the order of `Source`. What acting parts change
     /// is not read.
     pub fn reads(&self, alloc: Global) -> Result<Vec<Source>, Memory>
-        ensures once { IfOk result (λ r. AreRising r.items) }
+        ensures once { IfOk result (λ r. AreSourcesRising r.items) }
         ensures exact { IfOk result (λ r. (s : Source) → IsAmong s r.items ↔ IsAmong s (sources_in self.now)) }
     {
         let mut named = Vec::new(alloc);
@@ -136,7 +136,7 @@ impl CoreArgs {
 impl CoreFields {
     #[cycle(gather)]
     fn gather(&self, named: &mut Vec<Source>) -> Result<(), Memory>
-        ensures { OnOk result (named.new.items ≡ named.old.items ++ sources_among (parts_of self.now)) }
+        ensures { OnOk result (named.new.items ≡ named.old.items ++ sources_among (field_terms self.now)) }
     {
         for (_, part) in &self.items {
             part.gather(named)?;

@@ -156,7 +156,7 @@ impl Row {
 
 /// Whether a number of arguments lies between the least and the greatest, where 255 means any number.
 pub fn is_within(least: u8, most: u8, count: usize) -> bool
-    ensures { result ≡ table.is_within least most count }
+    ensures { result ≡ table.is_arity least most count }
 {
     least as usize <= count && (most == 255 || count <= most as usize)
 }

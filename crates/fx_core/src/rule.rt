@@ -1,6 +1,6 @@
 //! The rules by their numbers and names.
 ghost use Rattle.std.specs.Prelude.{◌≡◌};
-ghost use Rattle.fx_core.specs.Rules.{number_of, name_of};
+ghost use Rattle.fx_core.specs.Rules.{rule_number, name_of};
 
 /// A rule that an app can break, with its number from 1 on.
 #[derive(Clone, Copy)]
@@ -35,7 +35,7 @@ pub enum Rule {
 impl Rule {
     /// The rule's number, 1 to 16.
     pub fn number(self) -> u8
-        ensures { result ≡ number_of self }
+        ensures { result ≡ rule_number self }
     {
         match self {
             Rule::BadToken => 1,

@@ -93,16 +93,16 @@ impl Model for Core {
 
     ghost coded = { term_code };
 
-    ghost use Rattle.fx_core.specs.TermView.{branch};
+    ghost use Rattle.fx_core.specs.TermView.{core_branch};
 
-    ghost view = { λ a. branch a.node };
+    ghost view = { λ a. core_branch a.node };
 
     ghost size = { term_size };
 
     ghost use Rattle.std.proofs.Common.{arith};
-    ghost use Rattle.fx_core.specs.TermFalls.{node_falls};
+    ghost use Rattle.fx_core.specs.TermFalls.{core_falls};
 
-    ghost size_decreases = { λ a h. omega (arith, node_falls a.node) };
+    ghost size_decreases = { λ a h. omega (arith, core_falls a.node) };
 }
 
 impl Model for CoreArgs {
@@ -126,21 +126,21 @@ impl Model for CoreArgs {
 
 impl Model for CoreFields {
     ghost use Rattle.std.specs.Prelude.{List, ℕ};
-    ghost use Rattle.fx_core.specs.Term.{Term, terms_size, parts_of};
-    ghost use Rattle.fx_core.specs.TermCode.{fields_code};
+    ghost use Rattle.fx_core.specs.Term.{Term, terms_size, field_terms};
+    ghost use Rattle.fx_core.specs.TermCode.{term_fields_code};
 
     ghost Value = { List (List ℕ × Term) };
 
-    ghost coded = { fields_code };
+    ghost coded = { term_fields_code };
 
     ghost view = { λ a. a.items.items };
 
-    ghost size = { λ fs. terms_size (parts_of fs) };
+    ghost size = { λ fs. terms_size (field_terms fs) };
 
     ghost use Rattle.std.proofs.Common.{arith};
-    ghost use Rattle.fx_core.specs.TermFalls.{fields_fall};
+    ghost use Rattle.fx_core.specs.TermFalls.{term_fields_fall};
 
-    ghost size_decreases = { λ a h. omega (arith, fields_fall a.items.items) };
+    ghost size_decreases = { λ a h. omega (arith, term_fields_fall a.items.items) };
 }
 
 impl CoreArgs {

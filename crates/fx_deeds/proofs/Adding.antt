@@ -16,8 +16,8 @@ use Rattle.fx_core.specs.declared.sources.Source.TheVariants as source
 use Rattle.fx_core.specs.SourceTypes.{sources}
 use Rattle.fx_value.specs.Fits.{fits_in}
 use Rattle.session_state.specs.Changes.{FitsSource}
-use Rattle.fx_deeds.specs.Collections.{IsFirst}
-use Rattle.fx_deeds.specs.Fitting.{AreOf, CanAdd, IsOfColumns}
+use Rattle.fx_deeds.specs.Collections.{IsFirstRow}
+use Rattle.fx_deeds.specs.Fitting.{AreOf, CollectionCanTake, IsOfColumns}
 use Rattle.fx_deeds.specs.RowValues.{rows_among}
 
 fault_fits : (d : Data) (t : Shape) → is_fault d ≡ true → fits_in d t ≡ true
@@ -44,7 +44,7 @@ among_fit cs (d ∷ ds) h = both_fit cs _ (rows_among ds) (rows_in_fit d cs h.0)
 
 -- the change that gives a collection rows behind others fits
 pub gathers : (before after : Fixed) (n : Names) (k : ℕ) (ds : List Data) (start rows : List Row) → after ≡ before → ((x : Source) → after.types x ≡ sources n x) →
-    (can : CanAdd before.types k ds) → ((cs : ColumnList) → IsOfColumns before.types k cs → fits_in (table_of start) (tables cs) ≡ true) → rows ≡ start ++ rows_among ds →
+    (can : CollectionCanTake before.types k ds) → ((cs : ColumnList) → IsOfColumns before.types k cs → fits_in (table_of start) (tables cs) ≡ true) → rows ≡ start ++ rows_among ds →
     FitsSource n (source.Gathered k) (table_of rows)
 gathers before after n k ds start rows e typed can fit r = (
   tables can.0,
@@ -70,12 +70,12 @@ with_other cs (p ∷ before) after r q h f = (h.0, with_other cs before after r 
 pub appended_fits : (cs : ColumnList) (rows made : List Row) (r : Row) → made ≡ rows ++ r ∷ [] → fits_in (table_of rows) (tables cs) ≡ true → fits_in (record_of r) (records cs) ≡ true → fits_in (table_of made) (tables cs) ≡ true
 appended_fits cs rows made r e h f = subst (λ z. fits_in (table_of z) (tables cs) ≡ true) (sym e) (table_fits cs (rows ++ r ∷ []) (both_fit cs rows (r ∷ []) (fit_table cs rows h) (f, tt)))
 
-pub parted_fits : (cs : ColumnList) (rows all before after left : List Row) (r : Row) → all ≡ rows → IsFirst r all before after → left ≡ before ++ after → fits_in (table_of rows) (tables cs) ≡ true → fits_in (table_of left) (tables cs) ≡ true
+pub parted_fits : (cs : ColumnList) (rows all before after left : List Row) (r : Row) → all ≡ rows → IsFirstRow r all before after → left ≡ before ++ after → fits_in (table_of rows) (tables cs) ≡ true → fits_in (table_of left) (tables cs) ≡ true
 parted_fits cs rows all before after left r p f e h =
     subst (λ z. fits_in (table_of z) (tables cs) ≡ true) (sym e)
     (table_fits cs (before ++ after) (without_one cs before after r (subst (RowsFit cs) (sym p ∙ f.parted) (fit_table cs rows h))))
 
-pub put_fits : (cs : ColumnList) (rows all before after put : List Row) (r q : Row) → all ≡ rows → IsFirst r all before after → put ≡ before ++ q ∷ after → fits_in (record_of q) (records cs) ≡ true →
+pub put_fits : (cs : ColumnList) (rows all before after put : List Row) (r q : Row) → all ≡ rows → IsFirstRow r all before after → put ≡ before ++ q ∷ after → fits_in (record_of q) (records cs) ≡ true →
     fits_in (table_of rows) (tables cs) ≡ true → fits_in (table_of put) (tables cs) ≡ true
 put_fits cs rows all before after put r q p f e g h =
     subst (λ z. fits_in (table_of z) (tables cs) ≡ true) (sym e)

@@ -3,7 +3,7 @@ use Rattle.std.proofs.Common.{◌≡◌, ◌⊎◌, ℕ, List, [], ◌∷◌, �
 use Rattle.std.specs.Prelude.{IfOk, OnErr}
 use Rattle.std.proofs.lemmas.List.{append-nil}
 use Rattle.fx_base.proofs.Silences.{goes_two, goes_weaker}
-use Rattle.fx_base.specs.Silence.{Goes, IsLost}
+use Rattle.fx_base.specs.Silence.{MayFallSilent, SilenceCause}
 use Rattle.fx_base.specs.Telling.{Stays}
 use Rattle.fx_types.specs.Values.{Data}
 use Rattle.fx_core.specs.declared.schema.Column.{Column}
@@ -14,8 +14,8 @@ use Rattle.row_keeper.specs.declared.rows.Put.{Put}
 use Rattle.row_keeper.specs.declared.rows.Put.TheVariants.{Id, NoRow, Refused}
 use Rattle.fx_deeds.proofs.Passing.{either_end, same_state}
 use Rattle.fx_deeds.specs.Changed.{IsChanged, IsRowChanged, IsRowMade, IsRowRemoved, written}
-use Rattle.fx_deeds.specs.Stages.{Passed, Stage}
-use Rattle.fx_deeds.specs.State.{State}
+use Rattle.fx_deeds.specs.WorldSteps.{Passed, Stage}
+use Rattle.fx_deeds.specs.State.{WorldState}
 use Rattle.fx_deeds.specs.Within.{IsAmong}
 use Rattle.fx_deeds.specs.Writable.{IsOneOf, WritesOnly}
 
@@ -33,20 +33,20 @@ either : {X Y Z : Type 0} → (X → Z) → (Y → Z) → X ⊎ Y → Z
 either f g (inl x) = f x
 either f g (inr y) = g y
 
-pub writes_nothing : {A : Type 0} (P : Source → Type 0) (a : State A) → WritesOnly P a a
+pub writes_nothing : {A : Type 0} (P : Source → Type 0) (a : WorldState A) → WritesOnly P a a
 writes_nothing P a = record { more = []; wrote = sym (append-nil a.wrote); allowed = λ x h. absurd h }
 
-pub writes_on : {A : Type 0} (P Q R : Source → Type 0) → ((x : Source) → P x → R x) → ((x : Source) → Q x → R x) → (a b c : State A) → WritesOnly P a b → WritesOnly Q b c → WritesOnly R a c
+pub writes_on : {A : Type 0} (P Q R : Source → Type 0) → ((x : Source) → P x → R x) → ((x : Source) → Q x → R x) → (a b c : WorldState A) → WritesOnly P a b → WritesOnly Q b c → WritesOnly R a c
 writes_on P Q R f g a b c p q = record {
   more = p.more ++ q.more;
   wrote = q.wrote ∙ ap (λ z. z ++ q.more) p.wrote ∙ append_assoc a.wrote p.more q.more;
   allowed = λ x h. either (λ k. f x (p.allowed x k)) (λ k. g x (q.allowed x k)) (among_either x p.more q.more h);
 }
 
-pub writes_wider : {A : Type 0} (P Q : Source → Type 0) → ((x : Source) → P x → Q x) → (a b : State A) → WritesOnly P a b → WritesOnly Q a b
+pub writes_wider : {A : Type 0} (P Q : Source → Type 0) → ((x : Source) → P x → Q x) → (a b : WorldState A) → WritesOnly P a b → WritesOnly Q a b
 writes_wider P Q f a b p = record { more = p.more; wrote = p.wrote; allowed = λ x h. f x (p.allowed x h) }
 
-unwritten : {A : Type 0} (P : Source → Type 0) (a b : State A) → Stays a b → WritesOnly P a b
+unwritten : {A : Type 0} (P : Source → Type 0) (a b : WorldState A) → Stays a b → WritesOnly P a b
 unwritten P a b e = subst (λ z. WritesOnly P a z) (sym e) (writes_nothing P a)
 
 -- the first of what is left, where all of it is allowed
@@ -61,62 +61,62 @@ others_among left k others P e f x h = f x (subst (λ ks. IsAmong x ks) (sym e) 
 -- ---- calls
 
 -- nothing was done
-pub only_nowhere : {A : Type 0} (P : Source → Type 0) (lost : Type 0) (x : Option (State A)) → Goes lost (WritesOnly P) x x
+pub only_nowhere : {A : Type 0} (P : Source → Type 0) (lost : Type 0) (x : Option (WorldState A)) → MayFallSilent lost (WritesOnly P) x x
 only_nowhere P lost x = goes_weaker lost Stays (WritesOnly P) (unwritten P) x x (same_state lost x)
 
 -- a call that leaves the state
-pub only_staying : {A : Type 0} (P : Source → Type 0) (a b : Stage A) → Passed a b → Goes (IsLost a.marks b.marks) Stays a.state b.state → Goes (IsLost a.marks b.marks) (WritesOnly P) a.state b.state
-only_staying P a b p s = goes_weaker (IsLost a.marks b.marks) Stays (WritesOnly P) (unwritten P) a.state b.state s
+pub only_staying : {A : Type 0} (P : Source → Type 0) (a b : Stage A) → Passed a b → MayFallSilent (SilenceCause a.marks b.marks) Stays a.state b.state → MayFallSilent (SilenceCause a.marks b.marks) (WritesOnly P) a.state b.state
+only_staying P a b p s = goes_weaker (SilenceCause a.marks b.marks) Stays (WritesOnly P) (unwritten P) a.state b.state s
 
 -- what is allowed is allowed by more
 pub only_wider : {A : Type 0} (P Q : Source → Type 0) → ((x : Source) → P x → Q x) → (a b : Stage A) → Passed a b
-    → Goes (IsLost a.marks b.marks) (WritesOnly P) a.state b.state → Goes (IsLost a.marks b.marks) (WritesOnly Q) a.state b.state
-only_wider P Q f a b p h = goes_weaker (IsLost a.marks b.marks) (WritesOnly P) (WritesOnly Q) (writes_wider P Q f) a.state b.state h
+    → MayFallSilent (SilenceCause a.marks b.marks) (WritesOnly P) a.state b.state → MayFallSilent (SilenceCause a.marks b.marks) (WritesOnly Q) a.state b.state
+only_wider P Q f a b p h = goes_weaker (SilenceCause a.marks b.marks) (WritesOnly P) (WritesOnly Q) (writes_wider P Q f) a.state b.state h
 
 -- one call after another
 pub only_over : {A : Type 0} (P Q R : Source → Type 0) → ((x : Source) → P x → R x) → ((x : Source) → Q x → R x) → (a b c : Stage A) → Passed a b → Passed b c
-    → Goes (IsLost a.marks b.marks) (WritesOnly P) a.state b.state → Goes (IsLost b.marks c.marks) (WritesOnly Q) b.state c.state
-    → Goes (IsLost a.marks c.marks) (WritesOnly R) a.state c.state
+    → MayFallSilent (SilenceCause a.marks b.marks) (WritesOnly P) a.state b.state → MayFallSilent (SilenceCause b.marks c.marks) (WritesOnly Q) b.state c.state
+    → MayFallSilent (SilenceCause a.marks c.marks) (WritesOnly R) a.state c.state
 only_over P Q R f g a b c p q h k =
     goes_two (WritesOnly P) (WritesOnly Q) (WritesOnly R) (writes_on P Q R f g) a.marks b.marks c.marks p.later q.later a.state b.state c.state h k
 
 -- two of the same
 pub only_on : {A : Type 0} (P : Source → Type 0) (a b c : Stage A) → Passed a b → Passed b c
-    → Goes (IsLost a.marks b.marks) (WritesOnly P) a.state b.state → Goes (IsLost b.marks c.marks) (WritesOnly P) b.state c.state
-    → Goes (IsLost a.marks c.marks) (WritesOnly P) a.state c.state
+    → MayFallSilent (SilenceCause a.marks b.marks) (WritesOnly P) a.state b.state → MayFallSilent (SilenceCause b.marks c.marks) (WritesOnly P) b.state c.state
+    → MayFallSilent (SilenceCause a.marks c.marks) (WritesOnly P) a.state c.state
 only_on P a b c p q h k = only_over P P P (λ x w. w) (λ x w. w) a b c p q h k
 
 -- and behind a call that leaves the state
 pub only_behind : {A : Type 0} (P : Source → Type 0) (a b c : Stage A) → Passed a b → Passed b c
-    → Goes (IsLost a.marks b.marks) Stays a.state b.state → Goes (IsLost b.marks c.marks) (WritesOnly P) b.state c.state
-    → Goes (IsLost a.marks c.marks) (WritesOnly P) a.state c.state
+    → MayFallSilent (SilenceCause a.marks b.marks) Stays a.state b.state → MayFallSilent (SilenceCause b.marks c.marks) (WritesOnly P) b.state c.state
+    → MayFallSilent (SilenceCause a.marks c.marks) (WritesOnly P) a.state c.state
 only_behind P a b c p q h k = only_on P a b c p q (only_staying P a b p h) k
 
 -- a call that makes a change, or leaves the state
-pub only_changing : {A T E : Type 0} (r : Result T E) (P : Source → Type 0) (a b : Stage A) → Passed a b → (C : T → State A → State A → Type 0) → ((d : T) (s t : State A) → C d s t → WritesOnly P s t)
-    → IfOk r (λ d. Goes (IsLost a.marks b.marks) (C d) a.state b.state) → OnErr r (Goes (IsLost a.marks b.marks) Stays a.state b.state)
-    → Goes (IsLost a.marks b.marks) (WritesOnly P) a.state b.state
+pub only_changing : {A T E : Type 0} (r : Result T E) (P : Source → Type 0) (a b : Stage A) → Passed a b → (C : T → WorldState A → WorldState A → Type 0) → ((d : T) (s t : WorldState A) → C d s t → WritesOnly P s t)
+    → IfOk r (λ d. MayFallSilent (SilenceCause a.marks b.marks) (C d) a.state b.state) → OnErr r (MayFallSilent (SilenceCause a.marks b.marks) Stays a.state b.state)
+    → MayFallSilent (SilenceCause a.marks b.marks) (WritesOnly P) a.state b.state
 only_changing r P a b p C only d s =
-    either_end r (λ d. Goes (IsLost a.marks b.marks) (C d) a.state b.state) (Goes (IsLost a.marks b.marks) Stays a.state b.state) (Goes (IsLost a.marks b.marks) (WritesOnly P) a.state b.state)
-    (λ x h. goes_weaker (IsLost a.marks b.marks) (C x) (WritesOnly P) (only x) a.state b.state h)
+    either_end r (λ d. MayFallSilent (SilenceCause a.marks b.marks) (C d) a.state b.state) (MayFallSilent (SilenceCause a.marks b.marks) Stays a.state b.state) (MayFallSilent (SilenceCause a.marks b.marks) (WritesOnly P) a.state b.state)
+    (λ x h. goes_weaker (SilenceCause a.marks b.marks) (C x) (WritesOnly P) (only x) a.state b.state h)
     (λ h. only_staying P a b p h) d s
 
 -- ---- changes
 
-pub changed_only : {A : Type 0} (c : Change) (done : Bool) (a b : State A) → IsChanged c done a b → WritesOnly (IsOneOf (written c)) a b
+pub changed_only : {A : Type 0} (c : Change) (done : Bool) (a b : WorldState A) → IsChanged c done a b → WritesOnly (IsOneOf (written c)) a b
 changed_only c true a b h = record { more = written c; wrote = ap (λ z. z.wrote) h.1; allowed = λ x k. k }
 changed_only c false a b h = unwritten (IsOneOf (written c)) a b h.1
 
-pub row_made_only : {A : Type 0} (columns : List Column) (k : ℕ) (cells : List Data) (p : Put) (s t : State A) → IsRowMade columns k cells p s t → WritesOnly (IsOneOf (source.Table k ∷ [])) s t
+pub row_made_only : {A : Type 0} (columns : List Column) (k : ℕ) (cells : List Data) (p : Put) (s t : WorldState A) → IsRowMade columns k cells p s t → WritesOnly (IsOneOf (source.Table k ∷ [])) s t
 row_made_only columns k cells (Id n) s t h = record { more = source.Table k ∷ []; wrote = ap (λ z. z.wrote) h.2; allowed = λ x w. w }
 row_made_only columns k cells (Refused r) s t h = unwritten (IsOneOf (source.Table k ∷ [])) s t h.2
 row_made_only columns k cells NoRow s t h = unwritten (IsOneOf (source.Table k ∷ [])) s t h.2
 
-pub row_changed_only : {A : Type 0} (columns : List Column) (k id : ℕ) (cells : List Data) (p : Put) (s t : State A) → IsRowChanged columns k id cells p s t → WritesOnly (IsOneOf (source.Table k ∷ [])) s t
+pub row_changed_only : {A : Type 0} (columns : List Column) (k id : ℕ) (cells : List Data) (p : Put) (s t : WorldState A) → IsRowChanged columns k id cells p s t → WritesOnly (IsOneOf (source.Table k ∷ [])) s t
 row_changed_only columns k id cells (Id n) s t h = record { more = source.Table k ∷ []; wrote = ap (λ z. z.wrote) h.2; allowed = λ x w. w }
 row_changed_only columns k id cells (Refused r) s t h = unwritten (IsOneOf (source.Table k ∷ [])) s t h.2
 row_changed_only columns k id cells NoRow s t h = unwritten (IsOneOf (source.Table k ∷ [])) s t h.2
 
-pub row_removed_only : {A : Type 0} (k id : ℕ) (found : Bool) (s t : State A) → IsRowRemoved k id found s t → WritesOnly (IsOneOf (source.Table k ∷ [])) s t
+pub row_removed_only : {A : Type 0} (k id : ℕ) (found : Bool) (s t : WorldState A) → IsRowRemoved k id found s t → WritesOnly (IsOneOf (source.Table k ∷ [])) s t
 row_removed_only k id true s t h = record { more = source.Table k ∷ []; wrote = ap (λ z. z.wrote) h.2; allowed = λ x w. w }
 row_removed_only k id false s t h = unwritten (IsOneOf (source.Table k ∷ [])) s t h.2

@@ -12,7 +12,7 @@ use Rattle.std.proofs.lemmas.List.Folds.{find-append}
 use Rattle.std.proofs.lemmas.Map.Lookups.{exact_bytes}
 use Rattle.std.proofs.lemmas.Slice.Eq.{bytes_eq-Decides}
 use Rattle.std.specs.List.{AllByRecursion}
-use Rattle.fx_types.specs.Lookup.{item_of}
+use Rattle.fx_types.specs.Lookup.{item_named}
 use Rattle.fx_types.specs.declared.types.Ty.{Ty}
 use Rattle.fx_types.specs.declared.types.Ty.TheVariants as ty
 use Rattle.fx_types.specs.Types.{Shape, numbers, texts, booleans, dates, records, tables, ColumnList, no_columns, column}
@@ -30,12 +30,12 @@ use Rattle.fx_value.proofs.Widenings.{flat_fits, own_name, rec_to_records, tab_t
 use Rattle.fx_value.specs.Coercion.{CanWiden}
 use Rattle.fx_value.specs.Fits.{fits_in}
 use Rattle.fx_value.specs.Order.{IsScalar}
-use Rattle.row_queries.specs.TableRows.{AreCellsOf, IsRowOf, id_value, record_of, with_cells}
+use Rattle.row_queries.specs.TableRows.{AreCellsOf, IsRowOf, id_value, record_of_row, cells_by_name}
 use Rattle.row_queries.specs.declared.rows.Row.{Row}
 use Rattle.row_queries.proofs.Lacking.{AllLack, AllLackTypes, Lacks, LacksType, all_lack_id, all_lack_one, all_lack_put, all_lack_types, names_of}
 use Rattle.fx_deeds.proofs.Joins.{field_can}
 use Rattle.fx_deeds.specs.Fitting.{AreOfSome}
-use Rattle.fx_deeds.specs.RowValues.{blank_cells, cells_in, changed_cells, changed_value, values_among, values_of}
+use Rattle.fx_deeds.specs.RowValues.{blank_cells, cells_in, changed_cells, changed_value, values_among, field_values}
 
 other_name : (n m : List ℕ) → (n ≡ m → ⊥) → bytes_eq n m ≡ false
 other_name n m h = by (bytes_eq n m) refl
@@ -46,37 +46,37 @@ other_name n m h = by (bytes_eq n m) refl
 
 -- ---- the cells of a record
 
-put_own : (n : List ℕ) (d : Data) (fs : Fields) → Lacks n fs → item_of n (with_field n d fs) ≡ Some d
+put_own : (n : List ℕ) (d : Data) (fs : Fields) → Lacks n fs → item_named n (with_field n d fs) ≡ Some d
 put_own n d [] l = rw (own_name n) refl
 put_own n d (f ∷ fs) l = by (is_lt (slice_cmp nat_cmp n f.0)) (put_own n d fs l.1)
   where
-    by : (b : Bool) → item_of n (with_field n d fs) ≡ Some d → item_of n (if b then (n, d) ∷ f ∷ fs else f ∷ with_field n d fs) ≡ Some d
+    by : (b : Bool) → item_named n (with_field n d fs) ≡ Some d → item_named n (if b then (n, d) ∷ f ∷ fs else f ∷ with_field n d fs) ≡ Some d
     by true h = rw (own_name n) refl
     by false h = rw (other_name f.0 n (λ e. l.0 (sym e))) h
 
-put_other : (n m : List ℕ) (d : Data) (fs : Fields) → n ≢ m → item_of n (with_field m d fs) ≡ item_of n fs
+put_other : (n m : List ℕ) (d : Data) (fs : Fields) → n ≢ m → item_named n (with_field m d fs) ≡ item_named n fs
 put_other n m d [] a = rw (other_name m n (λ e. a (sym e))) refl
 put_other n m d (f ∷ fs) a = by (is_lt (slice_cmp nat_cmp m f.0)) (put_other n m d fs a)
   where
-    by : (b : Bool) → item_of n (with_field m d fs) ≡ item_of n fs → item_of n (if b then (m, d) ∷ f ∷ fs else f ∷ with_field m d fs) ≡ item_of n (f ∷ fs)
+    by : (b : Bool) → item_named n (with_field m d fs) ≡ item_named n fs → item_named n (if b then (m, d) ∷ f ∷ fs else f ∷ with_field m d fs) ≡ item_named n (f ∷ fs)
     by true h = rw (other_name m n (λ e. a (sym e))) refl
     by false h = ap (λ (o : Option Data). if bytes_eq f.0 n then Some f.1 else o) h
 
-others_stay : (n : List ℕ) (cs : List Column) (ds : List Data) (fs : Fields) → DiffersFromAll n (names_of cs) → item_of n (with_cells cs ds fs) ≡ item_of n fs
+others_stay : (n : List ℕ) (cs : List Column) (ds : List Data) (fs : Fields) → DiffersFromAll n (names_of cs) → item_named n (cells_by_name cs ds fs) ≡ item_named n fs
 others_stay n [] ds fs a = refl
 others_stay n (c ∷ cs) [] fs a = refl
 others_stay n (c ∷ cs) (d ∷ ds) fs a = others_stay n cs ds (with_field c.name d fs) a.1 ∙ put_other n c.name d fs a.0
 
-cells_under : (cs : List Column) (ds : List Data) (fs : Fields) → AreCellsOf cs ds → AreDistinct (names_of cs) → AllLack cs fs → cells_in cs (with_cells cs ds fs) ≡ ds
+cells_under : (cs : List Column) (ds : List Data) (fs : Fields) → AreCellsOf cs ds → AreDistinct (names_of cs) → AllLack cs fs → cells_in cs (cells_by_name cs ds fs) ≡ ds
 cells_under [] [] fs a x l = refl
 cells_under (c ∷ cs) (d ∷ ds) fs a x l =
-    let own : item_of c.name (with_cells cs ds (with_field c.name d fs)) ≡ Some d = others_stay c.name cs ds (with_field c.name d fs) x.0 ∙ put_own c.name d fs l.0 in
+    let own : item_named c.name (cells_by_name cs ds (with_field c.name d fs)) ≡ Some d = others_stay c.name cs ds (with_field c.name d fs) x.0 ∙ put_own c.name d fs l.0 in
     λ i. unwrap_or (own i) blank ∷ cells_under cs ds (with_field c.name d fs) a.2 x.1 (all_lack_put c.name d cs fs x.0 l.1) i
 cells_under [] (d ∷ ds) fs a x l = absurd a
 cells_under (c ∷ cs) [] fs a x l = absurd a
 
 -- the cells of a row's record are the row's
-pub cells_back : (t : TableShape) (r : Row) → IsLawfulTable t → IsRowOf t r → cells_in t.columns (record_of t r) ≡ r.cells
+pub cells_back : (t : TableShape) (r : Row) → IsLawfulTable t → IsRowOf t r → cells_in t.columns (record_of_row t r) ≡ r.cells
 cells_back t r l h = cells_under t.columns r.cells ((id_name, id_value r.id) ∷ []) h.1 l.2.1 (all_lack_one id_name (id_value r.id) t.columns l.2.0)
 
 -- ---- the types of columns
@@ -123,7 +123,7 @@ table_types t l = have_types t.columns (column id_name numbers no_columns) l.2.1
 -- no error in the fields of these rows
 abbrev AreClean : List Fields → Type 0
 AreClean [] = Unit {0}
-AreClean (q ∷ qs) = (find is_fault (values_of q) ≡ None) × AreClean qs
+AreClean (q ∷ qs) = (find is_fault (field_values q) ≡ None) × AreClean qs
 
 first_none : {X : Type 0} (a b : Option X) → option_or a b ≡ None → (a ≡ None) × (b ≡ None)
 first_none None b h = (refl, h)
@@ -131,14 +131,14 @@ first_none (Some x) b h = absurd cc
 
 pub clean : (changes : List Fields) → find is_fault (values_among changes) ≡ None → AreClean changes
 clean [] h = tt
-clean (q ∷ qs) h = let k = first_none (find is_fault (values_of q)) (find is_fault (values_among qs)) (sym (find-append is_fault (values_of q) (values_among qs)) ∙ h) in (k.0, clean qs k.1)
+clean (q ∷ qs) h = let k = first_none (find is_fault (field_values q)) (find is_fault (values_among qs)) (sym (find-append is_fault (field_values q) (values_among qs)) ∙ h) in (k.0, clean qs k.1)
 
-item_clean : (n : List ℕ) (q : Fields) (v : Data) → find is_fault (values_of q) ≡ None → item_of n q ≡ Some v → is_fault v ≡ false
+item_clean : (n : List ℕ) (q : Fields) (v : Data) → find is_fault (field_values q) ≡ None → item_named n q ≡ Some v → is_fault v ≡ false
 item_clean n [] v h e = absurd cc
 item_clean n (f ∷ fs) v h e = go (is_fault f.1) refl h (λ k q. item_clean n fs v k q) (bytes_eq f.0 n) e
   where
-    go : (b : Bool) → is_fault f.1 ≡ b → cond b (Some f.1) (find is_fault (values_of fs)) ≡ None → (find is_fault (values_of fs) ≡ None → item_of n fs ≡ Some v → is_fault v ≡ false) → (c : Bool) →
-        (if c then Some f.1 else item_of n fs) ≡ Some v → is_fault v ≡ false
+    go : (b : Bool) → is_fault f.1 ≡ b → cond b (Some f.1) (find is_fault (field_values fs)) ≡ None → (find is_fault (field_values fs) ≡ None → item_named n fs ≡ Some v → is_fault v ≡ false) → (c : Bool) →
+        (if c then Some f.1 else item_named n fs) ≡ Some v → is_fault v ≡ false
     go true p k more c q = absurd cc
     go false p k more true q = let same : f.1 ≡ v = cc in subst (λ z. is_fault z ≡ false) same p
     go false p k more false q = more k q
@@ -179,9 +179,9 @@ cell_fits (fault k cs) t p n c = absurd cc
 changed_fits : (all : ColumnList) → AreLawfulColumns all → (n : List ℕ) (t : Shape) → type_in n all ≡ Some t → IsPlain t → (changes : List Fields) → AreOfSome all changes → AreClean changes → (d : Data) → IsScalar d × (fits_in d t ≡ true) →
     IsScalar (changed_value n changes d) × (fits_in (changed_value n changes d) t ≡ true)
 changed_fits all l n t e p [] h k d f = f
-changed_fits all l n t e p (q ∷ qs) h k d f = changed_fits all l n t e p qs h.1 k.1 (unwrap_or (item_of n q) d) (by (item_of n q) refl)
+changed_fits all l n t e p (q ∷ qs) h k d f = changed_fits all l n t e p qs h.1 k.1 (unwrap_or (item_named n q) d) (by (item_named n q) refl)
   where
-    by : (o : Option Data) → item_of n q ≡ o → IsScalar (unwrap_or o d) × (fits_in (unwrap_or o d) t ≡ true)
+    by : (o : Option Data) → item_named n q ≡ o → IsScalar (unwrap_or o d) × (fits_in (unwrap_or o d) t ≡ true)
     by None i = f
     by (Some v) i = cell_fits v t p (item_clean n q v k.0 i) (field_can all l q h.0 n t e v i)
 

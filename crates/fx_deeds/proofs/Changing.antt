@@ -11,7 +11,7 @@ use Rattle.row_keeper.specs.declared.rows.Put.{Put}
 use Rattle.row_keeper.specs.declared.rows.Put.TheVariants.{Id, NoRow, Refused}
 use Rattle.fx_deeds.proofs.Passing.{within_nowhere}
 use Rattle.fx_deeds.specs.Changed.{IsChanged, IsRowChanged, IsRowMade, IsRowRemoved, by_done, with_table, written}
-use Rattle.fx_deeds.specs.State.{State}
+use Rattle.fx_deeds.specs.State.{WorldState}
 use Rattle.fx_deeds.specs.Within.{SameBut, Within}
 
 get_set_other : {A : Type 0} (xs : List A) (k j : ℕ) (x : A) → (k ≡ j → ⊥) → slice_get (slice_set xs k x) j ≡ slice_get xs j
@@ -22,7 +22,7 @@ get_set_other (y ∷ xs) (suc k) zero x n = refl
 get_set_other (y ∷ xs) (suc k) (suc j) x n = get_set_other xs k j x (λ e. n (ap suc e))
 
 -- a change writes all that it changes
-made_within : {A : Type 0} (c : Change) (s : State A) → SameBut (written c) s (by_done true c s)
+made_within : {A : Type 0} (c : Change) (s : WorldState A) → SameBut (written c) s (by_done true c s)
 made_within (change.Global k x) s = record {
   app = refl;
   kept = refl;
@@ -112,7 +112,7 @@ made_within (change.Notice w) s = record {
   room = refl;
 }
 
-pub changed_within : {A : Type 0} (c : Change) (done : Bool) (a b : State A) → IsChanged c done a b → Within a b
+pub changed_within : {A : Type 0} (c : Change) (done : Bool) (a b : WorldState A) → IsChanged c done a b → Within a b
 changed_within c false a b h = subst (λ z. Within a z) (sym h.1) (within_nowhere a)
 changed_within c true a b h = subst (λ z. Within a z) (sym h.1) (record { more = written c; wrote = refl; same = made_within c a })
 
@@ -125,7 +125,7 @@ state_other (y ∷ xs) zero (suc j) x n = refl
 state_other (y ∷ xs) (suc k) zero x n = refl
 state_other (y ∷ xs) (suc k) (suc j) x n = state_other xs k j x (λ e. n (ap suc e))
 
-table_within : {A : Type 0} (s : State A) (k : ℕ) (x : TableState) (b : Tables) → b ≡ with_state s.tables k x → Within s (with_table k b s)
+table_within : {A : Type 0} (s : WorldState A) (k : ℕ) (x : TableState) (b : Tables) → b ≡ with_state s.tables k x → Within s (with_table k b s)
 table_within s k x b e = subst (λ z. Within s (with_table k z s)) (sym e) (record {
   more = source.Table k ∷ [];
   wrote = refl;
@@ -142,16 +142,16 @@ table_within s k x b e = subst (λ z. Within s (with_table k z s)) (sym e) (reco
   };
 })
 
-pub row_made_within : {A : Type 0} (columns : List Column) (k : ℕ) (cells : List Data) (p : Put) (s t : State A) → IsRowMade columns k cells p s t → Within s t
+pub row_made_within : {A : Type 0} (columns : List Column) (k : ℕ) (cells : List Data) (p : Put) (s t : WorldState A) → IsRowMade columns k cells p s t → Within s t
 row_made_within columns k cells (Id n) s t h = subst (λ z. Within s z) (sym h.2) (table_within s k _ h.0 h.1.2)
 row_made_within columns k cells (Refused r) s t h = subst (λ z. Within s z) (sym h.2) (within_nowhere s)
 row_made_within columns k cells NoRow s t h = absurd h.1
 
-pub row_changed_within : {A : Type 0} (columns : List Column) (k id : ℕ) (cells : List Data) (p : Put) (s t : State A) → IsRowChanged columns k id cells p s t → Within s t
+pub row_changed_within : {A : Type 0} (columns : List Column) (k id : ℕ) (cells : List Data) (p : Put) (s t : WorldState A) → IsRowChanged columns k id cells p s t → Within s t
 row_changed_within columns k id cells (Id n) s t h = subst (λ z. Within s z) (sym h.2) (table_within s k _ h.0 h.1.3)
 row_changed_within columns k id cells (Refused r) s t h = subst (λ z. Within s z) (sym h.2) (within_nowhere s)
 row_changed_within columns k id cells NoRow s t h = subst (λ z. Within s z) (sym h.2) (within_nowhere s)
 
-pub row_removed_within : {A : Type 0} (k id : ℕ) (found : Bool) (s t : State A) → IsRowRemoved k id found s t → Within s t
+pub row_removed_within : {A : Type 0} (k id : ℕ) (found : Bool) (s t : WorldState A) → IsRowRemoved k id found s t → Within s t
 row_removed_within k id true s t h = subst (λ z. Within s z) (sym h.2) (table_within s k _ h.0 h.1.1)
 row_removed_within k id false s t h = subst (λ z. Within s z) (sym h.2) (within_nowhere s)

@@ -3,7 +3,7 @@ use Rattle.std.proofs.Common.{◌≡◌, ℕ, ◌≤◌, length, List, [], false
 use Rattle.std.specs.Prelude.{MatchOption, option_map, slice_get}
 use Rattle.std.specs.List.{find}
 use Rattle.std.proofs.lemmas.Option.{slice_get_past}
-use Rattle.fx_base.specs.Silence.{Goes}
+use Rattle.fx_base.specs.Silence.{MayFallSilent}
 use Rattle.fx_types.specs.declared.faults.Fault.{Fault}
 use Rattle.fx_types.specs.declared.values.Value.{Value}
 use Rattle.fx_types.specs.declared.values.Value.TheVariants as value
@@ -20,9 +20,9 @@ use Rattle.fx_core.specs.declared.sources.Source.{Source}
 use Rattle.fx_core.specs.declared.sources.Source.TheVariants as source
 use Rattle.fx_core.specs.SourceTypes.{columns_of, sources, table_type}
 use Rattle.fx_types.specs.TypeView.{shape}
-use Rattle.fx_deeds.specs.Deeds.{Answers, OrErrorAmong, text_of}
+use Rattle.fx_deeds.specs.Deeds.{AnswersOnly, OrErrorAmong, text_or_none}
 use Rattle.fx_deeds.specs.Fitting.{IsOfColumns, SourceTypes}
-use Rattle.fx_deeds.specs.State.{State}
+use Rattle.fx_deeds.specs.State.{WorldState}
 
 -- ---- errors among values
 
@@ -33,14 +33,14 @@ no_error (Some e) w h n = absurd (n e refl)
 pub is_error : (o : Option Value) (w : Option Data) (e : Value) → option_map view o ≡ w → o ≡ Some e → w ≡ Some (view e)
 is_error o w e h is = sym h ∙ ap (option_map view) is
 
-pub by_none : {A : Type 0} (ys : List Data) (P : Type 0) (s : State A) (x : Data) (t : State A) → find is_fault ys ≡ None → P → OrErrorAmong ys P s x t
-by_none ys P s x t e h = subst (λ o. MatchOption o P (λ f. Answers f s x t)) (sym e) h
+pub by_none : {A : Type 0} (ys : List Data) (P : Type 0) (s : WorldState A) (x : Data) (t : WorldState A) → find is_fault ys ≡ None → P → OrErrorAmong ys P s x t
+by_none ys P s x t e h = subst (λ o. MatchOption o P (λ f. AnswersOnly f s x t)) (sym e) h
 
-pub by_error : {A : Type 0} (ys : List Data) (P : Type 0) (s : State A) (x : Data) → find is_fault ys ≡ Some x → OrErrorAmong ys P s x s
-by_error ys P s x e = subst (λ o. MatchOption o P (λ f. Answers f s x s)) (sym e) (refl, refl)
+pub by_error : {A : Type 0} (ys : List Data) (P : Type 0) (s : WorldState A) (x : Data) → find is_fault ys ≡ Some x → OrErrorAmong ys P s x s
+by_error ys P s x e = subst (λ o. MatchOption o P (λ f. AnswersOnly f s x s)) (sym e) (refl, refl)
 
 -- where nothing was done
-pub goes_nowhere : {A : Type 0} (lost : Type 0) (P : State A → State A → Type 0) (x : Option (State A)) → ((s : State A) → P s s) → Goes lost P x x
+pub goes_nowhere : {A : Type 0} (lost : Type 0) (P : WorldState A → WorldState A → Type 0) (x : Option (WorldState A)) → ((s : WorldState A) → P s s) → MayFallSilent lost P x x
 goes_nowhere lost P None f = refl
 goes_nowhere lost P (Some s) f = f s
 
@@ -72,7 +72,7 @@ table_named f n k cs typed shaped h =
 -- ---- texts
 
 -- what is no text and no error has no words
-pub no_text : (v : Value) → ((w : List ℕ) → v ≡ value.Text w → ⊥) → ((f : Fault) → v ≡ value.Fault f → ⊥) → (w : List ℕ) → w ≡ [] → (w ≡ text_of (view v)) × (is_fault (view v) ≡ false)
+pub no_text : (v : Value) → ((w : List ℕ) → v ≡ value.Text w → ⊥) → ((f : Fault) → v ≡ value.Fault f → ⊥) → (w : List ℕ) → w ≡ [] → (w ≡ text_or_none (view v)) × (is_fault (view v) ≡ false)
 no_text value.Blank n m w e = (e, refl)
 no_text (value.Number z) n m w e = (e, refl)
 no_text (value.Text cs) n m w e = absurd (n cs refl)

@@ -1,7 +1,7 @@
 -- A deed by what it is, with the values that it takes.
 use Rattle.std.proofs.Common.{◌≡◌, ℕ, List, [], ◌∷◌, Option, Result, length, map, true, refl, subst, sym}
 use Rattle.std.specs.Prelude.{IfOk}
-use Rattle.fx_base.specs.Silence.{Goes}
+use Rattle.fx_base.specs.Silence.{MayFallSilent}
 use Rattle.fx_types.specs.declared.values.Value.{Value}
 use Rattle.fx_types.specs.Types.{Shape, booleans}
 use Rattle.fx_types.specs.ValueView.{view}
@@ -12,7 +12,7 @@ use Rattle.fx_core.specs.declared.deeds.Target.{Target}
 use Rattle.fx_deeds.specs.Doable.{AnswersAs, CanDo}
 use Rattle.fx_deeds.specs.Done.{IsDeed}
 use Rattle.fx_deeds.specs.Fitting.{SourceTypes}
-use Rattle.fx_deeds.specs.State.{Frame, State}
+use Rattle.fx_deeds.specs.State.{EvalFrame, WorldState}
 
 -- ---- one value
 
@@ -52,11 +52,11 @@ pub can_as : (types : SourceTypes) (d e : Deed) (vs ws : List Value) → d ≡ e
 can_as types d e vs ws p q h = subst (λ us. CanDo types e (map view us)) q (subst (λ z. CanDo types z (map view vs)) p h)
 
 -- what was done with it was done with the deed
-pub done_as : {A E : Type 0} (r : Result Value E) (lost : Type 0) (y z : Option (State A)) (f : Frame) (d e : Deed) (vs ws : List Value) → d ≡ e → vs ≡ ws →
-    IfOk r (λ x. Goes lost (λ s t. IsDeed f e (map view ws) s (view x) t) y z) → IfOk r (λ x. Goes lost (λ s t. IsDeed f d (map view vs) s (view x) t) y z)
+pub done_as : {A E : Type 0} (r : Result Value E) (lost : Type 0) (y z : Option (WorldState A)) (f : EvalFrame) (d e : Deed) (vs ws : List Value) → d ≡ e → vs ≡ ws →
+    IfOk r (λ x. MayFallSilent lost (λ s t. IsDeed f e (map view ws) s (view x) t) y z) → IfOk r (λ x. MayFallSilent lost (λ s t. IsDeed f d (map view vs) s (view x) t) y z)
 done_as r lost y z f d e vs ws p q h =
-    subst (λ u. IfOk r (λ x. Goes lost (λ s t. IsDeed f u (map view vs) s (view x) t) y z)) (sym p)
-    (subst (λ us. IfOk r (λ x. Goes lost (λ s t. IsDeed f e (map view us) s (view x) t) y z)) (sym q) h)
+    subst (λ u. IfOk r (λ x. MayFallSilent lost (λ s t. IsDeed f u (map view vs) s (view x) t) y z)) (sym p)
+    (subst (λ us. IfOk r (λ x. MayFallSilent lost (λ s t. IsDeed f e (map view us) s (view x) t) y z)) (sym q) h)
 
 -- and the answer fits
 pub fits_as : {E : Type 0} (r : Result Value E) (types : SourceTypes) (d e : Deed) (u : Shape) → d ≡ e → (AnswersAs types e u → u ≡ booleans) → AnswersAs types d u →

@@ -7,7 +7,7 @@ use Rattle.fx_core.specs.declared.schema.TableShape.{TableShape}
 use Rattle.row_queries.specs.Answers.{AreRowsFor, IsScanValue, table_or_fault}
 use Rattle.row_queries.specs.Laws.{AskedOnce}
 use Rattle.row_queries.specs.Queries.{IsQuery}
-use Rattle.row_queries.specs.TableRows.{table_of}
+use Rattle.row_queries.specs.TableRows.{rows_table}
 use Rattle.row_queries.specs.declared.rows.Row.{Row}
 use Rattle.row_queries.specs.declared.rows.RowList.{RowList}
 use Rattle.row_keeper.specs.Tables.{has_id}
@@ -35,7 +35,7 @@ pub record IsFoundIn (shapes : List TableShape) (told : Option (List (List Row))
   pub shape : TableShape
   pub rows : List Row
   pub asked : AreRowsFor shapes told (one_row table id) shape rows
-  pub found : d ≡ table_of shape (one (find (has_id id) rows))
+  pub found : d ≡ rows_table shape (one (find (has_id id) rows))
 
 pub found_in : AskedOnce → (shapes : List TableShape) (told : Option (List (List Row))) (table id : ℕ) (d : Data) → IsScanValue shapes told (one_row table id) d → IsFoundIn shapes told table id d
 found_in law shapes told table id d (t, rows, asked, (answer, scanned, e)) = record {

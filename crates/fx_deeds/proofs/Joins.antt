@@ -7,12 +7,12 @@ use Rattle.std.specs.declared.cmp.Ordering.{Ordering}
 use Rattle.std.specs.declared.cmp.Ordering.TheVariants.{Less, Equal, Greater}
 use Rattle.std.proofs.lemmas.Map.Text.{is_eq-slice_cmp}
 use Rattle.fx_types.proofs.Utf8Order.{and_second, and_first}
-use Rattle.fx_types.specs.Lookup.{item_of}
+use Rattle.fx_types.specs.Lookup.{item_named}
 use Rattle.fx_types.specs.Rising.{IsBelow}
 use Rattle.fx_types.specs.Types.{Shape, blanks, numbers, texts, booleans, dates, records, tables, ColumnList, no_columns, column}
 use Rattle.fx_types.specs.Values.{Data, blank, field_list}
 use Rattle.fx_value.specs.Columns.{Row}
-use Rattle.fx_typing.specs.LawfulTypes.{AreLawfulColumns, IsLawfulType, IsUnder}
+use Rattle.fx_typing.specs.LawfulTypes.{AreLawfulColumns, IsLawfulType, IsBelowColumns}
 use Rattle.fx_value.proofs.Unions.{Rises, Under, alike, below, under_further, union_both, union_first, union_of_none, union_second}
 use Rattle.fx_value.proofs.Widenings.{below_apart, own_name, same_name, type_in, under_apart}
 use Rattle.fx_value.specs.Coercion.{CanWiden, Widens, joined, same}
@@ -23,7 +23,7 @@ use Rattle.fx_deeds.specs.RowValues.{changed_value}
 
 -- ---- lawful columns rise
 
-under : (n : List ℕ) (cs : ColumnList) → IsUnder n cs → Under n cs
+under : (n : List ℕ) (cs : ColumnList) → IsBelowColumns n cs → Under n cs
 under n no_columns h = tt
 under n (column m t cs) h = (h.0, under n cs h.1)
 
@@ -139,17 +139,17 @@ FitsIn None t = Unit {0}
 FitsIn (Some d) None = ⊥
 FitsIn (Some d) (Some t) = fits_in d t ≡ true
 
-found_fits : (n : List ℕ) (r : Row) (cs : ColumnList) → fields_fit (field_list r) cs ≡ true → FitsIn (item_of n r) (type_in n cs)
+found_fits : (n : List ℕ) (r : Row) (cs : ColumnList) → fields_fit (field_list r) cs ≡ true → FitsIn (item_named n r) (type_in n cs)
 found_fits n [] cs h = tt
 found_fits n (f ∷ r) no_columns h = absurd cc
 found_fits n (f ∷ r) (column m t cs) h =
     let rest = fields_fit (field_list r) cs in
     let more = and_second (bytes_eq f.0 m) (fits_in f.1 t && rest) h in
     let e : f.0 ≡ m = same_name f.0 m (and_first (bytes_eq f.0 m) (fits_in f.1 t && rest) h) in
-    subst (λ z. FitsIn (if bytes_eq f.0 n then Some f.1 else item_of n r) (if bytes_eq z n then Some t else type_in n cs)) e
+    subst (λ z. FitsIn (if bytes_eq f.0 n then Some f.1 else item_named n r) (if bytes_eq z n then Some t else type_in n cs)) e
     (by (bytes_eq f.0 n) (and_first (fits_in f.1 t) rest more) (found_fits n r cs (and_second (fits_in f.1 t) rest more)))
   where
-    by : (b : Bool) → fits_in f.1 t ≡ true → FitsIn (item_of n r) (type_in n cs) → FitsIn (if b then Some f.1 else item_of n r) (if b then Some t else type_in n cs)
+    by : (b : Bool) → fits_in f.1 t ≡ true → FitsIn (item_named n r) (type_in n cs) → FitsIn (if b then Some f.1 else item_named n r) (if b then Some t else type_in n cs)
     by true k i = k
     by false k i = i
 
@@ -164,7 +164,7 @@ lawful_in n (column m u cs) l t e = by (bytes_eq m n) (λ q. lawful_in n cs l.2 
 widens_to : (t u : Shape) → IsLawfulType t → IsLawfulType u → join_of t u ≡ Some t → Widens u t
 widens_to t u l k e = joined u t t same (sym (join_turned t l u k) ∙ e)
 
-pub field_can : (cs : ColumnList) → AreLawfulColumns cs → (q : Row) → IsOfSome cs q → (n : List ℕ) (t : Shape) → type_in n cs ≡ Some t → (d : Data) → item_of n q ≡ Some d → CanWiden d t
+pub field_can : (cs : ColumnList) → AreLawfulColumns cs → (q : Row) → IsOfSome cs q → (n : List ℕ) (t : Shape) → type_in n cs ≡ Some t → (d : Data) → item_named n q ≡ Some d → CanWiden d t
 field_can cs l q h n t e d f = by (type_in n h.columns) refl (subst (λ o. FitsIn o (type_in n h.columns)) f (found_fits n q h.columns h.fits))
   where
     by : (o : Option Shape) → type_in n h.columns ≡ o → FitsIn (Some d) o → CanWiden d t
@@ -177,14 +177,14 @@ field_can cs l q h n t e d f = by (type_in n h.columns) refl (subst (λ o. FitsI
 
 changed_can : (cs : ColumnList) → AreLawfulColumns cs → (n : List ℕ) (t : Shape) → type_in n cs ≡ Some t → (changes : List Row) → AreOfSome cs changes → (d : Data) → CanWiden d t → CanWiden (changed_value n changes d) t
 changed_can cs l n t e [] h d k = k
-changed_can cs l n t e (q ∷ qs) h d k = changed_can cs l n t e qs h.1 (unwrap_or (item_of n q) d) (by (item_of n q) refl)
+changed_can cs l n t e (q ∷ qs) h d k = changed_can cs l n t e qs h.1 (unwrap_or (item_named n q) d) (by (item_named n q) refl)
   where
-    by : (o : Option Data) → item_of n q ≡ o → CanWiden (unwrap_or o d) t
+    by : (o : Option Data) → item_named n q ≡ o → CanWiden (unwrap_or o d) t
     by None f = k
     by (Some v) f = field_can cs l q h.0 n t e v f
 
-own_can : (cs : ColumnList) (r : Row) → fields_fit (field_list r) cs ≡ true → (n : List ℕ) (t : Shape) → type_in n cs ≡ Some t → CanWiden (unwrap_or (item_of n r) blank) t
-own_can cs r h n t e = by (item_of n r) (subst (FitsIn (item_of n r)) e (found_fits n r cs h))
+own_can : (cs : ColumnList) (r : Row) → fields_fit (field_list r) cs ≡ true → (n : List ℕ) (t : Shape) → type_in n cs ≡ Some t → CanWiden (unwrap_or (item_named n r) blank) t
+own_can cs r h n t e = by (item_named n r) (subst (FitsIn (item_named n r)) e (found_fits n r cs h))
   where
     by : (o : Option Data) → FitsIn o (Some t) → CanWiden (unwrap_or o blank) t
     by None k = record { from = t; fitting = refl; widens = same }
@@ -198,4 +198,4 @@ can_change cs l changes h r f = go cs (λ n t e. e) (rises cs l)
     go no_columns inc k = tt
     go (column n t ds) inc k =
         let here : type_in n cs ≡ Some t = inc n t (rw (own_name n) refl) in
-        (changed_can cs l n t here changes h (unwrap_or (item_of n r) blank) (own_can cs r f n t here), go ds (λ m u e. inc m u (rw (under_apart n ds k.0 m u e) e)) k.1)
+        (changed_can cs l n t here changes h (unwrap_or (item_named n r) blank) (own_can cs r f n t here), go ds (λ m u e. inc m u (rw (under_apart n ds k.0 m u e) e)) k.1)

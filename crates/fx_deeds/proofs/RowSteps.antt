@@ -9,8 +9,8 @@ use Rattle.std.proofs.lemmas.Bool.{and_from}
 use Rattle.fx_types.proofs.Utf8Order.{and_second, and_first}
 use Rattle.fx_types.specs.declared.types.Ty.{Ty}
 use Rattle.fx_types.specs.declared.values.Value.{Value}
-use Rattle.fx_types.specs.Lookup.{item_of}
-use Rattle.fx_types.specs.Rising.{AreRising, IsBelowAll}
+use Rattle.fx_types.specs.Lookup.{item_named}
+use Rattle.fx_types.specs.Rising.{AreNamesRising, IsNameBelowAll}
 use Rattle.fx_types.specs.Types.{Shape, column_list}
 use Rattle.fx_types.specs.TypeView.{columns_view, shape}
 use Rattle.fx_types.specs.Values.{Data, blank, field_list}
@@ -21,7 +21,7 @@ use Rattle.fx_value.proofs.Widenings.{own_name, rises_by_fit}
 use Rattle.fx_value.specs.Coercion.{widened}
 use Rattle.fx_value.specs.Fits.{fields_fit, fits_in}
 use Rattle.fx_deeds.specs.Fitting.{CanChange}
-use Rattle.fx_deeds.specs.RowValues.{blank_row, changed_row, changed_value, values_among, values_of}
+use Rattle.fx_deeds.specs.RowValues.{blank_row, changed_row, changed_value, values_among, field_values}
 use Rattle.fx_deeds.proofs.Steps.{none_is}
 
 -- one field more
@@ -37,11 +37,11 @@ one_on xs ys m n v d more e f g =
 pub blank_ends : (cs : List (List ℕ × Ty)) (xs : List (List ℕ × Value)) (whole : Row) → cs ≡ [] → fields_view xs ++ blank_row (column_list (columns_view cs)) ≡ whole → fields_view xs ≡ whole
 blank_ends cs xs whole e w = sym (append-nil (fields_view xs)) ∙ ap (λ (z : List (List ℕ × Ty)). fields_view xs ++ blank_row (column_list (columns_view z))) (sym e) ∙ w
 
-below_blanks : (n : List ℕ) (cs : List (List ℕ × Shape)) → IsBelowAll n cs → IsBelowAll n (blank_row (column_list cs))
+below_blanks : (n : List ℕ) (cs : List (List ℕ × Shape)) → IsNameBelowAll n cs → IsNameBelowAll n (blank_row (column_list cs))
 below_blanks n [] h = tt
 below_blanks n (c ∷ cs) h = (h.0, below_blanks n cs h.1)
 
-pub blanks_rise : (cs : List (List ℕ × Shape)) → AreRising cs → AreRising (blank_row (column_list cs))
+pub blanks_rise : (cs : List (List ℕ × Shape)) → AreNamesRising cs → AreNamesRising (blank_row (column_list cs))
 blanks_rise [] h = tt
 blanks_rise (c ∷ cs) h = (below_blanks c.0 cs h.0, blanks_rise cs h.1)
 
@@ -71,9 +71,9 @@ first_can changes r c rest others e h = subst (λ (z : List (List ℕ × Ty)). C
 
 pub change_goes : (columns : List (List ℕ × Shape)) (changes : List Row) (r : Row) (items now : List (List ℕ × Value)) (rest others : List (List ℕ × Ty)) (c : List ℕ × Ty) (m : List ℕ) (v : Value) (old new : Data) →
     IsChanging columns changes r items rest → rest ≡ c ∷ others → now ≡ items ++ (m, v) ∷ [] → m ≡ c.0 →
-    old ≡ unwrap_or (item_of c.0 r) blank → new ≡ changed_value c.0 changes old → view v ≡ widened new (shape c.1) → fits_in (view v) (shape c.1) ≡ true → IsChanging columns changes r now others
+    old ≡ unwrap_or (item_named c.0 r) blank → new ≡ changed_value c.0 changes old → view v ≡ widened new (shape c.1) → fits_in (view v) (shape c.1) ≡ true → IsChanging columns changes r now others
 change_goes columns changes r items now rest others c m v old new h e f g p q w fit =
-    let is : view v ≡ widened (changed_value c.0 changes (unwrap_or (item_of c.0 r) blank)) (shape c.1) = w ∙ ap (λ z. widened z (shape c.1)) (q ∙ ap (changed_value c.0 changes) p) in
+    let is : view v ≡ widened (changed_value c.0 changes (unwrap_or (item_named c.0 r) blank)) (shape c.1) = w ∙ ap (λ z. widened z (shape c.1)) (q ∙ ap (changed_value c.0 changes) p) in
     let more : changed_row (column_list (columns_view rest)) changes r ≡ changed_row (column_list (columns_view (c ∷ others))) changes r = ap (λ (z : List (List ℕ × Ty)). changed_row (column_list (columns_view z)) changes r) e in
     record {
       made = one_on items now m c.0 v _ (changed_row (column_list (columns_view others)) changes r) f g is ∙ ap (λ z. fields_view items ++ z) (sym more) ∙ h.made;
@@ -90,23 +90,23 @@ changed_fits columns changes r items rest h e =
     let whole : columns ≡ h.before = h.parted ∙ ap (λ (z : List (List ℕ × Ty)). h.before ++ columns_view z) e ∙ append-nil h.before in
     subst (λ z. fields_fit (field_list (fields_view items)) (column_list z) ≡ true) (sym whole) h.fits
 
-pub changed_rises : (columns : List (List ℕ × Shape)) (changes : List Row) (r : Row) (items : List (List ℕ × Value)) (rest : List (List ℕ × Ty)) → IsChanging columns changes r items rest → rest ≡ [] → AreRising columns →
-    AreRising (fields_view items)
+pub changed_rises : (columns : List (List ℕ × Shape)) (changes : List Row) (r : Row) (items : List (List ℕ × Value)) (rest : List (List ℕ × Ty)) → IsChanging columns changes r items rest → rest ≡ [] → AreNamesRising columns →
+    AreNamesRising (fields_view items)
 changed_rises columns changes r items rest h e rise = rises_by_fit (fields_view items) columns (changed_fits columns changes r items rest h e) rise
 
 -- ---- errors among rows
 
-among_parts : (rest others : List Row) (q : Row) → rest ≡ q ∷ others → find is_fault (values_among rest) ≡ option_or (find is_fault (values_of q)) (find is_fault (values_among others))
-among_parts rest others q e = ap (λ (z : List Row). find is_fault (values_among z)) e ∙ find-append is_fault (values_of q) (values_among others)
+among_parts : (rest others : List Row) (q : Row) → rest ≡ q ∷ others → find is_fault (values_among rest) ≡ option_or (find is_fault (field_values q)) (find is_fault (values_among others))
+among_parts rest others q e = ap (λ (z : List Row). find is_fault (values_among z)) e ∙ find-append is_fault (field_values q) (values_among others)
 
-pub among_first : (rest others : List Row) (q : Row) (o : Option Value) (e : Value) (whole : Option Data) → find is_fault (values_among rest) ≡ whole → rest ≡ q ∷ others → option_map view o ≡ find is_fault (values_of q) → o ≡ Some e →
+pub among_first : (rest others : List Row) (q : Row) (o : Option Value) (e : Value) (whole : Option Data) → find is_fault (values_among rest) ≡ whole → rest ≡ q ∷ others → option_map view o ≡ find is_fault (field_values q) → o ≡ Some e →
     Some (view e) ≡ whole
 among_first rest others q o e whole h p f is =
-    let found : find is_fault (values_of q) ≡ Some (view e) = sym f ∙ ap (option_map view) is in
+    let found : find is_fault (field_values q) ≡ Some (view e) = sym f ∙ ap (option_map view) is in
     sym (among_parts rest others q p ∙ ap (λ z. option_or z (find is_fault (values_among others))) found) ∙ h
 
-pub among_more : (rest others : List Row) (q : Row) (o : Option Value) (whole : Option Data) → find is_fault (values_among rest) ≡ whole → rest ≡ q ∷ others → option_map view o ≡ find is_fault (values_of q) → ((e : Value) → o ≡ Some e → ⊥) →
+pub among_more : (rest others : List Row) (q : Row) (o : Option Value) (whole : Option Data) → find is_fault (values_among rest) ≡ whole → rest ≡ q ∷ others → option_map view o ≡ find is_fault (field_values q) → ((e : Value) → o ≡ Some e → ⊥) →
     find is_fault (values_among others) ≡ whole
 among_more rest others q o whole h p f none =
-    let found : find is_fault (values_of q) ≡ None = sym f ∙ ap (option_map view) (none_is o none) in
+    let found : find is_fault (field_values q) ≡ None = sym f ∙ ap (option_map view) (none_is o none) in
     sym (among_parts rest others q p ∙ ap (λ z. option_or z (find is_fault (values_among others))) found) ∙ h

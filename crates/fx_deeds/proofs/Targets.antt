@@ -24,14 +24,14 @@ use Rattle.fx_deeds.specs.Doable.{AnswersAs, CanDo, CanUpdate}
 use Rattle.fx_deeds.specs.Done.{errors_in}
 use Rattle.fx_deeds.specs.Finding.{CanChangeEach, CanPatchRows}
 use Rattle.fx_deeds.specs.Fitting.{AreOfSome}
-use Rattle.fx_deeds.specs.RowValues.{columns_in, rows_among}
+use Rattle.fx_deeds.specs.RowValues.{columns_of_rows, rows_among}
 
 module _ (f : Fixed) (n : Names) (k : ℕ) (typed : (x : Source) → f.types x ≡ sources n x) (shaped : f.schema ≡ n.schema) where
   -- what holds of the columns of the type holds of those of the table
   by_columns : (cs : ColumnList) (P : ColumnList → Type 0) → f.types (Rattle.fx_typing.specs.WellTyped.target_source (target.Table k)) ≡ Some (tables cs) → P cs → OfTable f.schema k (λ p. P (columns_of p))
   by_columns cs P h p =
       let t = table_named f n k cs typed shaped h in
-      let same : columns_of t.0 ≡ cs = ap (λ z. columns_in (Some z)) t.2 in
+      let same : columns_of t.0 ≡ cs = ap (λ z. columns_of_rows (Some z)) t.2 in
       subst (λ o. IsSomeAnd o (λ (q : TableShape). P (columns_of q))) (sym t.1) (subst P (sym same) p)
 
   pub can_patch : (b : Data) (ds : List Data) → CanDo f.types (deed.Patch (target.Table k)) (b ∷ ds) → OfTable f.schema k (λ p. CanPatchRows p (rows_among ds))
@@ -42,12 +42,12 @@ module _ (f : Fixed) (n : Names) (k : ℕ) (typed : (x : Source) → f.types x �
       IfOk r (λ x. fits_in (view x) u ≡ true)
   patched_fits r u h j =
       let t = table_named f n k h.0 typed shaped h.1 in
-      let same : columns_of t.0 ≡ h.0 = ap (λ z. columns_in (Some z)) t.2 in
+      let same : columns_of t.0 ≡ h.0 = ap (λ z. columns_of_rows (Some z)) t.2 in
       let here = subst (λ o. IsSomeAnd o (λ (q : TableShape). IfOk r (λ x. fits_in (view x) (records (columns_of q)) ≡ true))) t.1 j in
       subst (λ z. IfOk r (λ x. fits_in (view x) z ≡ true)) (ap records same ∙ sym h.2) here
 
   pub can_update : (rows : List Row) (ds : List Data) → find is_fault (errors_in ds) ≡ None → CanUpdate f.types (target.Table k) rows ds → OfTable f.schema k (λ p. CanChangeEach p ds)
   can_update rows ds e h =
       let t = table_named f n k h.0 typed shaped h.1 in
-      let same : columns_of t.0 ≡ h.0 = ap (λ z. columns_in (Some z)) t.2 in
+      let same : columns_of t.0 ≡ h.0 = ap (λ z. columns_of_rows (Some z)) t.2 in
       subst (λ o. IsSomeAnd o (λ p. CanChangeEach p ds)) (sym t.1) (can_each t.0 (subst AreLawfulColumns (sym same) h.2) ds (subst (λ cs. AreOfSome cs (rows_among ds)) (sym same) h.4) e)

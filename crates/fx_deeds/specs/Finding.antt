@@ -19,10 +19,10 @@ use Rattle.row_keeper.specs.declared.rows.Put.TheVariants.{Id, NoRow, Refused}
 use Rattle.row_queries.specs.TableRows.{IsRowOf}
 use Rattle.row_queries.specs.declared.rows.Row.{Row}
 use Rattle.fx_deeds.specs.Changed.{IsRowChanged}
-use Rattle.fx_deeds.specs.Deeds.{Answers, id_of, named_id, row_at}
+use Rattle.fx_deeds.specs.Deeds.{AnswersOnly, row_id_value, named_id, row_numbered}
 use Rattle.fx_deeds.specs.Fitting.{AreOfSome}
 use Rattle.fx_deeds.specs.RowValues.{cells_in, changed_cells, not_found, rule_error, values_among}
-use Rattle.fx_deeds.specs.State.{State}
+use Rattle.fx_deeds.specs.State.{WorldState}
 
 -- the cells of the first of some records, if there is one
 abbrev pub first_cells : List Column → List Fields → Option (List Data)
@@ -30,13 +30,13 @@ first_cells columns [] = None
 first_cells columns (r ∷ rs) = Some (cells_in columns r)
 
 -- the cells of the row of a number were found, if there is one, and nothing changed
-abbrev pub FindsCells : {A : Type 0} → ℕ → ℕ → Option (List Data) → State A → State A → Type 0
-FindsCells k id o s t = (t ≡ s) × (o ≡ option_map (λ (r : Row). r.cells) (row_at k id s))
+abbrev pub FindsCells : {A : Type 0} → ℕ → ℕ → Option (List Data) → WorldState A → WorldState A → Type 0
+FindsCells k id o s t = (t ≡ s) × (o ≡ option_map (λ (r : Row). r.cells) (row_numbered k id s))
 
 -- the row of a number gets the cells that changes leave, if it is there
-abbrev pub IsRowPatched : {A : Type 0} → TableShape → ℕ → List Fields → ℕ → List Data → Put → State A → State A → Type 0
+abbrev pub IsRowPatched : {A : Type 0} → TableShape → ℕ → List Fields → ℕ → List Data → Put → WorldState A → WorldState A → Type 0
 IsRowPatched p k changes id cells put s t =
-    MatchOption (row_at k id s) ((put ≡ NoRow) × (t ≡ s))
+    MatchOption (row_numbered k id s) ((put ≡ NoRow) × (t ≡ s))
     (λ (r : Row). (cells ≡ changed_cells p.columns changes r.cells) × IsRowChanged p.columns k id cells put s t)
 
 -- the shape of a table, which is lawful
@@ -66,20 +66,20 @@ IsPutOf p cells (Id id) = IsRowAt p id cells
 IsPutOf p cells put = Unit {0}
 
 -- why a row wasn't changed
-abbrev pub IsStopped : TableShape → Put → Data → Type 0
-IsStopped p (Id id) d = ⊥
-IsStopped p NoRow d = d ≡ not_found
-IsStopped p (Refused r) d = d ≡ rule_error p.columns r
+abbrev pub IsRowStopped : TableShape → Put → Data → Type 0
+IsRowStopped p (Id id) d = ⊥
+IsRowStopped p NoRow d = d ≡ not_found
+IsRowStopped p (Refused r) d = d ≡ rule_error p.columns r
 
 -- what comes of a row that was to be changed: none where it was, and else why it wasn't
 abbrev pub IsPutEnd : TableShape → Put → Option Value → Type 0
 IsPutEnd p put None = (n : ℕ) × (put ≡ Id n)
-IsPutEnd p put (Some e) = IsStopped p put (view e)
+IsPutEnd p put (Some e) = IsRowStopped p put (view e)
 
 -- one row of `UpdateIf` was changed, or this is answered
-abbrev pub IsUpdatedRow : {A : Type 0} → TableShape → ℕ → Fields → Data → Option Value → State A → State A → Type 0
+abbrev pub IsUpdatedRow : {A : Type 0} → TableShape → ℕ → Fields → Data → Option Value → WorldState A → WorldState A → Type 0
 IsUpdatedRow p k r c None s t =
-    (id n : ℕ) × (cells : List Data) × (named_id (id_of (record_of r)) ≡ Ok id) × IsRowPatched p k (rows_in c) id cells (Id n) s t
+    (id n : ℕ) × (cells : List Data) × (named_id (row_id_value (record_of r)) ≡ Ok id) × IsRowPatched p k (rows_in c) id cells (Id n) s t
 IsUpdatedRow p k r c (Some e) s t =
-    MatchResult (named_id (id_of (record_of r))) (λ id. (cells : List Data) × (put : Put) × IsRowPatched p k (rows_in c) id cells put s t × IsStopped p put (view e))
-    (λ f. Answers f s (view e) t)
+    MatchResult (named_id (row_id_value (record_of r))) (λ id. (cells : List Data) × (put : Put) × IsRowPatched p k (rows_in c) id cells put s t × IsRowStopped p put (view e))
+    (λ f. AnswersOnly f s (view e) t)

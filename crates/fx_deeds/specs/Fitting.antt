@@ -1,6 +1,6 @@
 -- Which values deeds can take.
 use Rattle.std.specs.Prelude.{◌≡◌, ℕ, true, List, [], ◌∷◌, Option, Some, slice_get, unwrap_or}
-use Rattle.fx_types.specs.Lookup.{item_of}
+use Rattle.fx_types.specs.Lookup.{item_named}
 use Rattle.fx_types.specs.Types.{Shape, ColumnList, no_columns, column, tables}
 use Rattle.fx_types.specs.Values.{Data, blank, field_list}
 use Rattle.fx_env.specs.Scopes.{Fixed}
@@ -21,17 +21,17 @@ abbrev pub SourceTypes : Type 0
 SourceTypes = Source → Option Shape
 
 -- each table may be read, at its type
-abbrev pub ReadsTables : Fixed → Type 0
-ReadsTables fixed = (n : ℕ) (t : TableShape) → slice_get fixed.schema.tables n ≡ Some t → fixed.types (source.Table n) ≡ Some (tables (columns_of t))
+abbrev pub WorldReadsTables : Fixed → Type 0
+WorldReadsTables fixed = (n : ℕ) (t : TableShape) → slice_get fixed.schema.tables n ≡ Some t → fixed.types (source.Table n) ≡ Some (tables (columns_of t))
 
 -- a value of the source's type
-abbrev pub CanTake : SourceTypes → Source → Data → Type 0
-CanTake types x d = (t : Shape) × (types x ≡ Some t) × (fits_in d t ≡ true)
+abbrev pub SourceCanTake : SourceTypes → Source → Data → Type 0
+SourceCanTake types x d = (t : Shape) × (types x ≡ Some t) × (fits_in d t ≡ true)
 
 -- values for variables of a screen, one for each
 abbrev pub CanTakeAll : SourceTypes → List Source → List Data → Type 0
 CanTakeAll types [] [] = Unit {0}
-CanTakeAll types (source.Context k ∷ ks) (d ∷ ds) = CanTake types (source.Context k) d × CanTakeAll types ks ds
+CanTakeAll types (source.Context k ∷ ks) (d ∷ ds) = SourceCanTake types (source.Context k) d × CanTakeAll types ks ds
 CanTakeAll types ks ds = ⊥
 
 -- the first of these is a variable of a screen
@@ -51,11 +51,11 @@ AreOf t (d ∷ ds) = (fits_in d t ≡ true) × AreOf t ds
 -- each value of a row of these columns after changes can be one of its column's type
 abbrev pub CanChange : ColumnList → List Row → Row → Type 0
 CanChange no_columns changes r = Unit {0}
-CanChange (column n t cs) changes r = CanWiden (changed_value n changes (unwrap_or (item_of n r) blank)) t × CanChange cs changes r
+CanChange (column n t cs) changes r = CanWiden (changed_value n changes (unwrap_or (item_named n r) blank)) t × CanChange cs changes r
 
 -- rows for a collection
-abbrev pub CanAdd : SourceTypes → ℕ → List Data → Type 0
-CanAdd types k ds = (cs : ColumnList) × IsOfColumns types k cs × AreOf (tables cs) ds
+abbrev pub CollectionCanTake : SourceTypes → ℕ → List Data → Type 0
+CollectionCanTake types k ds = (cs : ColumnList) × IsOfColumns types k cs × AreOf (tables cs) ds
 
 -- a record of some of these columns, whose types take its own
 pub record IsOfSome (cs : ColumnList) (q : Row) : Type 0 where

@@ -7,10 +7,10 @@ pub mod Done
 pub mod Doable
 pub mod Within
 pub mod Writable
-pub mod Stages
+pub mod WorldSteps
 pub mod StagesOver
 pub mod Fitting
-pub mod Lefts
+pub mod RemainingRows
 pub mod Found
 pub mod Finding
 pub mod CutOff

@@ -1,6 +1,6 @@
 -- Rows as values: their numbers, their cells, and changes of them.
 use Rattle.std.specs.Prelude.{ℕ, suc, zero, ◌/◌, ◌%◌, ◌==◌, ◌&&◌, ℤ, pos, negsuc, nat_le, Bool, true, false, List, [], ◌∷◌, ◌++◌, map, Option, Some, None, unwrap_or, if◌then◌else◌}
-use Rattle.fx_types.specs.Lookup.{item_of}
+use Rattle.fx_types.specs.Lookup.{item_named}
 use Rattle.fx_types.specs.declared.faults.Kind.{Kind}
 use Rattle.fx_types.specs.declared.faults.Kind.TheVariants as kind
 use Rattle.fx_types.specs.Types.{Shape, ColumnList, no_columns, column, tables}
@@ -11,7 +11,7 @@ use Rattle.fx_core.specs.declared.schema.TableShape.{TableShape}
 use Rattle.fx_value.specs.Columns.{Row}
 use Rattle.fx_semantics.specs.Rows.{fields_of, rows_in}
 use Rattle.fx_value.specs.Coercion.{widened}
-use Rattle.row_queries.specs.TableRows.{record_of}
+use Rattle.row_queries.specs.TableRows.{record_of_row}
 use Rattle.row_keeper.specs.declared.rows.Put.{Put}
 use Rattle.row_keeper.specs.declared.rows.Put.TheVariants.{Id, NoRow, Refused}
 use Rattle.row_keeper.specs.declared.rows.RowRefusal.{RowRefusal}
@@ -24,9 +24,9 @@ use Rattle.row_keeper.specs.declared.rows.RowRule.TheVariants.{Required, Unique,
 abbrev pub too_much : Data
 too_much = fault kind.QuotaExceeded []
 
-abbrev pub taken_or : Bool → Data → Data
-taken_or true taken = taken
-taken_or false taken = too_much
+abbrev pub value_if_taken : Bool → Data → Data
+value_if_taken true taken = taken
+value_if_taken false taken = too_much
 
 abbrev pub not_found : Data
 not_found = fault kind.NotFound []
@@ -46,22 +46,22 @@ rows_among [] = []
 rows_among (y ∷ ys) = rows_in y ++ rows_among ys
 
 -- the values in the fields of a row, and of rows
-abbrev pub values_of : Row → List Data
-values_of r = map (λ (f : List ℕ × Data). f.1) r
+abbrev pub field_values : Row → List Data
+field_values r = map (λ (f : List ℕ × Data). f.1) r
 
 abbrev pub values_among : List Row → List Data
 values_among [] = []
-values_among (r ∷ rs) = values_of r ++ values_among rs
+values_among (r ∷ rs) = field_values r ++ values_among rs
 
 -- the value that stands under a name after changes, each a record of some columns: that of the last one that has it
 abbrev pub changed_value : List ℕ → List Row → Data → Data
 changed_value n [] d = d
-changed_value n (r ∷ rs) d = changed_value n rs (unwrap_or (item_of n r) d)
+changed_value n (r ∷ rs) d = changed_value n rs (unwrap_or (item_named n r) d)
 
 -- a row of these columns after changes, each value as one of its column's type
 abbrev pub changed_row : ColumnList → List Row → Row → Row
 changed_row no_columns changes r = []
-changed_row (column n t cs) changes r = (n, widened (changed_value n changes (unwrap_or (item_of n r) blank)) t) ∷ changed_row cs changes r
+changed_row (column n t cs) changes r = (n, widened (changed_value n changes (unwrap_or (item_named n r) blank)) t) ∷ changed_row cs changes r
 
 -- the cells of a row after changes
 abbrev pub changed_cells : List Column → List Row → List Data → List Data
@@ -74,27 +74,27 @@ blank_cells columns = map (λ (c : Column). blank) columns
 
 -- the cells of a record
 abbrev pub cells_in : List Column → Row → List Data
-cells_in columns r = map (λ (c : Column). unwrap_or (item_of c.name r) blank) columns
+cells_in columns r = map (λ (c : Column). unwrap_or (item_named c.name r) blank) columns
 
 -- the columns of rows, and a row of blanks
-abbrev pub columns_in : Option Shape → ColumnList
-columns_in (Some (tables cs)) = cs
-columns_in t = no_columns
+abbrev pub columns_of_rows : Option Shape → ColumnList
+columns_of_rows (Some (tables cs)) = cs
+columns_of_rows t = no_columns
 
 abbrev pub blank_row : ColumnList → Row
 blank_row no_columns = []
 blank_row (column n t cs) = (n, blank) ∷ blank_row cs
 
 -- a record as a row; a blank one is a row of blanks
-abbrev pub row_named : ColumnList → Data → Row
-row_named cs (rec fs) = fields_of fs
-row_named cs d = blank_row cs
+abbrev pub record_row : ColumnList → Data → Row
+record_row cs (rec fs) = fields_of fs
+record_row cs d = blank_row cs
 
 -- ---- rows of a table
 
 -- a row with its number
 abbrev pub whole_row : TableShape → ℕ → List Data → Data
-whole_row t id cells = rec (field_list (record_of t (record { id = id; cells = cells })))
+whole_row t id cells = rec (field_list (record_of_row t (record { id = id; cells = cells })))
 
 -- the error of a rule that a row breaks
 abbrev pub rule_kind : RowRule → Kind

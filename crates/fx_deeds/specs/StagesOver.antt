@@ -1,9 +1,9 @@
 -- What a performing finds and leaves, by the ghost members of its world as arguments: those of an environment, and its own.
-use Rattle.fx_base.specs.Silence.{Goes, IsLost}
+use Rattle.fx_base.specs.Silence.{MayFallSilent, SilenceCause}
 use Rattle.fx_env.specs.declared.environment.Env as env
-use Rattle.fx_deeds.specs.Stages as by_place
-use Rattle.fx_deeds.specs.Stages.{Stage, stage}
-use Rattle.fx_deeds.specs.State.{State}
+use Rattle.fx_deeds.specs.WorldSteps as by_place
+use Rattle.fx_deeds.specs.WorldSteps.{Stage, stage}
+use Rattle.fx_deeds.specs.State.{WorldState}
 use Rattle.fx_deeds.specs.declared.world.World as world
 
 module _ {W : Type 0} (e : env.Ghosts W) (g : world.Ghosts W) where
@@ -16,5 +16,5 @@ module _ {W : Type 0} (e : env.Ghosts W) (g : world.Ghosts W) where
   Passed old new = by_place.Passed (staged old) (staged new)
 
   -- the state goes so, where it is told
-  abbrev pub StateBecomes : W → W → (State g.App → State g.App → Type 0) → Type 0
-  StateBecomes old new P = Goes (IsLost (e.marks old) (e.marks new)) P (g.state old) (g.state new)
+  abbrev pub StateBecomes : W → W → (WorldState g.App → WorldState g.App → Type 0) → Type 0
+  StateBecomes old new P = MayFallSilent (SilenceCause (e.marks old) (e.marks new)) P (g.state old) (g.state new)

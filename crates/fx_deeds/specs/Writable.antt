@@ -5,7 +5,7 @@ use Rattle.fx_core.specs.declared.deeds.Deed.TheVariants as deed
 use Rattle.fx_core.specs.declared.sources.Source.{Source}
 use Rattle.fx_core.specs.declared.sources.Source.TheVariants as source
 use Rattle.fx_typing.specs.WellTyped.{target_source}
-use Rattle.fx_deeds.specs.State.{State}
+use Rattle.fx_deeds.specs.State.{WorldState}
 use Rattle.fx_deeds.specs.Within.{IsAmong, Written}
 
 -- the sources that a deed names to be written; a screen and a notice are none
@@ -32,7 +32,7 @@ abbrev pub DeedMayWrite : Deed → Source → Type 0
 DeedMayWrite d = IsOneOf (writable d)
 
 -- what was written on the way, source after source, is of these alone
-pub record WritesOnly {A : Type 0} (P : Source → Type 0) (s t : State A) : Type 0 where
+pub record WritesOnly {A : Type 0} (P : Source → Type 0) (s t : WorldState A) : Type 0 where
   pub more : List Source
   pub wrote : Written s t more
   pub allowed : (x : Source) → IsAmong x more → P x

@@ -8,7 +8,7 @@ ghost use Rattle.fx_deeds.specs.CutOff.{CutDeed};
 ghost use Rattle.fx_deeds.specs.Doable.{AnswersAs, CanDo};
 ghost use Rattle.fx_deeds.specs.Done.{IsDeed};
 ghost use Rattle.fx_deeds.specs.StagesOver.{Passed, StateBecomes};
-ghost use Rattle.fx_deeds.specs.State.{frame_of};
+ghost use Rattle.fx_deeds.specs.State.{eval_frame};
 ghost use Rattle.fx_deeds.specs.Writable.{DeedMayWrite, WritesOnly};
 
 use crate::deeds::{patch, remove, remove_if};
@@ -35,9 +35,9 @@ pub fn do_deed<W: World, L: Ledger>(
         (WritesOnly (DeedMayWrite deed.now)) }
     ensures keeper { IsErrOf result Stop.Keeper → Rose (W.marks world.old).faults (W.marks world.new).faults }
     ensures done { IfOk result (λ x. StateBecomes W.Env W.World.own world.old world.new
-        (λ s t. IsDeed (frame_of (W.fixed world.old)) deed.now (map view values.items) s (view x) t)) }
+        (λ s t. IsDeed (eval_frame (W.fixed world.old)) deed.now (map view values.items) s (view x) t)) }
     ensures cut { OnErr result (StateBecomes W.Env W.World.own world.old world.new
-        (CutDeed (frame_of (W.fixed world.old)) deed.now (map view values.items))) }
+        (CutDeed (eval_frame (W.fixed world.old)) deed.now (map view values.items))) }
     ensures fits { (u : Shape) → AnswersAs (W.fixed world.old).types deed.now u → IfOk result (λ x. fits_in (view x) u ≡ true) }
 {
     match deed {

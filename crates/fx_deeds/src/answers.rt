@@ -4,7 +4,7 @@ ghost use Rattle.std.specs.List.{find};
 ghost use Rattle.fx_types.specs.ValueView.{view};
 ghost use Rattle.fx_types.specs.Values.{fault as fault_data};
 ghost use Rattle.fx_tables.specs.Unions.{is_fault};
-ghost use Rattle.fx_deeds.specs.RowValues.{taken_or as value_or};
+ghost use Rattle.fx_deeds.specs.RowValues.{value_if_taken as value_or};
 
 use fx_base::Memory;
 use fx_types::{Fault, Kind, Value, Words};

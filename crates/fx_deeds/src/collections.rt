@@ -9,10 +9,10 @@ ghost use Rattle.fx_value.specs.Columns.{Row};
 ghost use Rattle.fx_core.specs.declared.sources.Source.TheVariants as source;
 ghost use Rattle.fx_value.specs.Fits.{fits_in};
 ghost use Rattle.fx_deeds.specs.CutOff.{UpTo};
-ghost use Rattle.fx_deeds.specs.Collections.{Appends, AreBlank, AreTaken, IsFirst, IsPatchedIn, Lacks, PatchesRow, PutsFor};
+ghost use Rattle.fx_deeds.specs.Collections.{Appends, AreBlank, AreTaken, IsFirstRow, IsPatchedIn, Lacks, PatchesGathered, PutsFor};
 ghost use Rattle.fx_deeds.specs.Fitting.{CanChange, IsOfColumns};
 ghost use Rattle.fx_deeds.specs.Found.{IsTakenFrom};
-ghost use Rattle.fx_deeds.specs.RowValues.{blank_row as blank_row_of, columns_in, row_named, rows_among};
+ghost use Rattle.fx_deeds.specs.RowValues.{blank_row as blank_row_of, columns_of_rows, record_row, rows_among};
 ghost use Rattle.fx_deeds.specs.StagesOver.{Passed, StateBecomes};
 ghost use Rattle.fx_deeds.specs.Writable.{IsOneOf, WritesOnly};
 
@@ -63,7 +63,7 @@ fn blank_row(alloc: Global, columns: &Columns) -> Result<Fields, Memory>
 
 // A record as a row; a blank one is a row of blanks.
 fn named_row(alloc: Global, columns: &Columns, sought: &Value) -> Result<Fields, Memory>
-    ensures { IfOk result (λ r. r ≡ row_named (column_list columns.now) (view sought.now)) }
+    ensures { IfOk result (λ r. r ≡ record_row (column_list columns.now) (view sought.now)) }
 {
     match sought {
         Value::Rec(fields) => fields.copy(alloc),
@@ -87,7 +87,7 @@ struct Parted {
 
 // Rows as they stand around the first that is this record, if there is one.
 fn part(alloc: Global, rows: &[Fields], sought: &Value) -> Result<Option<Parted>, Memory>
-    ensures { (r : Row) → view sought.now ≡ record_of r → IfOk result (λ o. MatchOption o (Lacks r rows.now) (λ p. IsFirst r rows.now p.before p.after)) }
+    ensures { (r : Row) → view sought.now ≡ record_of r → IfOk result (λ o. MatchOption o (Lacks r rows.now) (λ p. IsFirstRow r rows.now p.before p.after)) }
 {
     let mut before = Rows::new(alloc);
     let mut rest = rows;
@@ -104,14 +104,14 @@ fn part(alloc: Global, rows: &[Fields], sought: &Value) -> Result<Option<Parted>
 
 // Rows as they stand around the first that is this one, if it is among them.
 fn part_at(alloc: Global, rows: &[Fields], row: Fields) -> Result<Option<Parted>, Memory>
-    ensures { IfOk result (λ o. MatchOption o (Lacks row rows.now) (λ p. IsFirst row rows.now p.before p.after)) }
+    ensures { IfOk result (λ o. MatchOption o (Lacks row rows.now) (λ p. IsFirstRow row rows.now p.before p.after)) }
 {
     part(alloc, rows, &Value::Rec(row))
 }
 
 // Rows without the first that is this one, if it is among them.
 fn without_first(alloc: Global, rows: &[Fields], row: Fields) -> Result<Option<Rows>, Memory>
-    ensures { IfOk result (λ o. MatchOption o (Lacks row rows.now) (λ left. (before : List Row) × (after : List Row) × IsFirst row rows.now before after × (left ≡ before ++ after))) }
+    ensures { IfOk result (λ o. MatchOption o (Lacks row rows.now) (λ left. (before : List Row) × (after : List Row) × IsFirstRow row rows.now before after × (left ≡ before ++ after))) }
 {
     let Some(parted) = part_at(alloc, rows, row)? else {
         return Ok(None);
@@ -127,7 +127,7 @@ fn with_another(
     row: Fields,
     another: &Fields,
 ) -> Result<Option<Rows>, Memory>
-    ensures { IfOk result (λ o. MatchOption o (Lacks row rows.now) (λ put. (before : List Row) × (after : List Row) × IsFirst row rows.now before after × (put ≡ before ++ another.now ∷ after))) }
+    ensures { IfOk result (λ o. MatchOption o (Lacks row rows.now) (λ put. (before : List Row) × (after : List Row) × IsFirstRow row rows.now before after × (put ≡ before ++ another.now ∷ after))) }
 {
     let Some(parted) = part_at(alloc, rows, row)? else {
         return Ok(None);
@@ -212,9 +212,9 @@ pub(crate) fn remove_equal<W: World, L: Ledger>(
         (WritesOnly (IsOneOf (source.Gathered collection ∷ []))) }
     ensures keeper { IsErrOf result Stop.Keeper → Rose (W.marks world.old).faults (W.marks world.new).faults }
     ensures done { IfOk result (λ x. StateBecomes W.Env W.World.own world.old world.new
-        (λ s t. AreTaken (columns_in ((W.fixed world.old).types (source.Gathered collection))) collection (map view rows.now) s (view x) t)) }
+        (λ s t. AreTaken (columns_of_rows ((W.fixed world.old).types (source.Gathered collection))) collection (map view rows.now) s (view x) t)) }
     ensures cut { OnErr result (StateBecomes W.Env W.World.own world.old world.new
-        (UpTo (λ s n x t. AreTaken (columns_in ((W.fixed world.old).types (source.Gathered collection))) collection (take n (map view rows.now)) s x t))) }
+        (UpTo (λ s n x t. AreTaken (columns_of_rows ((W.fixed world.old).types (source.Gathered collection))) collection (take n (map view rows.now)) s x t))) }
     ensures fits { IfOk result (λ x. fits_in (view x) booleans ≡ true) }
 {
     let columns = collection_columns(alloc, world, collection)?;
@@ -313,9 +313,9 @@ fn patch_row<W: World, L: Ledger>(
         (WritesOnly (IsOneOf (source.Gathered collection ∷ []))) }
     ensures keeper { IsErrOf result Stop.Keeper → Rose (W.marks world.old).faults (W.marks world.new).faults }
     ensures done { IfOk result (λ x. StateBecomes W.Env W.World.own world.old world.new
-        (λ s t. PatchesRow collection row changed s (view x) t)) }
+        (λ s t. PatchesGathered collection row changed s (view x) t)) }
     ensures cut { OnErr result (StateBecomes W.Env W.World.own world.old world.new
-        (UpTo (λ s n x t. PatchesRow collection row changed s x t))) }
+        (UpTo (λ s n x t. PatchesGathered collection row changed s x t))) }
     ensures fits { (cs : ColumnList) → fits_in (record_of changed) (records cs) ≡ true → IfOk result (λ x. fits_in (view x) (records cs) ≡ true) }
 {
     if are_blank(&row) {
@@ -334,15 +334,15 @@ pub(crate) fn patch_equal<W: World, L: Ledger>(
     changes: &[Value],
     steps: &mut Steps<L>,
 ) -> Result<Value, Stop>
-    requires { (cs : ColumnList) × IsOfColumns (W.fixed world.old).types collection cs × CanChange cs (rows_among (map view changes.now)) (row_named cs (view base.now)) }
+    requires { (cs : ColumnList) × IsOfColumns (W.fixed world.old).types collection cs × CanChange cs (rows_among (map view changes.now)) (record_row cs (view base.now)) }
     ensures passed { Passed W.Env W.World.own world.old world.new }
     ensures only { StateBecomes W.Env W.World.own world.old world.new
         (WritesOnly (IsOneOf (source.Gathered collection ∷ []))) }
     ensures keeper { IsErrOf result Stop.Keeper → Rose (W.marks world.old).faults (W.marks world.new).faults }
     ensures done { IfOk result (λ x. StateBecomes W.Env W.World.own world.old world.new
-        (λ s t. IsPatchedIn (columns_in ((W.fixed world.old).types (source.Gathered collection))) collection (view base.now) (map view changes.now) s (view x) t)) }
+        (λ s t. IsPatchedIn (columns_of_rows ((W.fixed world.old).types (source.Gathered collection))) collection (view base.now) (map view changes.now) s (view x) t)) }
     ensures cut { OnErr result (StateBecomes W.Env W.World.own world.old world.new
-        (UpTo (λ s n x t. IsPatchedIn (columns_in ((W.fixed world.old).types (source.Gathered collection))) collection (view base.now) (map view changes.now) s x t))) }
+        (UpTo (λ s n x t. IsPatchedIn (columns_of_rows ((W.fixed world.old).types (source.Gathered collection))) collection (view base.now) (map view changes.now) s x t))) }
     ensures fits { (cs : ColumnList) → IsOfColumns (W.fixed world.old).types collection cs → IfOk result (λ x. fits_in (view x) (records cs) ≡ true) }
 {
     let changes = with_tables(alloc, Rows::new(alloc), changes)?;

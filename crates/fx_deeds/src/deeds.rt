@@ -10,7 +10,7 @@ ghost use Rattle.fx_deeds.specs.CutOff.{CutDeed, CutUpdate};
 ghost use Rattle.fx_deeds.specs.Doable.{AnswersAs, CanDo, CanUpdate};
 ghost use Rattle.fx_deeds.specs.Done.{IsDeed, IsUpdate};
 ghost use Rattle.fx_deeds.specs.StagesOver.{Passed, StateBecomes};
-ghost use Rattle.fx_deeds.specs.State.{frame_of};
+ghost use Rattle.fx_deeds.specs.State.{eval_frame};
 ghost use Rattle.fx_deeds.specs.Writable.{DeedMayWrite, WritesOnly};
 
 use crate::answers::first_error;
@@ -41,9 +41,9 @@ pub fn remove<W: World, L: Ledger>(
         (WritesOnly (DeedMayWrite (deed.Remove target))) }
     ensures keeper { IsErrOf result Stop.Keeper → Rose (W.marks world.old).faults (W.marks world.new).faults }
     ensures done { IfOk result (λ x. StateBecomes W.Env W.World.own world.old world.new
-        (λ s t. IsDeed (frame_of (W.fixed world.old)) (deed.Remove target) (map view values.now) s (view x) t)) }
+        (λ s t. IsDeed (eval_frame (W.fixed world.old)) (deed.Remove target) (map view values.now) s (view x) t)) }
     ensures cut { OnErr result (StateBecomes W.Env W.World.own world.old world.new
-        (CutDeed (frame_of (W.fixed world.old)) (deed.Remove target) (map view values.now))) }
+        (CutDeed (eval_frame (W.fixed world.old)) (deed.Remove target) (map view values.now))) }
     ensures fits { IfOk result (λ x. fits_in (view x) booleans ≡ true) }
 {
     if let Some(error) = first_error(alloc, values)? {
@@ -69,9 +69,9 @@ pub fn remove_if<W: World, L: Ledger>(
         (WritesOnly (DeedMayWrite (deed.RemoveIf target))) }
     ensures keeper { IsErrOf result Stop.Keeper → Rose (W.marks world.old).faults (W.marks world.new).faults }
     ensures done { IfOk result (λ x. StateBecomes W.Env W.World.own world.old world.new
-        (λ s t. IsDeed (frame_of (W.fixed world.old)) (deed.RemoveIf target) (view filtered ∷ []) s (view x) t)) }
+        (λ s t. IsDeed (eval_frame (W.fixed world.old)) (deed.RemoveIf target) (view filtered ∷ []) s (view x) t)) }
     ensures cut { OnErr result (StateBecomes W.Env W.World.own world.old world.new
-        (CutDeed (frame_of (W.fixed world.old)) (deed.RemoveIf target) (view filtered ∷ []))) }
+        (CutDeed (eval_frame (W.fixed world.old)) (deed.RemoveIf target) (view filtered ∷ []))) }
     ensures fits { IfOk result (λ x. fits_in (view x) booleans ≡ true) }
 {
     match target {
@@ -96,9 +96,9 @@ pub fn patch<W: World, L: Ledger>(
         (WritesOnly (DeedMayWrite (deed.Patch target))) }
     ensures keeper { IsErrOf result Stop.Keeper → Rose (W.marks world.old).faults (W.marks world.new).faults }
     ensures done { IfOk result (λ x. StateBecomes W.Env W.World.own world.old world.new
-        (λ s t. IsDeed (frame_of (W.fixed world.old)) (deed.Patch target) (map view values.now) s (view x) t)) }
+        (λ s t. IsDeed (eval_frame (W.fixed world.old)) (deed.Patch target) (map view values.now) s (view x) t)) }
     ensures cut { OnErr result (StateBecomes W.Env W.World.own world.old world.new
-        (CutDeed (frame_of (W.fixed world.old)) (deed.Patch target) (map view values.now))) }
+        (CutDeed (eval_frame (W.fixed world.old)) (deed.Patch target) (map view values.now))) }
     ensures fits { (u : Shape) → AnswersAs (W.fixed world.old).types (deed.Patch target) u → IfOk result (λ x. fits_in (view x) u ≡ true) }
 {
     if let Some(error) = first_error(alloc, values)? {
@@ -132,9 +132,9 @@ pub fn update<W: World, L: Ledger>(
         (WritesOnly (DeedMayWrite (deed.UpdateIf target))) }
     ensures keeper { IsErrOf result Stop.Keeper → Rose (W.marks world.old).faults (W.marks world.new).faults }
     ensures done { IfOk result (λ x. StateBecomes W.Env W.World.own world.old world.new
-        (λ s t. IsUpdate (frame_of (W.fixed world.old)) target rows.now (map view changes.now) s (view x) t)) }
+        (λ s t. IsUpdate (eval_frame (W.fixed world.old)) target rows.now (map view changes.now) s (view x) t)) }
     ensures cut { OnErr result (StateBecomes W.Env W.World.own world.old world.new
-        (CutUpdate (frame_of (W.fixed world.old)) target rows.now (map view changes.now))) }
+        (CutUpdate (eval_frame (W.fixed world.old)) target rows.now (map view changes.now))) }
     ensures fits { IfOk result (λ x. fits_in (view x) booleans ≡ true) }
 {
     if let Some(error) = first_of_changes(alloc, changes)? {

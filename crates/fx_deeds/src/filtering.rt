@@ -7,11 +7,11 @@ ghost use Rattle.fx_semantics.specs.Around.{record_of};
 ghost use Rattle.fx_semantics.specs.Rows.{rows_in};
 ghost use Rattle.fx_value.specs.Fits.{fits_in};
 ghost use Rattle.fx_core.specs.declared.sources.Source.TheVariants as source;
-ghost use Rattle.fx_deeds.specs.Collections.{AreLeft, AreTakenIf};
+ghost use Rattle.fx_deeds.specs.Collections.{RemainAfterFilter, AreTakenIf};
 ghost use Rattle.fx_deeds.specs.CutOff.{UpTo};
 ghost use Rattle.fx_deeds.specs.Deeds.{AreRemoved, OrError};
 ghost use Rattle.fx_deeds.specs.Fitting.{IsOfColumns};
-ghost use Rattle.fx_deeds.specs.Lefts.{AreRecords, IsFirstOf, behind, rows_by};
+ghost use Rattle.fx_deeds.specs.RemainingRows.{AreRecords, IsFirstValue, values_behind, record_rows};
 ghost use Rattle.fx_deeds.specs.StagesOver.{Passed, StateBecomes};
 ghost use Rattle.fx_deeds.specs.Writable.{IsOneOf, WritesOnly};
 
@@ -42,8 +42,8 @@ pub(crate) fn records(alloc: Global, rows: &[Fields]) -> Result<Vec<Value>, Memo
 
 /// Whether a record is the first of these.
 pub(crate) fn is_first(records: &[Value], sought: &Value) -> bool
-    ensures yes { result ≡ true → IsFirstOf records.now sought.now }
-    ensures no { result ≡ false → IsFirstOf records.now sought.now → ⊥ }
+    ensures yes { result ≡ true → IsFirstValue records.now sought.now }
+    ensures no { result ≡ false → IsFirstValue records.now sought.now → ⊥ }
 {
     match records.split_first() {
         Some((first, _)) => same(first, sought),
@@ -53,7 +53,7 @@ pub(crate) fn is_first(records: &[Value], sought: &Value) -> bool
 
 /// The values behind the first one.
 pub(crate) fn behind_first(records: &[Value]) -> &[Value]
-    ensures { result.now ≡ behind records.now }
+    ensures { result.now ≡ values_behind records.now }
 {
     match records.split_first() {
         Some((_, others)) => others,
@@ -64,7 +64,7 @@ pub(crate) fn behind_first(records: &[Value]) -> &[Value]
 // Rows without those that a filter kept, which stand among them in order.
 fn rows_left(alloc: Global, rows: &[Fields], kept: &[Value]) -> Result<Rows, Memory>
     requires { AreRecords kept.now }
-    ensures { IfOk result (λ left. AreLeft rows.now (rows_by kept.now) left) }
+    ensures { IfOk result (λ left. RemainAfterFilter rows.now (record_rows kept.now) left) }
 {
     let mut left = Rows::new(alloc);
     let mut rest = rows;

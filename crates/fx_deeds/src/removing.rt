@@ -8,8 +8,8 @@ ghost use Rattle.fx_core.specs.Lawful.{id_name as name_of_id};
 ghost use Rattle.fx_value.specs.Fits.{fits_in};
 ghost use Rattle.fx_core.specs.declared.sources.Source.TheVariants as source;
 ghost use Rattle.fx_deeds.specs.CutOff.{UpTo};
-ghost use Rattle.fx_deeds.specs.Deeds.{AreRemoved, id_of};
-ghost use Rattle.fx_deeds.specs.Found.{IsNamed, IsTakenOut};
+ghost use Rattle.fx_deeds.specs.Deeds.{AreRemoved, row_id_value};
+ghost use Rattle.fx_deeds.specs.Found.{NamesRow, IsTakenOut};
 ghost use Rattle.fx_deeds.specs.RowValues.{id_in};
 ghost use Rattle.fx_deeds.specs.StagesOver.{Passed, StateBecomes};
 ghost use Rattle.fx_deeds.specs.Writable.{IsOneOf, WritesOnly};
@@ -35,7 +35,7 @@ pub(crate) fn id_name(alloc: Global) -> Result<Words, Memory>
 
 /// The value of a record's number, and blank where it has none.
 pub(crate) fn id_value(alloc: Global, row: &Value) -> Result<Value, Memory>
-    ensures { IfOk result (λ v. view v ≡ id_of (view row.now)) }
+    ensures { IfOk result (λ v. view v ≡ row_id_value (view row.now)) }
 {
     match row {
         Value::Rec(fields) => match fields.value(&id_name(alloc)?) {
@@ -69,7 +69,7 @@ fn number_id(number: Num) -> Option<u32>
 
 /// The number of the row that a record names, or the error that is answered for it.
 pub(crate) fn named_id(alloc: Global, row: &Value) -> Result<Result<u32, Value>, Memory>
-    ensures { IfOk result (λ r. IsNamed (view row.now) r) }
+    ensures { IfOk result (λ r. NamesRow (view row.now) r) }
 {
     match id_value(alloc, row)? {
         Value::Fault(fault) => Ok(Err(Value::Fault(fault))),

@@ -1,14 +1,14 @@
 //! Rows as changes leave them. A change is a record of some columns.
 ghost use Rattle.std.specs.Prelude.{◌≡◌, IfOk, map, option_map, true, unwrap_or};
 ghost use Rattle.std.specs.List.{find};
-ghost use Rattle.fx_types.specs.Lookup.{item_of};
+ghost use Rattle.fx_types.specs.Lookup.{item_named};
 ghost use Rattle.fx_types.specs.Types.{column_list};
 ghost use Rattle.fx_types.specs.Values.{field_list};
 ghost use Rattle.fx_types.specs.ValueView.{view};
 ghost use Rattle.fx_tables.specs.Unions.{is_fault};
 ghost use Rattle.fx_value.specs.Fits.{fields_fit};
 ghost use Rattle.fx_deeds.specs.Fitting.{CanChange};
-ghost use Rattle.fx_deeds.specs.RowValues.{blank_cells as blanks_of, cells_in, changed_cells as cells_by, changed_row as row_by, changed_value as value_by, values_among, values_of};
+ghost use Rattle.fx_deeds.specs.RowValues.{blank_cells as blanks_of, cells_in, changed_cells as cells_by, changed_row as row_by, changed_value as value_by, values_among, field_values};
 
 use fx_base::Memory;
 use fx_core::Column;
@@ -19,7 +19,7 @@ use std::alloc::Global;
 
 // The value that a record has under a name, and this one where it has none.
 fn value_or(alloc: Global, name: &Words, row: &Fields, value: Value) -> Result<Value, Memory>
-    ensures { IfOk result (λ v. view v ≡ unwrap_or (item_of name.now row.now) (view value)) }
+    ensures { IfOk result (λ v. view v ≡ unwrap_or (item_named name.now row.now) (view value)) }
 {
     match row.value(name) {
         Some(found) => found.copy(alloc),
@@ -119,7 +119,7 @@ pub(crate) fn record_cells(alloc: Global, columns: &[Column], row: &Fields) -> R
 
 // The first error in the fields of a record.
 fn error_in(alloc: Global, row: &Fields) -> Result<Option<Value>, Memory>
-    ensures { IfOk result (λ e. option_map view e ≡ find is_fault (values_of row.now)) }
+    ensures { IfOk result (λ e. option_map view e ≡ find is_fault (field_values row.now)) }
 {
     let mut rest = row.as_slice();
     while let Some((field, others)) = rest.split_first() {

@@ -10,10 +10,10 @@ ghost use Rattle.fx_tables.specs.Unions.{is_fault};
 ghost use Rattle.fx_core.specs.declared.sources.Source.TheVariants as source;
 ghost use Rattle.fx_value.specs.Fits.{fits_in};
 ghost use Rattle.session_state.specs.declared.change.Change.TheVariants as change;
-ghost use Rattle.fx_deeds.specs.Collections.{Holds, rows_held as rows_held_by};
+ghost use Rattle.fx_deeds.specs.Collections.{GathersRows, rows_held as rows_held_by};
 ghost use Rattle.fx_deeds.specs.CutOff.{UpTo};
-ghost use Rattle.fx_deeds.specs.Deeds.{AreSet, Gives, Makes, OrError, OrErrorAmong, text_of};
-ghost use Rattle.fx_deeds.specs.Fitting.{CanAdd, CanTake, CanTakeAll, IsOfColumns, IsOfScreen};
+ghost use Rattle.fx_deeds.specs.Deeds.{UpdatesContext, ChangeGives, Makes, OrError, OrErrorAmong, text_or_none};
+ghost use Rattle.fx_deeds.specs.Fitting.{CollectionCanTake, SourceCanTake, CanTakeAll, IsOfColumns, IsOfScreen};
 ghost use Rattle.fx_deeds.specs.RowValues.{rows_among};
 ghost use Rattle.fx_deeds.specs.StagesOver.{Passed, StateBecomes};
 ghost use Rattle.fx_deeds.specs.Writable.{IsOneOf, WritesOnly};
@@ -37,15 +37,15 @@ pub fn set<W: World>(
     variable: u32,
     value: Value,
 ) -> Result<Value, Stop>
-    requires { CanTake (W.fixed world.old).types (source.Global variable) (view value) }
+    requires { SourceCanTake (W.fixed world.old).types (source.Global variable) (view value) }
     ensures passed { Passed W.Env W.World.own world.old world.new }
     ensures only { StateBecomes W.Env W.World.own world.old world.new
         (WritesOnly (IsOneOf (source.Global variable ∷ []))) }
     ensures keeper { IsErrOf result Stop.Keeper → Rose (W.marks world.old).faults (W.marks world.new).faults }
     ensures done { IfOk result (λ x. StateBecomes W.Env W.World.own world.old world.new
-        (λ s t. Gives (change.Global variable) (view value) (boolean true) s (view x) t)) }
+        (λ s t. ChangeGives (change.Global variable) (view value) (boolean true) s (view x) t)) }
     ensures cut { OnErr result (StateBecomes W.Env W.World.own world.old world.new
-        (UpTo (λ s n x t. Gives (change.Global variable) (view value) (boolean true) s x t))) }
+        (UpTo (λ s n x t. ChangeGives (change.Global variable) (view value) (boolean true) s x t))) }
     ensures fits { IfOk result (λ x. fits_in (view x) booleans ≡ true) }
 {
     make(
@@ -69,9 +69,9 @@ pub fn set_all<W: World>(
         (WritesOnly (IsOneOf variables.now)) }
     ensures keeper { IsErrOf result Stop.Keeper → Rose (W.marks world.old).faults (W.marks world.new).faults }
     ensures done { IfOk result (λ x. StateBecomes W.Env W.World.own world.old world.new
-        (λ s t. AreSet variables.now (map view values.now) s (view x) t)) }
+        (λ s t. UpdatesContext variables.now (map view values.now) s (view x) t)) }
     ensures cut { OnErr result (StateBecomes W.Env W.World.own world.old world.new
-        (UpTo (λ s n x t. AreSet (take n variables.now) (take n (map view values.now)) s x t))) }
+        (UpTo (λ s n x t. UpdatesContext (take n variables.now) (take n (map view values.now)) s x t))) }
     ensures fits { IfOk result (λ x. fits_in (view x) booleans ≡ true) }
 {
     let mut names = variables;
@@ -114,15 +114,15 @@ pub fn collect<W: World, L: Ledger>(
     values: &[Value],
     steps: &mut Steps<L>,
 ) -> Result<Value, Stop>
-    requires { CanAdd (W.fixed world.old).types collection (map view values.now) }
+    requires { CollectionCanTake (W.fixed world.old).types collection (map view values.now) }
     ensures passed { Passed W.Env W.World.own world.old world.new }
     ensures only { StateBecomes W.Env W.World.own world.old world.new
         (WritesOnly (IsOneOf (source.Gathered collection ∷ []))) }
     ensures keeper { IsErrOf result Stop.Keeper → Rose (W.marks world.old).faults (W.marks world.new).faults }
     ensures done { IfOk result (λ x. StateBecomes W.Env W.World.own world.old world.new
-        (λ s t. OrErrorAmong (map view values.now) (Holds collection (rows_held_by collection s ++ rows_among (map view values.now)) (boolean true) s (view x) t) s (view x) t)) }
+        (λ s t. OrErrorAmong (map view values.now) (GathersRows collection (rows_held_by collection s ++ rows_among (map view values.now)) (boolean true) s (view x) t) s (view x) t)) }
     ensures cut { OnErr result (StateBecomes W.Env W.World.own world.old world.new
-        (UpTo (λ s n x t. OrErrorAmong (map view values.now) (Holds collection (rows_held_by collection s ++ rows_among (map view values.now)) (boolean true) s x t) s x t))) }
+        (UpTo (λ s n x t. OrErrorAmong (map view values.now) (GathersRows collection (rows_held_by collection s ++ rows_among (map view values.now)) (boolean true) s x t) s x t))) }
     ensures fits { IfOk result (λ x. fits_in (view x) booleans ≡ true) }
 {
     if let Some(error) = first_error(alloc, values)? {
@@ -145,15 +145,15 @@ pub fn clear_collect<W: World>(
     collection: u32,
     values: &[Value],
 ) -> Result<Value, Stop>
-    requires { CanAdd (W.fixed world.old).types collection (map view values.now) }
+    requires { CollectionCanTake (W.fixed world.old).types collection (map view values.now) }
     ensures passed { Passed W.Env W.World.own world.old world.new }
     ensures only { StateBecomes W.Env W.World.own world.old world.new
         (WritesOnly (IsOneOf (source.Gathered collection ∷ []))) }
     ensures keeper { IsErrOf result Stop.Keeper → Rose (W.marks world.old).faults (W.marks world.new).faults }
     ensures done { IfOk result (λ x. StateBecomes W.Env W.World.own world.old world.new
-        (λ s t. OrErrorAmong (map view values.now) (Holds collection (rows_among (map view values.now)) (boolean true) s (view x) t) s (view x) t)) }
+        (λ s t. OrErrorAmong (map view values.now) (GathersRows collection (rows_among (map view values.now)) (boolean true) s (view x) t) s (view x) t)) }
     ensures cut { OnErr result (StateBecomes W.Env W.World.own world.old world.new
-        (UpTo (λ s n x t. OrErrorAmong (map view values.now) (Holds collection (rows_among (map view values.now)) (boolean true) s x t) s x t))) }
+        (UpTo (λ s n x t. OrErrorAmong (map view values.now) (GathersRows collection (rows_among (map view values.now)) (boolean true) s x t) s x t))) }
     ensures fits { IfOk result (λ x. fits_in (view x) booleans ≡ true) }
 {
     if let Some(error) = first_error(alloc, values)? {
@@ -212,9 +212,9 @@ pub fn notify<W: World>(alloc: Global, world: &mut W, text: Value) -> Result<Val
     ensures only { StateBecomes W.Env W.World.own world.old world.new (WritesOnly (IsOneOf [])) }
     ensures keeper { IsErrOf result Stop.Keeper → Rose (W.marks world.old).faults (W.marks world.new).faults }
     ensures done { IfOk result (λ x. StateBecomes W.Env W.World.own world.old world.new
-        (λ s t. OrError (view text) (Makes (change.Notice (text_of (view text))) (boolean true) s (view x) t) s (view x) t)) }
+        (λ s t. OrError (view text) (Makes (change.Notice (text_or_none (view text))) (boolean true) s (view x) t) s (view x) t)) }
     ensures cut { OnErr result (StateBecomes W.Env W.World.own world.old world.new
-        (UpTo (λ s n x t. OrError (view text) (Makes (change.Notice (text_of (view text))) (boolean true) s x t) s x t))) }
+        (UpTo (λ s n x t. OrError (view text) (Makes (change.Notice (text_or_none (view text))) (boolean true) s x t) s x t))) }
     ensures fits { IfOk result (λ x. fits_in (view x) booleans ≡ true) }
 {
     match words_of(alloc, text)? {
@@ -226,7 +226,7 @@ pub fn notify<W: World>(alloc: Global, world: &mut W, text: Value) -> Result<Val
 // The words of a text, of which a blank one has none, or the error in its place.
 fn words_of(alloc: Global, text: Value) -> Result<Result<Words, Fault>, Memory>
     ensures { IfOk result (λ r. MatchResult r
-        (λ w. (w ≡ text_of (view text)) × (is_fault (view text) ≡ false))
+        (λ w. (w ≡ text_or_none (view text)) × (is_fault (view text) ≡ false))
         (λ f. view text ≡ fault f.kind f.message)) }
 {
     match text {

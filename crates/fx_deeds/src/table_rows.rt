@@ -2,7 +2,7 @@
 ghost use Rattle.std.specs.Prelude.{◌≡◌, ◌≤◌, ◌∷◌, [], false, true, IfOk, IfSome, IsErrOf, IsSome, OnErr, map, option_map, slice_get, take};
 ghost use Rattle.std.specs.List.{find};
 ghost use Rattle.fx_base.specs.Faults.{Rose};
-ghost use Rattle.fx_base.specs.Silence.{Goes, IsLater, IsLost};
+ghost use Rattle.fx_base.specs.Silence.{MayFallSilent, IsLater, SilenceCause};
 ghost use Rattle.fx_base.specs.Telling.{Stays};
 ghost use Rattle.fx_types.specs.Types.{booleans, records};
 ghost use Rattle.fx_types.specs.ValueView.{view};
@@ -22,9 +22,9 @@ ghost use Rattle.row_queries.specs.TableRows.{AreCellsOf};
 ghost use Rattle.row_keeper.specs.Numbered.{one_row as one_row_query};
 ghost use Rattle.row_keeper.specs.Rules.{only_key};
 ghost use Rattle.fx_deeds.specs.CutOff.{UpTo};
-ghost use Rattle.fx_deeds.specs.Deeds.{AreUpdated, IsPatched, MakesRow, OfTable, PatchesBase, PatchesById, PatchesRow, id_of};
+ghost use Rattle.fx_deeds.specs.Deeds.{AreUpdated, IsPatched, MakesRow, OfTable, PatchesBase, PatchesById, PatchesRow, row_id_value};
 ghost use Rattle.fx_deeds.specs.Finding.{CanChangeEach, CanChangeRows, CanPatchRows, FindsCells, IsPutEnd, IsPutOf, IsRowAt, IsRowPatched, IsShape, IsUpdatedRow, first_cells as first_cells_of};
-ghost use Rattle.fx_deeds.specs.Found.{IsNamed};
+ghost use Rattle.fx_deeds.specs.Found.{NamesRow};
 ghost use Rattle.fx_deeds.specs.RowValues.{blank_cells as blank_cells_of, changed_cells as changed_cells_of, rows_among, values_among};
 ghost use Rattle.fx_deeds.specs.StagesOver.{Passed, StateBecomes};
 ghost use Rattle.fx_deeds.specs.Writable.{IsOneOf, WritesOnly};
@@ -105,7 +105,7 @@ fn one_row(alloc: Global, table: u16, id: u32) -> Result<Query, Memory>
 fn scan_row<W: World>(alloc: Global, world: &mut W, table: u16, id: u32) -> Result<Value, Stop>
     requires { IsQuery (W.fixed world.old).schema.tables (one_row_query table id) }
     ensures fixed { W.fixed world.new ≡ W.fixed world.old }
-    ensures told { Goes (IsLost (W.marks world.old) (W.marks world.new)) Stays (W.told world.old) (W.told world.new) }
+    ensures told { MayFallSilent (SilenceCause (W.marks world.old) (W.marks world.new)) Stays (W.told world.old) (W.told world.new) }
     ensures value { IfOk result (λ v. IsScanValue (W.fixed world.old).schema.tables (tables_told (W.told world.new)) (one_row_query table id) (view v)) }
     ensures marks { IsLater (W.marks world.old) (W.marks world.new) }
     ensures keeper { IsErrOf result Stop.Keeper → Rose (W.marks world.old).faults (W.marks world.new).faults }
@@ -268,8 +268,8 @@ fn patch_new<W: World>(
 
 // Whether the number of a record is blank.
 fn has_blank_number(alloc: Global, base: &Value) -> Result<bool, Memory>
-    ensures blank { IfOk result (λ b. b ≡ true → id_of (view base.now) ≡ blank_data) }
-    ensures other { IfOk result (λ b. b ≡ false → id_of (view base.now) ≡ blank_data → ⊥) }
+    ensures blank { IfOk result (λ b. b ≡ true → row_id_value (view base.now) ≡ blank_data) }
+    ensures other { IfOk result (λ b. b ≡ false → row_id_value (view base.now) ≡ blank_data → ⊥) }
 {
     let number = id_value(alloc, base)?;
     if let Value::Blank = number {
@@ -294,9 +294,9 @@ fn patch_numbered<W: World>(
         (WritesOnly (IsOneOf (source.Table table ∷ []))) }
     ensures keeper { IsErrOf result Stop.Keeper → Rose (W.marks world.old).faults (W.marks world.new).faults }
     ensures done { IfOk result (λ x. StateBecomes W.Env W.World.own world.old world.new
-        (λ s t. PatchesById shape.now table changes.now (id_of (view base.now)) s (view x) t)) }
+        (λ s t. PatchesById shape.now table changes.now (row_id_value (view base.now)) s (view x) t)) }
     ensures cut { OnErr result (StateBecomes W.Env W.World.own world.old world.new
-        (UpTo (λ s n x t. PatchesById shape.now table changes.now (id_of (view base.now)) s x t))) }
+        (UpTo (λ s n x t. PatchesById shape.now table changes.now (row_id_value (view base.now)) s x t))) }
     ensures fits { IfOk result (λ x. fits_in (view x) (records (columns_of shape.now)) ≡ true) }
 {
     if has_blank_number(alloc, base)? {
@@ -338,7 +338,7 @@ fn patch_base<W: World>(
 
 // The first error among the number of a base and the fields of its changes.
 fn error_of(alloc: Global, base: &Value, changes: &[Fields]) -> Result<Option<Value>, Memory>
-    ensures { IfOk result (λ e. option_map view e ≡ find is_fault (id_of (view base.now) ∷ values_among changes.now)) }
+    ensures { IfOk result (λ e. option_map view e ≡ find is_fault (row_id_value (view base.now) ∷ values_among changes.now)) }
 {
     let number = id_value(alloc, base)?;
     if let Value::Fault(fault) = number {
@@ -410,7 +410,7 @@ fn update_row<W: World>(
 
 // The number of a row that a filter kept, or the error that is answered for it.
 fn row_id(alloc: Global, row: &Fields) -> Result<Result<u32, Value>, Memory>
-    ensures { IfOk result (λ r. IsNamed (data_of row.now) r) }
+    ensures { IfOk result (λ r. NamesRow (data_of row.now) r) }
 {
     let record = Value::Rec(row.copy(alloc)?);
     named_id(alloc, &record)

@@ -13,8 +13,8 @@ ghost use Rattle.fx_deeds.specs.CutOff.{UpTo};
 ghost use Rattle.fx_deeds.specs.Collections.{AreUpdatedIn, AreWith};
 ghost use Rattle.fx_deeds.specs.Done.{errors_in, errors_of};
 ghost use Rattle.fx_deeds.specs.Fitting.{CanChangeAll, IsOfColumns};
-ghost use Rattle.fx_deeds.specs.Lefts.{AreRecords, IsChangedFirst, rows_by};
-ghost use Rattle.fx_deeds.specs.RowValues.{columns_in};
+ghost use Rattle.fx_deeds.specs.RemainingRows.{AreRecords, IsChangedFirst, record_rows};
+ghost use Rattle.fx_deeds.specs.RowValues.{columns_of_rows};
 ghost use Rattle.fx_deeds.specs.StagesOver.{Passed, StateBecomes};
 ghost use Rattle.fx_deeds.specs.Writable.{IsOneOf, WritesOnly};
 
@@ -68,8 +68,8 @@ fn changed_if_first(
     changes: &[Value],
 ) -> Result<Option<Fields>, Memory>
     requires records { AreRecords kept.now }
-    requires can { CanChangeAll (column_list columns.now) (rows_by kept.now) (map view changes.now) }
-    ensures first { IfOk result (λ o. IsChangedFirst (column_list columns.now) row.now (rows_by kept.now) (map view changes.now) o) }
+    requires can { CanChangeAll (column_list columns.now) (record_rows kept.now) (map view changes.now) }
+    ensures first { IfOk result (λ o. IsChangedFirst (column_list columns.now) row.now (record_rows kept.now) (map view changes.now) o) }
     ensures fits { IfOk result (λ o. IfSome o (λ r. fits_in (record_of r) (records_type (column_list columns.now)) ≡ true)) }
 {
     let Some((change, _)) = changes.split_first() else {
@@ -91,8 +91,8 @@ fn rows_with(
     changes: &[Value],
 ) -> Result<Rows, Memory>
     requires records { AreRecords kept.now }
-    requires can { CanChangeAll (column_list columns.now) (rows_by kept.now) (map view changes.now) }
-    ensures with { IfOk result (λ made. AreWith (column_list columns.now) rows.now (rows_by kept.now) (map view changes.now) made) }
+    requires can { CanChangeAll (column_list columns.now) (record_rows kept.now) (map view changes.now) }
+    ensures with { IfOk result (λ made. AreWith (column_list columns.now) rows.now (record_rows kept.now) (map view changes.now) made) }
     ensures fits { fits_in (table_of rows.now) (tables (column_list columns.now)) ≡ true → IfOk result (λ made. fits_in (table_of made) (tables (column_list columns.now)) ≡ true) }
 {
     let mut made = Rows::new(alloc);
@@ -129,9 +129,9 @@ pub(crate) fn update_equal<W: World, L: Ledger>(
         (WritesOnly (IsOneOf (source.Gathered collection ∷ []))) }
     ensures keeper { IsErrOf result Stop.Keeper → Rose (W.marks world.old).faults (W.marks world.new).faults }
     ensures done { IfOk result (λ x. StateBecomes W.Env W.World.own world.old world.new
-        (λ s t. AreUpdatedIn (columns_in ((W.fixed world.old).types (source.Gathered collection))) collection kept.now (map view changes.now) s (view x) t)) }
+        (λ s t. AreUpdatedIn (columns_of_rows ((W.fixed world.old).types (source.Gathered collection))) collection kept.now (map view changes.now) s (view x) t)) }
     ensures cut { OnErr result (StateBecomes W.Env W.World.own world.old world.new
-        (UpTo (λ s n x t. AreUpdatedIn (columns_in ((W.fixed world.old).types (source.Gathered collection))) collection kept.now (map view changes.now) s x t))) }
+        (UpTo (λ s n x t. AreUpdatedIn (columns_of_rows ((W.fixed world.old).types (source.Gathered collection))) collection kept.now (map view changes.now) s x t))) }
     ensures fits { IfOk result (λ x. fits_in (view x) booleans ≡ true) }
 {
     let columns = collection_columns(alloc, world, collection)?;

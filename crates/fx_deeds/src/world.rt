@@ -1,10 +1,10 @@
 //! What behaviour formulas act on.
 ghost use Rattle.std.specs.Prelude.{◌≡◌, ◌≤◌, ℕ, Option, Some, None, IfOk, OnErr, OnOk, IsErrOf, IsSome, IsSomeAnd, slice_get};
 ghost use Rattle.fx_base.specs.Faults.{Rose};
-ghost use Rattle.fx_base.specs.Silence.{Goes, IsLater, IsLost};
+ghost use Rattle.fx_base.specs.Silence.{MayFallSilent, IsLater, SilenceCause};
 ghost use Rattle.fx_base.specs.Telling.{Stays};
 ghost use Rattle.fx_types.specs.Values.{Data};
-ghost use Rattle.fx_env.specs.Telling.{Told, values_told};
+ghost use Rattle.fx_env.specs.Telling.{EnvState, values_told};
 ghost use Rattle.fx_core.specs.declared.names.Names.{Names as AppNames};
 ghost use Rattle.fx_core.specs.declared.sources.Source.{Source as Origin};
 ghost use Rattle.fx_core.specs.declared.sources.Source.TheVariants as source;
@@ -12,12 +12,12 @@ ghost use Rattle.fx_core.specs.Lawful.{IsLawfulSchema};
 ghost use Rattle.fx_core.specs.Reads.{sources_in};
 ghost use Rattle.fx_core.specs.SourceTypes.{sources};
 ghost use Rattle.row_keeper.specs.Changes.{IsInserted, IsReplaced};
-ghost use Rattle.row_keeper.specs.Tables.{columns_at, rows_of};
+ghost use Rattle.row_keeper.specs.Tables.{columns_at, rows_of_tables};
 ghost use Rattle.row_queries.specs.TableRows.{AreCellsOf};
 ghost use Rattle.session_state.specs.Changes.{FitsChange};
-ghost use Rattle.session_state.specs.Sessions.{held};
+ghost use Rattle.session_state.specs.Sessions.{stored_value};
 ghost use Rattle.fx_deeds.specs.Changed.{IsChanged, IsRowChanged, IsRowMade, IsRowRemoved};
-ghost use Rattle.fx_deeds.specs.State.{AreReady, State};
+ghost use Rattle.fx_deeds.specs.State.{AreReady, WorldState};
 
 use fx_core::{Core, Names};
 use fx_env::{Env, Steps, Stop};
@@ -37,13 +37,13 @@ pub trait World: Env {
     ghost App: { Type 0 } = { Unit {0} };
 
     /// What each source may give in a state.
-    ghost gives: { State Self.App → Origin → Data → Type 0 };
+    ghost gives: { WorldState Self.App → Origin → Data → Type 0 };
 
     /// The names of the app.
     ghost names: { Self → AppNames };
 
     /// The state, where it is told.
-    ghost state: { Self → Option (State Self.App) };
+    ghost state: { Self → Option (WorldState Self.App) };
 
     /// The names of the app.
     fn names(&self) -> &Names
@@ -54,7 +54,7 @@ pub trait World: Env {
     fn ready<L: Ledger>(&mut self, core: &Core, steps: &mut Steps<L>) -> Result<(), Stop>
         ensures fixed { Self.fixed self.new ≡ Self.fixed self.old }
         ensures named { names self.new ≡ names self.old }
-        ensures stays { Goes (IsLost (Self.marks self.old) (Self.marks self.new)) Stays (state self.old) (state self.new) }
+        ensures stays { MayFallSilent (SilenceCause (Self.marks self.old) (Self.marks self.new)) Stays (state self.old) (state self.new) }
         ensures ready { OnOk result (AreReady (Self.fixed self.old).types gives (sources_in core.now) (state self.new) (values_told (Self.told self.new))) }
         ensures marks { IsLater (Self.marks self.old) (Self.marks self.new) }
         ensures keeper { IsErrOf result Stop.Keeper → Rose (Self.marks self.old).faults (Self.marks self.new).faults }
@@ -65,8 +65,8 @@ pub trait World: Env {
         requires { FitsChange (names self.old) change }
         ensures fixed { Self.fixed self.new ≡ Self.fixed self.old }
         ensures named { names self.new ≡ names self.old }
-        ensures done { IfOk result (λ done. Goes (IsLost (Self.marks self.old) (Self.marks self.new)) (IsChanged change done) (state self.old) (state self.new)) }
-        ensures stops { OnErr result (Goes (IsLost (Self.marks self.old) (Self.marks self.new)) Stays (state self.old) (state self.new)) }
+        ensures done { IfOk result (λ done. MayFallSilent (SilenceCause (Self.marks self.old) (Self.marks self.new)) (IsChanged change done) (state self.old) (state self.new)) }
+        ensures stops { OnErr result (MayFallSilent (SilenceCause (Self.marks self.old) (Self.marks self.new)) Stays (state self.old) (state self.new)) }
         ensures marks { IsLater (Self.marks self.old) (Self.marks self.new) }
         ensures keeper { IsErrOf result Stop.Keeper → Rose (Self.marks self.old).faults (Self.marks self.new).faults }
         ensures visited { Self.visited self.old ≤ Self.visited self.new };
@@ -76,9 +76,9 @@ pub trait World: Env {
         requires { IsSomeAnd (slice_get (Self.fixed self.old).schema.tables table) (λ t. AreCellsOf t.columns cells.now) }
         ensures fixed { Self.fixed self.new ≡ Self.fixed self.old }
         ensures named { names self.new ≡ names self.old }
-        ensures put { IfOk result (λ put. Goes (IsLost (Self.marks self.old) (Self.marks self.new)) (IsRowMade (columns_at (Self.fixed self.old).schema.tables table) table cells.now put) (state self.old) (state self.new)) }
+        ensures put { IfOk result (λ put. MayFallSilent (SilenceCause (Self.marks self.old) (Self.marks self.new)) (IsRowMade (columns_at (Self.fixed self.old).schema.tables table) table cells.now put) (state self.old) (state self.new)) }
         ensures sound { IfOk result (λ put. IsInserted (columns_at (Self.fixed self.old).schema.tables table) put) }
-        ensures stops { OnErr result (Goes (IsLost (Self.marks self.old) (Self.marks self.new)) Stays (state self.old) (state self.new)) }
+        ensures stops { OnErr result (MayFallSilent (SilenceCause (Self.marks self.old) (Self.marks self.new)) Stays (state self.old) (state self.new)) }
         ensures marks { IsLater (Self.marks self.old) (Self.marks self.new) }
         ensures keeper { IsErrOf result Stop.Keeper → Rose (Self.marks self.old).faults (Self.marks self.new).faults }
         ensures visited { Self.visited self.old ≤ Self.visited self.new };
@@ -89,9 +89,9 @@ pub trait World: Env {
         requires { IsSomeAnd (slice_get (Self.fixed self.old).schema.tables table) (λ t. AreCellsOf t.columns cells.now) }
         ensures fixed { Self.fixed self.new ≡ Self.fixed self.old }
         ensures named { names self.new ≡ names self.old }
-        ensures put { IfOk result (λ put. Goes (IsLost (Self.marks self.old) (Self.marks self.new)) (IsRowChanged (columns_at (Self.fixed self.old).schema.tables table) table id cells.now put) (state self.old) (state self.new)) }
+        ensures put { IfOk result (λ put. MayFallSilent (SilenceCause (Self.marks self.old) (Self.marks self.new)) (IsRowChanged (columns_at (Self.fixed self.old).schema.tables table) table id cells.now put) (state self.old) (state self.new)) }
         ensures sound { IfOk result (λ put. IsReplaced (columns_at (Self.fixed self.old).schema.tables table) id put) }
-        ensures stops { OnErr result (Goes (IsLost (Self.marks self.old) (Self.marks self.new)) Stays (state self.old) (state self.new)) }
+        ensures stops { OnErr result (MayFallSilent (SilenceCause (Self.marks self.old) (Self.marks self.new)) Stays (state self.old) (state self.new)) }
         ensures marks { IsLater (Self.marks self.old) (Self.marks self.new) }
         ensures keeper { IsErrOf result Stop.Keeper → Rose (Self.marks self.old).faults (Self.marks self.new).faults }
         ensures visited { Self.visited self.old ≤ Self.visited self.new };
@@ -101,8 +101,8 @@ pub trait World: Env {
         requires { IsSome (slice_get (Self.fixed self.old).schema.tables table) }
         ensures fixed { Self.fixed self.new ≡ Self.fixed self.old }
         ensures named { names self.new ≡ names self.old }
-        ensures was { IfOk result (λ was. Goes (IsLost (Self.marks self.old) (Self.marks self.new)) (IsRowRemoved table id was) (state self.old) (state self.new)) }
-        ensures stops { OnErr result (Goes (IsLost (Self.marks self.old) (Self.marks self.new)) Stays (state self.old) (state self.new)) }
+        ensures was { IfOk result (λ was. MayFallSilent (SilenceCause (Self.marks self.old) (Self.marks self.new)) (IsRowRemoved table id was) (state self.old) (state self.new)) }
+        ensures stops { OnErr result (MayFallSilent (SilenceCause (Self.marks self.old) (Self.marks self.new)) Stays (state self.old) (state self.new)) }
         ensures marks { IsLater (Self.marks self.old) (Self.marks self.new) }
         ensures keeper { IsErrOf result Stop.Keeper → Rose (Self.marks self.old).faults (Self.marks self.new).faults }
         ensures visited { Self.visited self.old ≤ Self.visited self.new };
@@ -114,11 +114,11 @@ pub trait World: Env {
     ghost lost: { (w : Self) → Self.told w ≡ None → state w ≡ None };
 
     /// A law: of a collection the value is told that the session holds.
-    ghost collections: { (w : Self) (s : State Self.App) (e : Told Self.Beside) → state w ≡ Some s → Self.told w ≡ Some e →
-        (k : ℕ) → e.values (source.Gathered k) ≡ held s.session (source.Gathered k) };
+    ghost collections: { (w : Self) (s : WorldState Self.App) (e : EnvState Self.Beside) → state w ≡ Some s → Self.told w ≡ Some e →
+        (k : ℕ) → e.values (source.Gathered k) ≡ stored_value s.session (source.Gathered k) };
 
     /// A law: the rows that are told are those of the state.
-    ghost rows: { (w : Self) (s : State Self.App) (e : Told Self.Beside) → state w ≡ Some s → Self.told w ≡ Some e → e.tables ≡ rows_of s.tables.states };
+    ghost rows: { (w : Self) (s : WorldState Self.App) (e : EnvState Self.Beside) → state w ≡ Some s → Self.told w ≡ Some e → e.tables ≡ rows_of_tables s.tables.states };
 
     /// A law: sources have the types that the names give them.
     ghost typed: { (w : Self) (x : Origin) → (Self.fixed w).types x ≡ sources (names w) x };

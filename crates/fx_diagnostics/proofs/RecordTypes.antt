@@ -9,7 +9,7 @@ use Rattle.std.specs.declared.cmp.Ordering.{Ordering}
 use Rattle.std.specs.declared.cmp.Ordering.TheVariants.{Less, Equal, Greater}
 use Rattle.fx_types.specs.Types.{Shape, ColumnList, no_columns, column}
 use Rattle.fx_core.specs.SourceTypes.{put_column}
-use Rattle.fx_core.specs.Tree.{Tree, NamedTree, names_of}
+use Rattle.fx_core.specs.Tree.{Tree, NamedTree, tree_field_names}
 use Rattle.fx_core.specs.Term.{Term}
 use Rattle.fx_typing.specs.WellTyped.{columns_by}
 use Rattle.fx_typing.specs.Builds.{field_names, field_parts, put_field, put_fields, types_of}
@@ -44,20 +44,20 @@ no_fields_more (n ∷ ns) [] h = refl
 no_fields_more (n ∷ ns) (y ∷ ys) h = elim h [ inl e ↦ absurd cc | inr e ↦ absurd cc ]
 
 pub put_end : {A : Type 0} (g : A → Term × Shape) (fs : List NamedTree) (vs : List A) (i : ℕ) → i ≡ min (length fs) (length vs) → i ≤ length fs →
-    columns_in (put_fields (names_of (drop i fs)) (map g (drop i vs))) ≡ no_columns
+    columns_in (put_fields (tree_field_names (drop i fs)) (map g (drop i vs))) ≡ no_columns
 put_end g fs vs i m h =
-    ap columns_in (no_fields_more (names_of (drop i fs)) (map g (drop i vs))
+    ap columns_in (no_fields_more (tree_field_names (drop i fs)) (map g (drop i vs))
     (elim (eq-or-lt_of_le h) [
-      | inl e ↦ inl (ap names_of (drop_of_length-le fs (omega (arith, e))))
+      | inl e ↦ inl (ap tree_field_names (drop_of_length-le fs (omega (arith, e))))
       | inr l ↦ inr (ap (map g) (drop_of_length-le vs (omega (arith, m, l))))
     ]))
 
 -- one field more
 pub put_more : {A : Type 0} (g : A → Term × Shape) (fs : List NamedTree) (vs : List A) (i k : ℕ) (f : NamedTree) (v : A) → i + 1 ≡ k →
     i < length fs → f ≡ get_or fs i f → i < length vs → v ≡ get_or vs i v →
-    columns_in (put_fields (names_of (drop i fs)) (map g (drop i vs))) ≡ put_column f.0.text (g v).1 (columns_in (put_fields (names_of (drop k fs)) (map g (drop k vs))))
+    columns_in (put_fields (tree_field_names (drop i fs)) (map g (drop i vs))) ≡ put_column f.0.text (g v).1 (columns_in (put_fields (tree_field_names (drop k fs)) (map g (drop k vs))))
 put_more g fs vs i k f v n h e l d =
-    ap (λ gs. columns_in (put_fields (names_of gs) (map g (drop i vs)))) (drop_at fs i f h e)
-    ∙ ap (λ zs. columns_in (put_fields (f.0.text ∷ names_of (drop (i + 1) fs)) (map g zs))) (drop_at vs i v l d)
-    ∙ put_columns_in f.0.text (g v) (put_fields (names_of (drop (i + 1) fs)) (map g (drop (i + 1) vs)))
-    ∙ ap (λ j. put_column f.0.text (g v).1 (columns_in (put_fields (names_of (drop j fs)) (map g (drop j vs))))) n
+    ap (λ gs. columns_in (put_fields (tree_field_names gs) (map g (drop i vs)))) (drop_at fs i f h e)
+    ∙ ap (λ zs. columns_in (put_fields (f.0.text ∷ tree_field_names (drop (i + 1) fs)) (map g zs))) (drop_at vs i v l d)
+    ∙ put_columns_in f.0.text (g v) (put_fields (tree_field_names (drop (i + 1) fs)) (map g (drop (i + 1) vs)))
+    ∙ ap (λ j. put_column f.0.text (g v).1 (columns_in (put_fields (tree_field_names (drop j fs)) (map g (drop j vs))))) n

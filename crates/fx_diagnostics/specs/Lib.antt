@@ -1,1 +1,1 @@
-pub mod Gaps
+pub mod Separators

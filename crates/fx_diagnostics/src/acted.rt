@@ -9,7 +9,7 @@ ghost use Rattle.fx_typing.specs.Targets as targets;
 ghost use Rattle.fx_core.specs.Lawful.{IsLawful};
 ghost use Rattle.fx_core.specs.ColumnLists as lists;
 ghost use Rattle.fx_typing.specs.TypedView.{typed};
-ghost use Rattle.fx_resolve.specs.PartView.{part};
+ghost use Rattle.fx_resolve.specs.PartView.{judged_part};
 
 use crate::borrowed::values_or_none;
 use crate::texts::{nothing, word};
@@ -68,7 +68,7 @@ fn unnamed_column(alloc: Global, rows: &Changing, ty: &Ty) -> Result<Option<Word
 // The column that a change can't set.
 fn unset_column(alloc: Global, rows: &Changing, ty: &Ty) -> Result<Option<Words>, Memory>
     ensures { IfOk result (λ w. w
-        ≡ told.unset_at rows.now.target (column_list rows.now.columns) (shape ty.now)) }
+        ≡ told.unsettable_column rows.now.target (column_list rows.now.columns) (shape ty.now)) }
 {
     let Ty::Rec(fields) = ty else {
         return Ok(None);
@@ -83,7 +83,7 @@ fn first_unnamed_column(
     rows: &Changing,
     values: &[&Typed],
 ) -> Result<Option<Words>, Memory>
-    ensures { IfOk result (λ w. w ≡ told.first_at
+    ensures { IfOk result (λ w. w ≡ told.first_detail
         (told.unnamed_at rows.now.target (column_list rows.now.columns)) (map (λ v. typed v.now) values.now)) }
 {
     for value in values {
@@ -100,8 +100,8 @@ fn first_unset_column(
     rows: &Changing,
     values: &[&Typed],
 ) -> Result<Option<Words>, Memory>
-    ensures { IfOk result (λ w. w ≡ told.first_at
-        (told.unset_at rows.now.target (column_list rows.now.columns)) (map (λ v. typed v.now) values.now)) }
+    ensures { IfOk result (λ w. w ≡ told.first_detail
+        (told.unsettable_column rows.now.target (column_list rows.now.columns)) (map (λ v. typed v.now) values.now)) }
 {
     for value in values {
         if let Some(said) = unset_column(alloc, rows, &value.ty)? {
@@ -155,7 +155,7 @@ fn column_by_name(
     values: &[&Typed],
 ) -> Result<Option<Words>, Memory>
     requires { IsLawful names.now }
-    ensures { IfOk result (λ w. w ≡ told.acted_on (targets.rows_named names.now name.now) acting
+    ensures { IfOk result (λ w. w ≡ told.acting_detail (targets.rows_named names.now name.now) acting
         (map (λ v. typed v.now) values.now)) }
 {
     let Some(rows) = find_target(alloc, names, name)? else {
@@ -179,7 +179,7 @@ fn column_behind(
 ) -> Result<Words, Memory>
     requires { IsLawful names.now }
     ensures { IfOk result (λ w. w
-        ≡ told.column_in names.now (Some (sig.Act acting)) (part first.now ∷ map part others.now)) }
+        ≡ told.column_in names.now (Some (sig.Act acting)) (judged_part first.now ∷ map judged_part others.now)) }
 {
     let Part::Target(_, name) = first else {
         return nothing(alloc);
@@ -200,7 +200,7 @@ pub fn acted_column(
 ) -> Result<Words, Memory>
     requires { IsLawful names.now }
     ensures { IfOk result (λ w. w
-        ≡ told.column_in names.now (Some (sig.Act acting)) (map part all.now)) }
+        ≡ told.column_in names.now (Some (sig.Act acting)) (map judged_part all.now)) }
 {
     match all.split_first() {
         Some((first, others)) => column_behind(alloc, names, acting, first, others),

@@ -2,8 +2,8 @@
 ghost use Rattle.std.specs.Prelude.{◌≡◌, IfOk, map};
 ghost use Rattle.fx_typing.specs.Details as told;
 ghost use Rattle.fx_typing.specs.Parts as parts;
-ghost use Rattle.fx_typing.specs.TypedView.{piece, typed};
-ghost use Rattle.fx_resolve.specs.PartView.{part};
+ghost use Rattle.fx_typing.specs.TypedView.{piece_view, typed};
+ghost use Rattle.fx_resolve.specs.PartView.{judged_part};
 
 use fx_base::Memory;
 use fx_resolve::Part;
@@ -13,7 +13,7 @@ use std::alloc::Global;
 /// The values, where all parts are values, and else none.
 pub fn values_or_none<'p>(alloc: Global, all: &'p [Part]) -> Result<Vec<&'p Typed>, Memory>
     ensures { IfOk result (λ vs. map (λ v. typed v.now) vs.items
-        ≡ told.or_none (parts.values (map part all.now))) }
+        ≡ told.or_none (parts.values (map judged_part all.now))) }
 {
     let mut found = Vec::new(alloc);
     for one in all {
@@ -27,7 +27,7 @@ pub fn values_or_none<'p>(alloc: Global, all: &'p [Part]) -> Result<Vec<&'p Type
 
 /// The values and the names of columns.
 pub fn all_pieces<'p>(alloc: Global, all: &'p [Part]) -> Result<Vec<&'p Piece>, Memory>
-    ensures { IfOk result (λ ps. map (λ p. piece p.now) ps.items ≡ told.all_pieces (map part all.now)) }
+    ensures { IfOk result (λ ps. map (λ p. piece_view p.now) ps.items ≡ told.all_pieces (map judged_part all.now)) }
 {
     let mut found = Vec::new(alloc);
     for one in all {

@@ -88,7 +88,7 @@ pub fn type_limit(alloc: Global, ty: &Ty) -> Result<Words, Memory>
 // The type of a record of these fields.
 fn record_type(alloc: Global, fields: &[(FieldName, Expr)], values: &[&Typed]) -> Result<Ty, Memory>
     ensures { IfOk result (λ t. shape t ≡ (builds.record_by (builds.put_fields
-        (tree.names_of fields.now) (map (λ v. typed v.now) values.now))).1) }
+        (tree.tree_field_names fields.now) (map (λ v. typed v.now) values.now))).1) }
 {
     let mut columns = Columns::new(alloc);
     let mut place = fields.len().min(values.len());
@@ -107,7 +107,7 @@ pub fn record_limit(
     values: &[&Typed],
 ) -> Result<Words, Memory>
     ensures { IfOk result (λ w. w ≡ told.type_limit (builds.record_by (builds.put_fields
-        (tree.names_of fields.now) (map (λ v. typed v.now) values.now))).1) }
+        (tree.tree_field_names fields.now) (map (λ v. typed v.now) values.now))).1) }
 {
     let ty = record_type(alloc, fields, values)?;
     type_limit(alloc, &ty)
@@ -126,7 +126,7 @@ pub fn list_limit(alloc: Global, values: &[&Typed]) -> Result<Words, Memory>
 
 /// How many scopes of calls over tables would stand in one another.
 pub fn nesting(alloc: Global, scopes: &Scopes) -> Result<Words, Memory>
-    ensures { IfOk result (λ w. w ≡ told.counted (codes "nested") (suc (depth_of scopes.now))) }
+    ensures { IfOk result (λ w. w ≡ told.word_with_number (codes "nested") (suc (depth_of scopes.now))) }
 {
     word_with_count(alloc, "nested", one_more(scopes.depth())?)
 }

@@ -7,9 +7,9 @@ ghost use Rattle.fx_typing.specs.Details as told;
 ghost use Rattle.fx_typing.specs.Parts as parts;
 ghost use Rattle.fx_core.specs.Lawful.{IsLawful};
 ghost use Rattle.fx_typing.specs.TypedView.{typed};
-ghost use Rattle.fx_resolve.specs.MeaningView.{place};
-ghost use Rattle.fx_resolve.specs.PartView.{part};
-ghost use Rattle.fx_resolve.specs.PlanView.{head_of};
+ghost use Rattle.fx_resolve.specs.MeaningView.{place_view};
+ghost use Rattle.fx_resolve.specs.PartView.{judged_part};
+ghost use Rattle.fx_resolve.specs.PlanView.{tree_head};
 
 use crate::borrowed::values_or_none;
 use crate::mistyped::call_shape;
@@ -30,7 +30,7 @@ use std::alloc::Global;
 
 // A name, its type and the type that is given to it.
 fn given_names(alloc: Global, name: &Words, ty: &Ty, other: &Ty) -> Result<Words, Memory>
-    ensures { IfOk result (λ w. w ≡ told.given_names name.now (shape ty.now) (shape other.now)) }
+    ensures { IfOk result (λ w. w ≡ told.variable_detail name.now (shape ty.now) (shape other.now)) }
 {
     let mut names = Vec::new(alloc);
     names.push(name.copy(alloc)?)?;
@@ -54,7 +54,7 @@ fn first_mismatch(alloc: Global, name: &Words, ty: &Ty, values: &[&Typed]) -> Re
 
 // The type of a value as rows.
 fn rows_type(alloc: Global, value: &Typed) -> Result<Ty, Memory>
-    ensures { IfOk result (λ t. shape t ≡ (deeds.rows_of (typed value.now)).1) }
+    ensures { IfOk result (λ t. shape t ≡ (deeds.rows_collected (typed value.now)).1) }
 {
     match &value.ty {
         Ty::Tab(columns) => Ok(Ty::Tab(columns.copy(alloc)?)),
@@ -156,8 +156,8 @@ fn target_mismatch(
     others: &[Part],
 ) -> Result<Words, Memory>
     requires { IsLawful at.now.names.now }
-    ensures { (a : Option (List ℕ)) → IfOk result (λ w. w ≡ told.unjoined (place at.now)
-        (Some (sig.Act acting)) (parts.target a name.now ∷ map part others.now)) }
+    ensures { (a : Option (List ℕ)) → IfOk result (λ w. w ≡ told.unjoined (place_view at.now)
+        (Some (sig.Act acting)) (parts.target a name.now ∷ map judged_part others.now)) }
 {
     let values = values_or_none(alloc, others)?;
     match acting {
@@ -175,7 +175,7 @@ fn assignment_mismatch(
     values: &[Typed],
 ) -> Result<Words, Memory>
     requires { IsLawful at.now.names.now }
-    ensures { (qs : List parts.Part) → IfOk result (λ w. w ≡ told.unjoined (place at.now)
+    ensures { (qs : List parts.JudgedPart) → IfOk result (λ w. w ≡ told.unjoined (place_view at.now)
         (Some (sig.Act acting)) (parts.assigned variables.now (map typed values.now) ∷ qs)) }
 {
     match acting {
@@ -188,7 +188,7 @@ fn assignment_mismatch(
 fn acting_mismatch(alloc: Global, at: &Place, acting: Acting, all: &[Part]) -> Result<Words, Memory>
     requires { IsLawful at.now.names.now }
     ensures { IfOk result (λ w. w
-        ≡ told.unjoined (place at.now) (Some (sig.Act acting)) (map part all.now)) }
+        ≡ told.unjoined (place_view at.now) (Some (sig.Act acting)) (map judged_part all.now)) }
 {
     let Some((first, others)) = all.split_first() else {
         return nothing(alloc);
@@ -210,7 +210,7 @@ fn call_mismatch(
     all: &[Part],
 ) -> Result<Words, Memory>
     requires { IsLawful at.now.names.now }
-    ensures { IfOk result (λ w. w ≡ told.unjoined (place at.now) shape (map part all.now)) }
+    ensures { IfOk result (λ w. w ≡ told.unjoined (place_view at.now) shape (map judged_part all.now)) }
 {
     match shape {
         Some(SigShape::Act(acting)) => acting_mismatch(alloc, at, acting, all),
@@ -222,7 +222,7 @@ fn call_mismatch(
 pub fn mismatch(alloc: Global, at: &Place, whole: &Expr, all: &[Part]) -> Result<Words, Memory>
     requires { IsLawful at.now.names.now }
     ensures { IfOk result (λ w. w
-        ≡ told.misjoined (place at.now) (head_of whole.now) (map part all.now)) }
+        ≡ told.misjoined (place_view at.now) (tree_head whole.now) (map judged_part all.now)) }
 {
     match &whole.node {
         Node::Call(name, _) => call_mismatch(alloc, at, call_shape(at.names, name), all),

@@ -8,8 +8,8 @@ ghost use Rattle.fx_typing.specs.Parts as parts;
 ghost use Rattle.fx_typing.specs.Plans as plans;
 ghost use Rattle.fx_typing.specs.Targets as targets;
 ghost use Rattle.fx_core.specs.Lawful.{IsLawful};
-ghost use Rattle.fx_resolve.specs.PartView.{part};
-ghost use Rattle.fx_resolve.specs.PlanView.{head_of};
+ghost use Rattle.fx_resolve.specs.PartView.{judged_part};
+ghost use Rattle.fx_resolve.specs.PlanView.{tree_head};
 
 use crate::texts::{type_word, word};
 use fx_base::Memory;
@@ -55,7 +55,7 @@ fn push_rows(
 fn push_part(alloc: Global, names: &Names, one: &Part, found: &mut Vec<Words>) -> Result<(), Memory>
     requires { IsLawful names.now }
     ensures { OnOk result (found.new.items
-        ≡ found.old.items ++ told.part_names names.now (part one.now)) }
+        ≡ found.old.items ++ told.part_names names.now (judged_part one.now)) }
 {
     match one {
         Part::Piece(Piece::Value(_, value)) => push_word(alloc, type_word(&value.ty), found),
@@ -68,7 +68,7 @@ fn push_part(alloc: Global, names: &Names, one: &Part, found: &mut Vec<Words>) -
 /// The names of the types of a part, of which there is one at most.
 pub fn part_names(alloc: Global, names: &Names, one: &Part) -> Result<Vec<Words>, Memory>
     requires { IsLawful names.now }
-    ensures { IfOk result (λ v. v.items ≡ told.part_names names.now (part one.now)) }
+    ensures { IfOk result (λ v. v.items ≡ told.part_names names.now (judged_part one.now)) }
 {
     let mut found = Vec::new(alloc);
     push_part(alloc, names, one, &mut found)?;
@@ -78,7 +78,7 @@ pub fn part_names(alloc: Global, names: &Names, one: &Part) -> Result<Vec<Words>
 // The names of the types of parts.
 fn all_names(alloc: Global, names: &Names, all: &[Part]) -> Result<Vec<Words>, Memory>
     requires { IsLawful names.now }
-    ensures { IfOk result (λ v. v.items ≡ told.all_names names.now (map part all.now)) }
+    ensures { IfOk result (λ v. v.items ≡ told.all_names names.now (map judged_part all.now)) }
 {
     let mut found = Vec::new(alloc);
     for one in all {
@@ -88,7 +88,7 @@ fn all_names(alloc: Global, names: &Names, all: &[Part]) -> Result<Vec<Words>, M
 }
 
 fn is_table(ty: &Ty) -> bool
-    ensures { result ≡ told.is_table (shape ty.now) }
+    ensures { result ≡ told.is_table_shape (shape ty.now) }
 {
     matches!(ty, Ty::Tab(_) | Ty::Blank)
 }
@@ -101,7 +101,7 @@ fn is_table_place(takes: Takes) -> bool
 
 // Whether an acting call takes rows first.
 fn takes_rows(acting: Acting) -> bool
-    ensures { (qs : List parts.Part) → told.takes_table (Some (sig.Act acting)) qs ≡ result }
+    ensures { (qs : List parts.JudgedPart) → told.takes_table (Some (sig.Act acting)) qs ≡ result }
 {
     matches!(
         acting,
@@ -111,7 +111,7 @@ fn takes_rows(acting: Acting) -> bool
 
 // Whether a call takes a table first.
 fn takes_table(shape: Option<SigShape>, all: &[Part]) -> bool
-    ensures { result ≡ told.takes_table shape (map part all.now) }
+    ensures { result ≡ told.takes_table shape (map judged_part all.now) }
 {
     match shape {
         Some(SigShape::One(fun) | SigShape::Literal(fun)) => is_table_place(row_of(fun).first),
@@ -138,7 +138,7 @@ fn are_rows(alloc: Global, names: &Names, name: &Words) -> Result<bool, Memory>
 // Whether a part is the rows that a call takes.
 fn stands_as_table(alloc: Global, names: &Names, one: &Part) -> Result<bool, Memory>
     requires { IsLawful names.now }
-    ensures { IfOk result (λ b. b ≡ told.stands_as_table names.now (part one.now)) }
+    ensures { IfOk result (λ b. b ≡ told.stands_as_table names.now (judged_part one.now)) }
 {
     match one {
         Part::Piece(Piece::Value(_, value)) => Ok(is_table(&value.ty)),
@@ -150,7 +150,7 @@ fn stands_as_table(alloc: Global, names: &Names, one: &Part) -> Result<bool, Mem
 // The names of the types of the parts of a call that takes a table first: a wrong one is told alone.
 fn names_over_table(alloc: Global, names: &Names, all: &[Part]) -> Result<Vec<Words>, Memory>
     requires { IsLawful names.now }
-    ensures { IfOk result (λ v. v.items ≡ told.call_names names.now true (map part all.now)) }
+    ensures { IfOk result (λ v. v.items ≡ told.call_names names.now true (map judged_part all.now)) }
 {
     match all.first() {
         Some(first) if !stands_as_table(alloc, names, first)? => part_names(alloc, names, first),
@@ -174,7 +174,7 @@ fn call_names(
 ) -> Result<Vec<Words>, Memory>
     requires { IsLawful names.now }
     ensures { IfOk result (λ v. v.items ≡ told.call_names names.now
-        (told.takes_table (plans.called_as names.now name.now) (map part all.now)) (map part all.now)) }
+        (told.takes_table (plans.called_as names.now name.now) (map judged_part all.now)) (map judged_part all.now)) }
 {
     if takes_table(call_shape(names, name), all) {
         names_over_table(alloc, names, all)
@@ -201,7 +201,7 @@ pub fn wrong_types(
     all: &[Part],
 ) -> Result<Vec<Words>, Memory>
     requires { IsLawful names.now }
-    ensures { IfOk result (λ v. v.items ≡ told.wrong_types names.now (head_of whole.now) (map part all.now)) }
+    ensures { IfOk result (λ v. v.items ≡ told.wrong_types names.now (tree_head whole.now) (map judged_part all.now)) }
 {
     match &whole.node {
         Node::Name(_) | Node::Global(_) | Node::Alias(_, _) => record_alone(alloc),

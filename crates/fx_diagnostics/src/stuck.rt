@@ -7,9 +7,9 @@ ghost use Rattle.fx_core.specs.Lawful.{IsLawful};
 ghost use Rattle.fx_core.specs.Tree as tree;
 ghost use Rattle.fx_core.specs.ColumnLists as lists;
 ghost use Rattle.fx_typing.specs.Local as local;
-ghost use Rattle.fx_typing.specs.TypedView.{piece};
-ghost use Rattle.fx_resolve.specs.PartView.{part};
-ghost use Rattle.fx_resolve.specs.PlanView.{head_of};
+ghost use Rattle.fx_typing.specs.TypedView.{piece_view};
+ghost use Rattle.fx_resolve.specs.PartView.{judged_part};
+ghost use Rattle.fx_resolve.specs.PlanView.{tree_head};
 
 use crate::acted::acted_column;
 use crate::borrowed::all_pieces;
@@ -31,7 +31,7 @@ use std::alloc::Global;
 
 // Whether one of the fields has this name.
 fn has_field(name: &Words, fields: &[(FieldName, Expr)]) -> bool
-    ensures { result ≡ lists.is_one_of name.now (tree.names_of fields.now) }
+    ensures { result ≡ lists.is_one_of name.now (tree.tree_field_names fields.now) }
 {
     for (other, _) in fields {
         if other.text.is(name) {
@@ -43,7 +43,7 @@ fn has_field(name: &Words, fields: &[(FieldName, Expr)]) -> bool
 
 // The first name that stood before.
 fn twice_in(alloc: Global, fields: &[(FieldName, Expr)]) -> Result<Words, Memory>
-    ensures { IfOk result (λ w. w ≡ told.twice_after [] (tree.names_of fields.now)) }
+    ensures { IfOk result (λ w. w ≡ told.twice_after [] (tree.tree_field_names fields.now)) }
 {
     for (place, (name, _)) in fields.iter().enumerate() {
         if has_field(&name.text, &fields[..place]) {
@@ -56,7 +56,7 @@ fn twice_in(alloc: Global, fields: &[(FieldName, Expr)]) -> Result<Words, Memory
 // The first name that is no column's, of those that are left out or shown.
 fn missing_column(alloc: Global, pieces: &[&Piece], columns: &Columns) -> Result<Words, Memory>
     ensures { IfOk result (λ w. w
-        ≡ told.stuck_sought (map (λ p. piece p.now) pieces.now) (column_list columns.now)) }
+        ≡ told.stuck_sought (map (λ p. piece_view p.now) pieces.now) (column_list columns.now)) }
 {
     for one in pieces {
         let Piece::Label(name) = *one else {
@@ -72,7 +72,7 @@ fn missing_column(alloc: Global, pieces: &[&Piece], columns: &Columns) -> Result
 // The name at which columns can't be named anew.
 fn stuck_rename(alloc: Global, pieces: &[&Piece], columns: Columns) -> Result<Words, Memory>
     ensures { IfOk result (λ w. w
-        ≡ told.stuck_renamed (map (λ p. piece p.now) pieces.now) (column_list columns)) }
+        ≡ told.stuck_renamed (map (λ p. piece_view p.now) pieces.now) (column_list columns)) }
 {
     let mut columns = columns;
     let mut more = pieces;
@@ -101,7 +101,7 @@ fn stuck_behind(
     others: &[&Piece],
 ) -> Result<Words, Memory>
     ensures { (a : Option (List ℕ)) → IfOk result (λ w. w ≡ told.stuck_by answer
-        (local.value a value.now.core (shape value.now.ty) ∷ map (λ p. piece p.now) others.now)) }
+        (local.value a value.now.core (shape value.now.ty) ∷ map (λ p. piece_view p.now) others.now)) }
 {
     let columns = item_columns(alloc, &value.ty)?;
     match answer {
@@ -113,7 +113,7 @@ fn stuck_behind(
 
 // The name at which a call is stuck.
 fn stuck_by(alloc: Global, answer: Answer, pieces: &[&Piece]) -> Result<Words, Memory>
-    ensures { IfOk result (λ w. w ≡ told.stuck_by answer (map (λ p. piece p.now) pieces.now)) }
+    ensures { IfOk result (λ w. w ≡ told.stuck_by answer (map (λ p. piece_view p.now) pieces.now)) }
 {
     let Some((first, others)) = pieces.split_first() else {
         return word(alloc, "Kind");
@@ -126,7 +126,7 @@ fn stuck_by(alloc: Global, answer: Answer, pieces: &[&Piece]) -> Result<Words, M
 
 // The name at which a call of a function is stuck.
 fn stuck_in(alloc: Global, shape: Option<SigShape>, all: &[Part]) -> Result<Words, Memory>
-    ensures { IfOk result (λ w. w ≡ told.stuck_in shape (map part all.now)) }
+    ensures { IfOk result (λ w. w ≡ told.stuck_in shape (map judged_part all.now)) }
 {
     match shape {
         Some(SigShape::One(fun)) => stuck_by(alloc, row_of(fun).answer, &all_pieces(alloc, all)?),
@@ -136,7 +136,7 @@ fn stuck_in(alloc: Global, shape: Option<SigShape>, all: &[Part]) -> Result<Word
 
 // The first new name of a call that is taken.
 fn taken_name_in(alloc: Global, shape: Option<SigShape>, all: &[Part]) -> Result<Words, Memory>
-    ensures { IfOk result (λ w. w ≡ told.taken_in shape (map part all.now)) }
+    ensures { IfOk result (λ w. w ≡ told.taken_in shape (map judged_part all.now)) }
 {
     let Some(SigShape::One(fun)) = shape else {
         return nothing(alloc);
@@ -154,7 +154,7 @@ pub fn repeated_name(
     whole: &Expr,
     all: &[Part],
 ) -> Result<Words, Memory>
-    ensures { IfOk result (λ w. w ≡ told.named_twice names.now (head_of whole.now) (map part all.now)) }
+    ensures { IfOk result (λ w. w ≡ told.named_twice names.now (tree_head whole.now) (map judged_part all.now)) }
 {
     match &whole.node {
         Node::Rec(fields) => twice_in(alloc, fields.as_slice()),
@@ -171,7 +171,7 @@ fn column_in(
     all: &[Part],
 ) -> Result<Words, Memory>
     requires { IsLawful names.now }
-    ensures { IfOk result (λ w. w ≡ told.column_in names.now shape (map part all.now)) }
+    ensures { IfOk result (λ w. w ≡ told.column_in names.now shape (map judged_part all.now)) }
 {
     match shape {
         Some(SigShape::Act(acting)) => acted_column(alloc, names, acting, all),
@@ -187,7 +187,7 @@ pub fn unknown_column(
     all: &[Part],
 ) -> Result<Words, Memory>
     requires { IsLawful names.now }
-    ensures { IfOk result (λ w. w ≡ told.unknown_column names.now (head_of whole.now) (map part all.now)) }
+    ensures { IfOk result (λ w. w ≡ told.unknown_column_detail names.now (tree_head whole.now) (map judged_part all.now)) }
 {
     match &whole.node {
         Node::Dot(_, name) => name.copy(alloc),

@@ -4,8 +4,8 @@ ghost use Rattle.fx_types.specs.TypeView.{shape};
 ghost use Rattle.std.specs.Fmt.{decimal};
 ghost use Rattle.std.specs.Str.{IsAscii};
 ghost use Rattle.fx_typing.specs.Details as told;
-ghost use Rattle.fx_diagnostics.specs.Gaps.{comma_at};
-ghost use Rattle.fx_resolve.specs.PlanView.{head_of};
+ghost use Rattle.fx_diagnostics.specs.Separators.{comma_at};
+ghost use Rattle.fx_resolve.specs.PlanView.{tree_head};
 
 use fx_base::Memory;
 use fx_core::expr::{Expr, Node};
@@ -64,7 +64,7 @@ fn push_text(all: &mut String, place: usize, text: &Words) -> Result<(), Memory>
 
 /// Texts with a comma and a space between each two.
 pub fn commas(alloc: Global, texts: &[Words]) -> Result<Words, Memory>
-    ensures { IfOk result (λ w. w ≡ told.commas texts.now) }
+    ensures { IfOk result (λ w. w ≡ told.comma_separated texts.now) }
 {
     let mut all = String::new(alloc);
     for (place, text) in texts.iter().enumerate() {
@@ -75,7 +75,7 @@ pub fn commas(alloc: Global, texts: &[Words]) -> Result<Words, Memory>
 
 /// A name and a number, a space between them.
 pub fn name_with_count(alloc: Global, name: &Words, number: usize) -> Result<Words, Memory>
-    ensures { IfOk result (λ w. w ≡ told.counted name.now number) }
+    ensures { IfOk result (λ w. w ≡ told.word_with_number name.now number) }
 {
     let text = number_text(alloc, name.as_str(), number)?;
     Words::of(alloc, text.as_str())
@@ -91,7 +91,7 @@ fn number_text(alloc: Global, text: &str, number: usize) -> Result<String, Memor
 /// A word of ASCII characters and a number, a space between them.
 pub fn word_with_count(alloc: Global, text: &str, number: usize) -> Result<Words, Memory>
     requires { IsAscii text.now }
-    ensures { IfOk result (λ w. w ≡ told.counted text.now number) }
+    ensures { IfOk result (λ w. w ≡ told.word_with_number text.now number) }
 {
     let name = word(alloc, text)?;
     name_with_count(alloc, &name, number)
@@ -100,7 +100,7 @@ pub fn word_with_count(alloc: Global, text: &str, number: usize) -> Result<Words
 /// What a node is called: by its name or the name of its call, and a chain by its mark. Other nodes
 /// have no name.
 pub fn head_name(alloc: Global, whole: &Expr) -> Result<Words, Memory>
-    ensures { IfOk result (λ w. w ≡ told.head_name (head_of whole.now)) }
+    ensures { IfOk result (λ w. w ≡ told.head_name (tree_head whole.now)) }
 {
     match &whole.node {
         Node::Name(name)

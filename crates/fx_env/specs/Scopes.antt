@@ -16,14 +16,14 @@ use Rattle.fx_typing.specs.WellTyped.{Context, IsTyped}
 
 -- the rows and records of the scopes from the outside, the gallery's item if there is one, and the
 -- error that was caught around, if one was
-pub record Held : Type 0 where
+pub record ScopeValues : Type 0 where
   pub rows : List Data
   pub item : Option Data
   pub caught : Option Fault
 
 -- what is held of these values
-abbrev pub held : List Value → Option Value → Option Fault → Held
-held rows item caught = record { rows = map view rows; item = option_map view item; caught = caught }
+abbrev pub scope_values : List Value → Option Value → Option Fault → ScopeValues
+scope_values rows item caught = record { rows = map view rows; item = option_map view item; caught = caught }
 
 -- what an environment leaves as it is: the type of each source that may be read, the tables of the app, how
 -- many rows a query may take that isn't delegated, the loans through which it uses objects that are lent, if it
@@ -41,18 +41,18 @@ fitted true t = Some t
 fitted false t = None
 
 -- where a formula stands, by the types of its sources and what is told of them
-abbrev pub around : (Source → Option Shape) → Option (Source → Data) → Held → Around
+abbrev pub around : (Source → Option Shape) → Option (Source → Data) → ScopeValues → Around
 around types told s = record { gives = Gives types told; rows = s.rows; item = s.item; caught = s.caught }
 
 -- what a scope holds fits the context
-pub record Suits (types : Source → Option Shape) (s : Held) (c : Context) : Type 0 where
+pub record Suits (types : Source → Option Shape) (s : ScopeValues) (c : Context) : Type 0 where
   pub sources : c.sources ≡ types
   pub rows : AreFit s.rows c.rows
   pub item : IsItemFit s.item c.item
   pub caught : c.caught ≡ true → IsSome s.caught
 
 -- the tree doesn't act, and has the type where it stands, by a typing in which the columns of all types rise
-pub record IsReady (types : Source → Option Shape) (s : Held) (t : Term) (u : Shape) : Type 0 where
+pub record IsTypedHere (types : Source → Option Shape) (s : ScopeValues) (t : Term) (u : Shape) : Type 0 where
   pub context : Context
   pub suits : Suits types s context
   pub typed : IsTyped context t u
@@ -60,5 +60,5 @@ pub record IsReady (types : Source → Option Shape) (s : Held) (t : Term) (u : 
   pub quiet : acts t ≡ false
 
 -- the same at some type
-abbrev pub CanEvaluate : (Source → Option Shape) → Held → Term → Type 0
-CanEvaluate types s t = (u : Shape) × IsReady types s t u
+abbrev pub CanEvaluate : (Source → Option Shape) → ScopeValues → Term → Type 0
+CanEvaluate types s t = (u : Shape) × IsTypedHere types s t u

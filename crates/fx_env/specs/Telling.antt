@@ -6,21 +6,21 @@ use Rattle.fx_core.specs.declared.sources.Source.{Source}
 use Rattle.row_queries.specs.declared.rows.Row.{Row}
 
 -- no fault is counted, and no doubt comes up
-abbrev pub unmarked : Marks
-unmarked = record { faults = 0; doubt = 0 }
+abbrev pub no_marks : Marks
+no_marks = record { faults = 0; doubt = 0 }
 
 -- the value of each source, the rows of each table by rising ID, and what an environment of its kind tells besides
-pub record Told (B : Type 0) : Type 0 where
+pub record EnvState (B : Type 0) : Type 0 where
   pub values : Source → Data
   pub tables : List (List Row)
   pub beside : B
 
 -- the value of each source, where it is told
-abbrev pub values_told : {B : Type 0} → Option (Told B) → Option (Source → Data)
+abbrev pub values_told : {B : Type 0} → Option (EnvState B) → Option (Source → Data)
 values_told told = option_map (λ t. t.values) told
 
 -- the rows of each table, where they are told
-abbrev pub tables_told : {B : Type 0} → Option (Told B) → Option (List (List Row))
+abbrev pub tables_told : {B : Type 0} → Option (EnvState B) → Option (List (List Row))
 tables_told told = option_map (λ t. t.tables) told
 
 -- nothing is taken as told, or what is told

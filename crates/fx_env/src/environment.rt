@@ -1,15 +1,15 @@
 //! What typed trees are evaluated over.
 ghost use Rattle.std.specs.Prelude.{◌≡◌, ℕ, ◌+◌, ◌≤◌, Option, IsSome, IfOk, IsErrOf, MatchOption, length};
 ghost use Rattle.fx_base.specs.Faults.{Rose};
-ghost use Rattle.fx_base.specs.Silence.{Goes, IsLater, IsLost, Marks};
+ghost use Rattle.fx_base.specs.Silence.{MayFallSilent, IsLater, SilenceCause, Marks};
 ghost use Rattle.fx_base.specs.Telling.{Stays};
 ghost use Rattle.fx_types.specs.ValueView.{view};
 ghost use Rattle.fx_env.specs.Queries.{KeepsTables, ReadsTold};
 ghost use Rattle.fx_env.specs.Scopes.{Fixed};
-ghost use Rattle.fx_env.specs.Telling.{Told, tables_told, values_told};
+ghost use Rattle.fx_env.specs.Telling.{EnvState, tables_told, values_told};
 ghost use Rattle.fx_env.specs.declared.environment.Stop.TheVariants.{Memory as OutOfMemory};
 ghost use Rattle.fx_semantics.specs.Sources.{Gives};
-ghost use Rattle.row_queries.specs.Answers.{IsCountAnswer, IsScanValue, IsTotalAnswer, rows_in};
+ghost use Rattle.row_queries.specs.Answers.{IsCountAnswer, IsScanValue, IsTotalAnswer, rows_counted};
 ghost use Rattle.row_queries.specs.Queries.{CanTotal, IsQuery};
 ghost use Rattle.row_queries.specs.RowTests.{HasNoFaults};
 ghost use Rattle.row_queries.specs.Visits.{VisitsAtLeast, VisitsTold};
@@ -60,7 +60,7 @@ impl<T: Drop> From<AllocFailed<T>> for Stop {
 /// every row that fits the table.
 ///
 /// No call changes what is told. An environment may fall silent, in any call, and then stays silent: only
-/// where a fault was counted in that call or a doubt has come up (`IsLost`). What an answer is, is said over
+/// where a fault was counted in that call or a doubt has come up (`SilenceCause`). What an answer is, is said over
 /// what is told after the call; what it fits holds in any case. Counts stand still at the greatest `u64`.
 pub trait Env {
     /// What environments of a kind tell besides values and tables.
@@ -71,7 +71,7 @@ pub trait Env {
     ghost fixed: { Self → Fixed };
 
     /// Where it is told, the value of each source, the rows of each table by rising `ID`, and what else is told.
-    ghost told: { Self → Option (Told Self.Beside) };
+    ghost told: { Self → Option (EnvState Self.Beside) };
 
     /// How many faults have been counted, and whether a doubt has come up.
     ghost marks: { Self → Marks };
@@ -87,7 +87,7 @@ pub trait Env {
     fn read<L: Ledger>(&mut self, source: Source, steps: &mut Steps<L>) -> Result<Value, Stop>
         requires { IsSome ((fixed self.old).types source) }
         ensures fixed { fixed self.new ≡ fixed self.old }
-        ensures told { Goes (IsLost (marks self.old) (marks self.new)) Stays (told self.old) (told self.new) }
+        ensures told { MayFallSilent (SilenceCause (marks self.old) (marks self.new)) Stays (told self.old) (told self.new) }
         ensures value { IfOk result (λ v. Gives (fixed self.old).types (values_told (told self.new)) source (view v)) }
         ensures marks { IsLater (marks self.old) (marks self.new) }
         ensures keeper { IsErrOf result Stop.Keeper → Rose (marks self.old).faults (marks self.new).faults }
@@ -113,13 +113,13 @@ pub trait Env {
     fn scan(&mut self, query: &Query) -> Result<Value, Stop>
         requires { IsQuery (fixed self.old).schema.tables query.now }
         ensures fixed { fixed self.new ≡ fixed self.old }
-        ensures told { Goes (IsLost (marks self.old) (marks self.new)) Stays (told self.old) (told self.new) }
+        ensures told { MayFallSilent (SilenceCause (marks self.old) (marks self.new)) Stays (told self.old) (told self.new) }
         ensures value { IfOk result (λ v. IsScanValue (fixed self.old).schema.tables (tables_told (told self.new)) query.now (view v)) }
         ensures marks { IsLater (marks self.old) (marks self.new) }
         ensures keeper { IsErrOf result Stop.Keeper → Rose (marks self.old).faults (marks self.new).faults }
         ensures ticked { ticked self.new ≡ ticked self.old }
         ensures visited { visited self.old ≤ visited self.new }
-        ensures least { IfOk result (λ v. VisitsAtLeast (rows_in (view v)) (visited self.old) (visited self.new)) }
+        ensures least { IfOk result (λ v. VisitsAtLeast (rows_counted (view v)) (visited self.old) (visited self.new)) }
         ensures most { VisitsTold (tables_told (told self.new)) query.now (visited self.old) (visited self.new) };
 
     /// How many rows a query gives, whose test has no errors as constants: of some rows that the table can hold,
@@ -128,7 +128,7 @@ pub trait Env {
         requires query { IsQuery (fixed self.old).schema.tables query.now }
         requires sound { HasNoFaults query.now.test }
         ensures fixed { fixed self.new ≡ fixed self.old }
-        ensures told { Goes (IsLost (marks self.old) (marks self.new)) Stays (told self.old) (told self.new) }
+        ensures told { MayFallSilent (SilenceCause (marks self.old) (marks self.new)) Stays (told self.old) (told self.new) }
         ensures value { IfOk result (λ n. IsCountAnswer (fixed self.old).schema.tables (tables_told (told self.new)) query.now n) }
         ensures marks { IsLater (marks self.old) (marks self.new) }
         ensures keeper { IsErrOf result Stop.Keeper → Rose (marks self.old).faults (marks self.new).faults }
@@ -144,7 +144,7 @@ pub trait Env {
         requires sound { HasNoFaults query.now.test }
         requires column { CanTotal (fixed self.old).schema.tables query.now column }
         ensures fixed { fixed self.new ≡ fixed self.old }
-        ensures told { Goes (IsLost (marks self.old) (marks self.new)) Stays (told self.old) (told self.new) }
+        ensures told { MayFallSilent (SilenceCause (marks self.old) (marks self.new)) Stays (told self.old) (told self.new) }
         ensures value { IfOk result (λ t. IsTotalAnswer (fixed self.old).schema.tables (tables_told (told self.new)) query.now column t) }
         ensures marks { IsLater (marks self.old) (marks self.new) }
         ensures keeper { IsErrOf result Stop.Keeper → Rose (marks self.old).faults (marks self.new).faults }

@@ -8,10 +8,10 @@ use Rattle.fx_primitives.specs.Folds.{IsSum}
 use Rattle.fx_types.specs.declared.faults.Kind.TheVariants.{Numeric}
 use Rattle.fx_types.specs.declared.aggregates.Totals.{Totals}
 use Rattle.fx_number.specs.Decimal.{IsInRange}
-use Rattle.fx_value.specs.Aggregates.{IsLeast, IsWithin, SumsUp, sum_of}
+use Rattle.fx_value.specs.Aggregates.{IsLeast, IsBoundedSum, SumsUp, sum_of}
 
 -- the sum of numbers in range is in that of so many, also behind others
-within_from : (zs : List ℤ) (n : ℕ) (a : ℤ) → IsWithin n a → AllByRecursion IsInRange zs → IsWithin (n + length zs) (fold ◌+ℤ◌ a zs)
+within_from : (zs : List ℤ) (n : ℕ) (a : ℤ) → IsBoundedSum n a → AllByRecursion IsInRange zs → IsBoundedSum (n + length zs) (fold ◌+ℤ◌ a zs)
 within_from [] n a w h = let e : n + 0 ≡ n = omega arith in rw e w
 within_from (z ∷ zs) n a w h =
     let low = w.low in
@@ -19,10 +19,10 @@ within_from (z ∷ zs) n a w h =
     let above = h.0.0 in
     let below = h.0.1 in
     let e : n + length (z ∷ zs) ≡ suc n + length zs = omega arith in
-    let next : IsWithin (suc n) (a +ℤ z) = record { low = omega (arith, ints); high = omega (arith, ints) } in
+    let next : IsBoundedSum (suc n) (a +ℤ z) = record { low = omega (arith, ints); high = omega (arith, ints) } in
     rw e (within_from zs (suc n) (a +ℤ z) next h.1)
 
-all_within : (zs : List ℤ) → AllByRecursion IsInRange zs → IsWithin (length zs) (sum_of zs)
+all_within : (zs : List ℤ) → AllByRecursion IsInRange zs → IsBoundedSum (length zs) (sum_of zs)
 all_within zs h = let e : length zs ≡ 0 + length zs = omega arith in rw e (within_from zs 0 (pos 0) (record { low = omega (arith, ints); high = omega (arith, ints) }) h)
 
 -- numbers between two that are in range are in range
@@ -30,7 +30,7 @@ all_between : (zs : List ℤ) (m n : ℤ) → All (λ z. m ≤ℤ z) zs → All 
 all_between zs m n a b h k = recursion_from_All IsInRange zs (λ i d l. let x = a i d l in let y = b i d l in let v = h.0 in let w = k.1 in (omega (arith, ints), omega (arith, ints)))
 
 -- what totals say of the sum of numbers whose least and greatest are these, in range
-pub sums_within : (zs : List ℤ) (t : Totals) (m n x y : ℤ) → SumsUp zs t → t.least ≡ Some m → t.greatest ≡ Some n → x ≡ m → y ≡ n → IsInRange x → IsInRange y → IsWithin t.count t.sum
+pub sums_within : (zs : List ℤ) (t : Totals) (m n x y : ℤ) → SumsUp zs t → t.least ≡ Some m → t.greatest ≡ Some n → x ≡ m → y ≡ n → IsInRange x → IsInRange y → IsBoundedSum t.count t.sum
 sums_within zs t m n x y s e f i j v w =
     let h : IsInRange m = subst IsInRange i v in
     let k : IsInRange n = subst IsInRange j w in

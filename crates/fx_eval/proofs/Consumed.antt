@@ -4,16 +4,16 @@ use Rattle.std.specs.Prelude.{cond, slice_get}
 use Rattle.std.specs.List.{filter, list_any}
 use Rattle.fx_types.specs.Types.{Shape}
 use Rattle.fx_types.specs.Values.{Data, blank, fault, number, text, boolean, date, rec, tab}
-use Rattle.fx_env.specs.Scopes.{Fixed, Held, around}
-use Rattle.fx_env.specs.Telling.{Heard, Told, tables_told, values_told}
+use Rattle.fx_env.specs.Scopes.{Fixed, ScopeValues, around}
+use Rattle.fx_env.specs.Telling.{Heard, EnvState, tables_told, values_told}
 use Rattle.fx_eval.specs.declared.demands.Demand.{Demand}
 use Rattle.fx_eval.specs.declared.demands.Demand.TheVariants as demand
 use Rattle.fx_eval.specs.declared.demands.Fold.{Fold}
 use Rattle.fx_eval.specs.declared.demands.Fold.TheVariants as fold
 use Rattle.fx_eval.specs.Demands.{IsAnswered, IsAskedFor, IsDemand, IsSearchBy, SettledAreValues, fun_of, settled_in}
-use Rattle.fx_eval.specs.Moments.{HasVisited, Moment, Went}
+use Rattle.fx_eval.specs.EvalSteps.{HasVisited, Moment, Went}
 use Rattle.fx_eval.specs.Parts.{inner}
-use Rattle.fx_eval.specs.Visits.{AllVisit, AskedTables, AtMost, Both, ConstantsVisit, EachVisits, InFound, InRanges, OverVisits, Part, PartVisits, PartsVisit, RangesVisit, RowsVisit, UnlessError, Visiting, Visits, VisitsBy, VisitsByHead, asked_tables, lies_in, part, parts, search_of}
+use Rattle.fx_eval.specs.Visits.{AllVisit, AskedTables, AtMost, Both, ConstantsVisit, EachVisits, InFound, InRanges, OverVisits, VisitPart, PartVisits, PartsVisit, RangesVisit, RowsVisit, UnlessError, Visiting, Visits, VisitsBy, VisitsByHead, asked_tables, lies_in, visit_part, parts, search_of}
 use Rattle.fx_eval.proofs.Passing.{went_on}
 use Rattle.fx_eval.proofs.Still.{AllStill, IsStill, column_still, column_visits, filter_is, literal_still, query_is, rows_few, table_there}
 use Rattle.fx_eval.proofs.Visiting.{from_before, told_before, told_heard}
@@ -29,7 +29,7 @@ use Rattle.fx_plan.proofs.Placing.{column_typed}
 use Rattle.fx_semantics.specs.Around.{Around, AreValues, record_of}
 use Rattle.fx_semantics.specs.Around.{inside as inside_of}
 use Rattle.fx_semantics.specs.Fresh.{IsValue, meaning, meanings}
-use Rattle.fx_semantics.specs.Rows.{IsOver, rows_in}
+use Rattle.fx_semantics.specs.Rows.{IsTableCall, rows_in}
 use Rattle.fx_core.specs.declared.functions.Fun.{Fun}
 use Rattle.fx_core.specs.declared.functions.Fun.TheVariants as fun
 use Rattle.fx_core.specs.declared.rows.Scalar.TheVariants.{Number}
@@ -37,7 +37,7 @@ use Rattle.fx_core.specs.declared.schema.TableShape.{TableShape}
 use Rattle.fx_core.specs.declared.sources.Source.{Source}
 use Rattle.fx_core.specs.Term.{Term, Terms, of, nil, cons, all}
 use Rattle.fx_core.specs.Term as top
-use Rattle.fx_typing.specs.WellTyped.{Standing, inside, plain, bound, catching, standing_at}
+use Rattle.fx_typing.specs.WellTyped.{PartScope, inside, plain, bound, catching, standing_at}
 use Rattle.fx_value.specs.Columns.{Row as Fields}
 use Rattle.fx_value.specs.Keys.{key_bytes}
 use Rattle.row_queries.specs.declared.queries.Query.{Query}
@@ -50,10 +50,10 @@ use Rattle.row_queries.specs.Visits.{VisitsTold}
 -- ---- parts that visit nothing
 
 -- evaluating a part visits nothing, wherever it stands
-abbrev pub IsFree : Part → Type 1
+abbrev pub IsFree : VisitPart → Type 1
 IsFree P = (a : Around) → P.visits a 0
 
-abbrev pub AllFree : List Part → Type 1
+abbrev pub AllFree : List VisitPart → Type 1
 AllFree [] = Unit {1}
 AllFree (P ∷ Ps) = IsFree P × AllFree Ps
 
@@ -61,13 +61,13 @@ each_free : (V : Visiting) → ((a : Around) → V a 0) → (rows : List Fields)
 each_free V v [] a = refl
 each_free V v (r ∷ rows) a = (0, 0, v (inside_of a (record_of r)), each_free V v rows a, refl)
 
-part_free : (x : Standing) (rows : List Fields) (P : Part) → IsFree P → (a : Around) → PartVisits x rows P a 0
+part_free : (x : PartScope) (rows : List Fields) (P : VisitPart) → IsFree P → (a : Around) → PartVisits x rows P a 0
 part_free inside rows P f a = each_free P.visits f rows a
 part_free plain rows P f a = f a
 part_free bound rows P f a = f a
 part_free catching rows P f a = f a
 
-parts_free : (f : Fun) (m i : ℕ) (rows : List Fields) (Ps : List Part) → AllFree Ps → (a : Around) → PartsVisit f m i rows Ps a 0
+parts_free : (f : Fun) (m i : ℕ) (rows : List Fields) (Ps : List VisitPart) → AllFree Ps → (a : Around) → PartsVisit f m i rows Ps a 0
 parts_free f m i rows [] free a = refl
 parts_free f m i rows (P ∷ Ps) free a = (0, 0, part_free (standing_at (top.over f) m i) rows P free.0 a, parts_free f m (suc i) rows Ps free.1 a, refl)
 
@@ -82,7 +82,7 @@ unless_free (rec fs) P p = p
 unless_free (tab rs) P p = p
 
 -- a call whose other parts are free visits what its table does
-rows_visit : (w : AskedTables) (f : Fun) (q : Term) (cs : Terms) (a : Around) (v : Data) (n : ℕ) → AllFree (parts w cs) → IsOver f (meaning q ∷ meanings cs) a v → Visits w q a n → RowsVisit f (part w q ∷ parts w cs) a n
+rows_visit : (w : AskedTables) (f : Fun) (q : Term) (cs : Terms) (a : Around) (v : Data) (n : ℕ) → AllFree (parts w cs) → IsTableCall f (meaning q ∷ meanings cs) a v → Visits w q a n → RowsVisit f (visit_part w q ∷ parts w cs) a n
 rows_visit w f q cs a v n free h k =
     let rest = unless_free h.0 (PartsVisit f (suc (length (parts w cs))) 1 (rows_in h.0) (parts w cs) a) (parts_free f (suc (length (parts w cs))) 1 (rows_in h.0) (parts w cs) free a) in
     (h.0, h.1, (n, 0, k, rest, omega arith))
@@ -99,19 +99,19 @@ query_visits w (of h ts) s a ds m l e constants values ranges =
 -- a search, whose formula visits j rows more
 module _ (w : AskedTables) (q c : Term) (s : Sketch) (a : Around) (ds : List Data) (m l : ℕ) (e : sketch_of w.shapes (length a.rows) (over_query fun.Filter q (cons c nil)) ≡ Some s)
     (constants : AllVisit (parts w (all s.constants)) (inside_of a blank) m) (values : AreValues (meanings (all s.constants)) (inside_of a blank) ds) (ranges : InRanges w s ds l) where
-  own : Both (ConstantsVisit (part w q ∷ part w c ∷ []) a) (RangesVisit w s a) (m + l)
+  own : Both (ConstantsVisit (visit_part w q ∷ visit_part w c ∷ []) a) (RangesVisit w s a) (m + l)
   own = (m, l, (query_is w (length a.rows) (over_query fun.Filter q (cons c nil)) s e).adds a m refl constants, (ds, values, ranges), refl)
 
   pub search_visits : Visits w (over_query fun.LookUp q (cons c nil)) a (m + l)
-  search_visits = subst (λ (o : Option Sketch). VisitsBy w None o (top.over fun.LookUp) (part w q ∷ part w c ∷ []) a (m + l)) (sym e) own
+  search_visits = subst (λ (o : Option Sketch). VisitsBy w None o (top.over fun.LookUp) (visit_part w q ∷ visit_part w c ∷ []) a (m + l)) (sym e) own
 
-  pub search_in_visits : (f : Term) (v : Data) (j : ℕ) → IsOver fun.LookUp (meaning q ∷ meaning c ∷ []) a v → InFound v (Visits w f) a j → Visits w (over_query fun.LookUp q (cons c (cons f nil))) a (m + l + j)
+  pub search_in_visits : (f : Term) (v : Data) (j : ℕ) → IsTableCall fun.LookUp (meaning q ∷ meaning c ∷ []) a v → InFound v (Visits w f) a j → Visits w (over_query fun.LookUp q (cons c (cons f nil))) a (m + l + j)
   search_in_visits f v j h k =
-      subst (λ (o : Option Sketch). VisitsBy w None o (top.over fun.LookUp) (part w q ∷ part w c ∷ part w f ∷ []) a (m + l + j)) (sym e) (m + l, j, own, (v, h, k), refl)
+      subst (λ (o : Option Sketch). VisitsBy w None o (top.over fun.LookUp) (visit_part w q ∷ visit_part w c ∷ visit_part w f ∷ []) a (m + l + j)) (sym e) (m + l, j, own, (v, h, k), refl)
 
 -- ---- demands
 
-const_free : (w : AskedTables) (d : Data) → IsFree (part w (as_value d))
+const_free : (w : AskedTables) (d : Data) → IsFree (visit_part w (as_value d))
 const_free w d = λ a. refl
 
 -- what is taken of a query expression, other than the scope of a formula, visits its constants and its ranges
@@ -133,10 +133,10 @@ demand_visits w demand.Found s t a ds v m l other h worth constants values range
     subst (λ (z : Term). Visits w z a (m + l)) (sym h.2) (search_visits w h.0 h.1 s a ds m l h.3 constants values ranges)
 demand_visits w (demand.Total f i) s t a ds v m l other h worth constants values ranges =
     let column = h.4 in
-    let free : IsFree (part w h.1) = column_visits w column.0 (length a.rows) h.1 i (column_typed column.0 (length a.rows) Number h.1 i column.2).0 in
+    let free : IsFree (visit_part w h.1) = column_visits w column.0 (length a.rows) h.1 i (column_typed column.0 (length a.rows) Number h.1 i column.2).0 in
     subst (λ (z : Term). Visits w z a (m + l)) (sym h.2) (by f (subst (λ (z : Term). IsValue a z v) h.2 worth) free (query_visits w h.0 s a ds m l h.3 constants values ranges))
   where
-    by : (g : Fold) → IsValue a (over_query (fun_of g) h.0 (cons h.1 nil)) v → IsFree (part w h.1) → Visits w h.0 a (m + l) → Visits w (over_query (fun_of g) h.0 (cons h.1 nil)) a (m + l)
+    by : (g : Fold) → IsValue a (over_query (fun_of g) h.0 (cons h.1 nil)) v → IsFree (visit_part w h.1) → Visits w h.0 a (m + l) → Visits w (over_query (fun_of g) h.0 (cons h.1 nil)) a (m + l)
     by fold.Sum x free k = rows_visit w fun.SumRows h.0 (cons h.1 nil) a v (m + l) (free, tt) x k
     by fold.Least x free k = rows_visit w fun.MinRows h.0 (cons h.1 nil) a v (m + l) (free, tt) x k
     by fold.Greatest x free k = rows_visit w fun.MaxRows h.0 (cons h.1 nil) a v (m + l) (free, tt) x k
@@ -164,11 +164,11 @@ all_in_ranges w s ds t at e =
 
 -- with values in the places of its constants, a call over a query expression visits no more rows than the table has
 call_few : (w : AskedTables) (k : ℕ) (s : Sketch) (f : Fun) (q : Term) (cs : Terms) (vs : List Data) (a : Around) (n : ℕ) → sketch_of w.shapes k q ≡ Some s → AllStill (parts w cs) →
-    RowsVisit f (part w ((query_settled k vs q).0) ∷ parts w cs) a n → n ≤ length (rows_at w.rows s.table)
+    RowsVisit f (visit_part w ((query_settled k vs q).0) ∷ parts w cs) a n → n ≤ length (rows_at w.rows s.table)
 call_few w k s f q cs vs a n e still h = rows_few w f ((query_settled k vs q).0) cs s.table ((query_is w k q s e).scan vs) still a n h
 
 search_few : (w : AskedTables) (k : ℕ) (s : Sketch) (q c : Term) (vs : List Data) (a : Around) (n : ℕ) → sketch_of w.shapes k (over_query fun.Filter q (cons c nil)) ≡ Some s →
-    RowsVisit fun.LookUp (part w ((query_settled k vs q).0) ∷ part w ((condition_settled k vs c ((query_settled k vs q).1)).0) ∷ []) a n → n ≤ length (rows_at w.rows s.table)
+    RowsVisit fun.LookUp (visit_part w ((query_settled k vs q).0) ∷ visit_part w ((condition_settled k vs c ((query_settled k vs q).1)).0) ∷ []) a n → n ≤ length (rows_at w.rows s.table)
 search_few w k s q c vs a n e h =
     let i = filter_is w k q (cons c nil) s e in
     let l = rows_few w fun.LookUp ((query_settled k vs q).0) (cons ((condition_settled k vs c ((query_settled k vs q).1)).0) nil) i.inner.table ((query_is w k q i.inner i.sketched).scan vs)
@@ -188,10 +188,10 @@ settled_few w demand.First k s t vs a n other h v = call_few w k s fun.First h.0
 settled_few w demand.Found k s t vs a n other h v = search_few w k s h.0 h.1 vs a n h.3 (subst (λ (z : Term). VisitsByHead w (search_settled k vs z) a n) h.2 v)
 settled_few w (demand.Total f i) k s t vs a n other h v =
     let column = h.4 in
-    let still : IsStill (part w h.1) = column_still w column.0 k h.1 i (column_typed column.0 k Number h.1 i column.2).0 in
+    let still : IsStill (visit_part w h.1) = column_still w column.0 k h.1 i (column_typed column.0 k Number h.1 i column.2).0 in
     by f (subst (λ (z : Term). VisitsByHead w (call_settled k vs z) a n) h.2 v) still
   where
-    by : (g : Fold) → VisitsByHead w (call_settled k vs (over_query (fun_of g) h.0 (cons h.1 nil))) a n → IsStill (part w h.1) → n ≤ length (rows_at w.rows s.table)
+    by : (g : Fold) → VisitsByHead w (call_settled k vs (over_query (fun_of g) h.0 (cons h.1 nil))) a n → IsStill (visit_part w h.1) → n ≤ length (rows_at w.rows s.table)
     by fold.Sum x still = call_few w k s fun.SumRows h.0 (cons h.1 nil) vs a n h.3 (still, tt) x
     by fold.Least x still = call_few w k s fun.MinRows h.0 (cons h.1 nil) vs a n h.3 (still, tt) x
     by fold.Greatest x still = call_few w k s fun.MaxRows h.0 (cons h.1 nil) vs a n h.3 (still, tt) x
@@ -208,10 +208,10 @@ demand_table ts k (demand.Total f i) s t h = table_there ts k h.0 s h.3
 
 -- ---- the query of a plan
 
-pub plan_visits : {B : Type 0} (f : Fixed) (s : Sketch) (ds : List Data) (take : Option ℕ) (q : Query) (x : Option (Told B)) (before now : ℕ) → CanPlan f.schema.tables s ds → IsPlan f.schema.tables s ds take q →
-    VisitsTold (tables_told x) q before now → (w : Told B) → x ≡ Some w → AtMost (InRanges (asked_tables f w) s ds) before now
+pub plan_visits : {B : Type 0} (f : Fixed) (s : Sketch) (ds : List Data) (take : Option ℕ) (q : Query) (x : Option (EnvState B)) (before now : ℕ) → CanPlan f.schema.tables s ds → IsPlan f.schema.tables s ds take q →
+    VisitsTold (tables_told x) q before now → (w : EnvState B) → x ≡ Some w → AtMost (InRanges (asked_tables f w) s ds) before now
 plan_visits {B} f s ds take q x before now can plan most w e =
-    let told : now ≤ before + length (filter (lies q) (rows_at w.tables q.table)) = subst (λ (z : Option (Told B)). VisitsTold (tables_told z) q before now) e most in
+    let told : now ≤ before + length (filter (lies q) (rows_at w.tables q.table)) = subst (λ (z : Option (EnvState B)). VisitsTold (tables_told z) q before now) e most in
     let l = length (filter (lies q) (rows_at w.tables s.table)) in (
       l,
       (can.table, reach_in q, can.is_table, plan.ranges can.table can.is_table, refl),
@@ -219,7 +219,7 @@ plan_visits {B} f s ds take q x before now can plan most w e =
     )
 
 -- the constants, and what the tree visits by its head with their values in their places, come to what the tree visits at most
-module _ (types : Source → Option Shape) (shapes : List TableShape) (rows : List (List Row)) (told : Source → Data) (s : Held) (t : Term) (k : Sketch) (ds : List Data) (v : Data) (m n : ℕ)
+module _ (types : Source → Option Shape) (shapes : List TableShape) (rows : List (List Row)) (told : Source → Data) (s : ScopeValues) (t : Term) (k : Sketch) (ds : List Data) (v : Data) (m n : ℕ)
     (worth : IsValue (around types (Some told) s) t v) (constants : AllVisit (parts (record { shapes = shapes; rows = rows }) (all k.constants)) (inside_of (around types (Some told) s) blank) m)
     (values : AreValues (meanings (all k.constants)) (inside_of (around types (Some told) s) blank) ds) (ranges : InRanges (record { shapes = shapes; rows = rows }) k ds (length (rows_at rows k.table))) where
   abbrev at : Around
@@ -237,7 +237,7 @@ module _ (types : Source → Option Shape) (shapes : List TableShape) (rows : Li
       VisitsByHead there (search_settled (length s.rows) ds t) at n → (l : ℕ) × Visits there t at l × (m + n ≤ l)
   unfolding SettledAreValues
   found_sum law q c f e sketched x =
-      let y : OverVisits fun.LookUp (part there ((query_settled (length s.rows) ds q).0) ∷ part there ((condition_settled (length s.rows) ds c ((query_settled (length s.rows) ds q).1)).0) ∷ part there f ∷ []) at n =
+      let y : OverVisits fun.LookUp (visit_part there ((query_settled (length s.rows) ds q).0) ∷ visit_part there ((condition_settled (length s.rows) ds c ((query_settled (length s.rows) ds q).1)).0) ∷ visit_part there f ∷ []) at n =
       subst (λ (z : Term). VisitsByHead there (search_settled (length s.rows) ds z) at n) e x in
       let few : y.0 ≤ length (rows_at rows k.table) = search_few there (length s.rows) k q c ds at y.0 sketched y.2 in
       let found = law types shapes (Some told) s (over_query fun.LookUp q (cons c nil)) demand.Found k ds y.3.0 (q, c, refl, sketched) values y.3.1 in
@@ -262,21 +262,21 @@ module _ (types : Source → Option Shape) (shapes : List TableShape) (rows : Li
 module _ {B : Type 0} (m n : Moment B) (t : Term) (d : Demand) (k : Sketch) (cs : List Term) (ds : List Data) (first : Went m n) (asked : IsAskedFor m.fixed m.told m.scope t d k) (is : cs ≡ k.constants)
     (constants : HasVisited (λ w a. AllVisit (parts w (all cs)) (inside_of a blank)) m n)
     (values : Heard (values_told n.told) (λ told. AreValues (meanings (all cs)) (around m.fixed.types told (inner m.scope blank)) ds)) where
-  abbrev here : Told B → Around
+  abbrev here : EnvState B → Around
   here w = around m.fixed.types (Some w.values) m.scope
 
   -- the constants, by the tables that are told in the end
-  constants_visit : (w : Told B) → n.told ≡ Some w → AtMost (AllVisit (parts (asked_tables m.fixed w) (all k.constants)) (inside_of (here w) blank)) m.visited n.visited
+  constants_visit : (w : EnvState B) → n.told ≡ Some w → AtMost (AllVisit (parts (asked_tables m.fixed w) (all k.constants)) (inside_of (here w) blank)) m.visited n.visited
   constants_visit w e = subst (λ (xs : List Term). AtMost (AllVisit (parts (asked_tables m.fixed w) (all xs)) (inside_of (here w) blank)) m.visited n.visited) is (constants w e)
 
-  constants_are : (w : Told B) → n.told ≡ Some w → AreValues (meanings (all k.constants)) (inside_of (here w) blank) ds
+  constants_are : (w : EnvState B) → n.told ≡ Some w → AreValues (meanings (all k.constants)) (inside_of (here w) blank) ds
   constants_are w e = subst (λ (xs : List Term). AreValues (meanings (all xs)) (inside_of (here w) blank) ds) is (values (Some w.values) (told_heard n.told w e))
 
-  ranges_here : (w : Told B) (x y : ℕ) → AtMost (InRanges (asked_tables n.fixed w) k ds) x y → AtMost (InRanges (asked_tables m.fixed w) k ds) x y
+  ranges_here : (w : EnvState B) (x y : ℕ) → AtMost (InRanges (asked_tables n.fixed w) k ds) x y → AtMost (InRanges (asked_tables m.fixed w) k ds) x y
   ranges_here w x y h = subst (λ (f : Fixed). AtMost (InRanges (asked_tables f w) k ds) x y) first.fixed h
 
   -- it was answered by a query
-  pub plain_visited : (o : Moment B) (v : Data) → Went n o → d ≢ demand.FoundIn → ((w : Told B) → o.told ≡ Some w → AtMost (InRanges (asked_tables n.fixed w) k ds) n.visited o.visited) →
+  pub plain_visited : (o : Moment B) (v : Data) → Went n o → d ≢ demand.FoundIn → ((w : EnvState B) → o.told ≡ Some w → AtMost (InRanges (asked_tables n.fixed w) k ds) n.visited o.visited) →
       Heard (values_told o.told) (λ told. IsValue (around m.fixed.types told m.scope) t v) → HasVisited (λ w. Visits w t) m o
   plain_visited o v second other ranges worth w e =
       let there = told_before n o second w e in
@@ -290,7 +290,7 @@ module _ {B : Type 0} (m n : Moment B) (t : Term) (d : Demand) (k : Sketch) (cs 
       )
 
   -- and then a formula was evaluated in the scope of the row that was found
-  pub found_visited : (o p : Moment B) (f : Term) (v : Data) → Went n o → Went o p → d ≡ demand.FoundIn → IsSearchBy t f → ((w : Told B) → o.told ≡ Some w → AtMost (InRanges (asked_tables n.fixed w) k ds) n.visited o.visited) →
+  pub found_visited : (o p : Moment B) (f : Term) (v : Data) → Went n o → Went o p → d ≡ demand.FoundIn → IsSearchBy t f → ((w : EnvState B) → o.told ≡ Some w → AtMost (InRanges (asked_tables n.fixed w) k ds) n.visited o.visited) →
       ((x : Term) → IsAskedFor m.fixed m.told m.scope x demand.Found k → Heard (values_told o.told) (λ told. IsValue (around m.fixed.types told m.scope) x v)) →
       HasVisited (λ w. InFound v (Visits w f)) o p → HasVisited (λ w. Visits w t) m p
   found_visited o p f v second third found by ranges worth formula w e =
@@ -321,7 +321,7 @@ module _ {B : Type 0} (m n : Moment B) (t : Term) (d : Demand) (k : Sketch) (cs 
       let tables = asked_tables m.fixed w in
       let one = constants_visit w there in
       let two = from_before (λ z. VisitsByHead z x) m n o first head w e in
-      let known : VisitsByHead tables (settled_in d (length m.scope.rows) ds t) (here w) two.0 = subst (λ (z : Term). VisitsByHead tables z (here w) two.0) (subst (λ (s : Held). x ≡ settled_in d (length s.rows) ds t) first.scope settled) two.1 in
+      let known : VisitsByHead tables (settled_in d (length m.scope.rows) ds t) (here w) two.0 = subst (λ (z : Term). VisitsByHead tables z (here w) two.0) (subst (λ (s : ScopeValues). x ≡ settled_in d (length s.rows) ds t) first.scope settled) two.1 in
       let table = demand_table m.fixed.schema.tables (length m.scope.rows) d k t asked.demand in
       let ranges = all_in_ranges tables k ds table.0 table.1 wrong in
       let sum = settled_sum m.fixed.types m.fixed.schema.tables w.tables w.values m.scope t k ds v one.0 two.0 (worth (Some w.values) (told_heard o.told w e)) one.1 (constants_are w there) ranges law d asked.demand known in

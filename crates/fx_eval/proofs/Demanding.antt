@@ -8,10 +8,10 @@ use Rattle.fx_eval.specs.declared.demands.Demand.TheVariants as demand
 use Rattle.fx_eval.proofs.Queried.{plan_totals}
 use Rattle.fx_eval.specs.Visits.{IsUnasked}
 use Rattle.fx_env.specs.Queries.{KeepsTables}
-use Rattle.fx_env.specs.Scopes.{Fixed, Held}
-use Rattle.fx_env.specs.Telling.{Told}
+use Rattle.fx_env.specs.Scopes.{Fixed, ScopeValues}
+use Rattle.fx_env.specs.Telling.{EnvState}
 use Rattle.fx_core.specs.declared.schema.Schema.{Schema}
-use Rattle.fx_eval.specs.Demands.{CanMeet, IsAskedFor, CanTake, IsDemand, IsFirstOf, IsMet, IsSearch, IsSearchBy}
+use Rattle.fx_eval.specs.Demands.{CanMeet, IsAskedFor, CanAddUp, IsDemand, IsFirstGiven, IsMet, IsSearch, IsSearchBy}
 use Rattle.fx_plan.specs.declared.plans.Sketch.{Sketch}
 use Rattle.fx_plan.specs.Plans.{IsPlan}
 use Rattle.fx_plan.specs.QueryExpressions.{sketch_of}
@@ -85,7 +85,7 @@ search_formula_is g t q ps xs x e i h at =
     (h.1.0, h.1.1, h.1.2 ∙ ap (λ z. over_query fun.LookUp h.1.0 (cons h.1.1 (cons z nil))) own)
 
 -- a column that is added up is one of the planned query's table
-pub meets_so : (shapes : List TableShape) (d : Demand) (k : Sketch) (ds : List Data) (take : Option ℕ) (q : Query) → IsPlan shapes k ds take q → CanTake shapes d k → CanMeet shapes d q
+pub meets_so : (shapes : List TableShape) (d : Demand) (k : Sketch) (ds : List Data) (take : Option ℕ) (q : Query) → IsPlan shapes k ds take q → CanAddUp shapes d k → CanMeet shapes d q
 meets_so shapes (demand.Total f i) k ds take q p h = plan_totals shapes k ds take q f i p h
 meets_so shapes demand.Rows k ds take q p h = tt
 meets_so shapes (demand.FirstRows n) k ds take q p h = tt
@@ -95,7 +95,7 @@ meets_so shapes demand.Found k ds take q p h = tt
 meets_so shapes demand.FoundIn k ds take q p h = tt
 
 -- the first row that a query gives is what these take
-pub first_met : (shapes : List TableShape) (told : Option (List (List Row))) (d : Demand) (q : Query) (v : Data) → (d ≡ demand.First) ⊎ (d ≡ demand.Found) ⊎ (d ≡ demand.FoundIn) → IsFirstOf shapes told q v →
+pub first_met : (shapes : List TableShape) (told : Option (List (List Row))) (d : Demand) (q : Query) (v : Data) → (d ≡ demand.First) ⊎ (d ≡ demand.Found) ⊎ (d ≡ demand.FoundIn) → IsFirstGiven shapes told q v →
     IsMet shapes told d q v
 first_met shapes told d q v e h = elim e [
   | inl i ↦ subst (λ (x : Demand). IsMet shapes told x q v) (sym i) h
@@ -108,7 +108,7 @@ first_met shapes told d q v e h = elim e [
 -- ---- where a tree stands
 
 -- what is taken of the tables that an environment has
-pub asked_at : {B E : Type 0} (f : Fixed) (told : Option (Told B)) (s : Held) (t : Term) (x : Schema) (n : ℕ) (r : Result (Option Asked) E) → x ≡ f.schema → n ≡ length s.rows → KeepsTables f told →
+pub asked_at : {B E : Type 0} (f : Fixed) (told : Option (EnvState B)) (s : ScopeValues) (t : Term) (x : Schema) (n : ℕ) (r : Result (Option Asked) E) → x ≡ f.schema → n ≡ length s.rows → KeepsTables f told →
     IfOk r (λ o. MatchOption o (IsUnasked x.tables n t) (λ a. IsDemand x.tables n a.demand a.sketch t)) →
     IfOk r (λ o. MatchOption o (IsUnasked f.schema.tables (length s.rows) t) (λ a. IsAskedFor f told s t a.demand a.sketch))
 asked_at {B} f told s t x n (Err e) same deep keeps h = tt

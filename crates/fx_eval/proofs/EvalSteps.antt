@@ -3,11 +3,11 @@ use Rattle.std.proofs.Common.{◌≡◌, ℕ, suc, ◌<◌, List, [], ◌∷◌,
 use Rattle.fx_types.specs.declared.faults.Kind.{Kind}
 use Rattle.fx_types.specs.Types.{Shape}
 use Rattle.fx_types.specs.Values.{Data}
-use Rattle.fx_eval.specs.Courses.{Going, all, any, branches, switch, matches, recovers, coalesces, IsWorth, ends_in_branch, Turning, answers, chooses, catches, goes, passes, turned}
+use Rattle.fx_eval.specs.Courses.{Going, all, any, branches, switch, matches, recovers, coalesces, FormIsWorth, ends_in_branch, Turning, answers, chooses, catches, goes, passes, turned_by}
 use Rattle.fx_eval.specs.Kinds.{CanTurn}
-use Rattle.fx_eval.specs.Moments.{Moment, Went}
+use Rattle.fx_eval.specs.EvalSteps.{Moment, Went}
 use Rattle.fx_eval.specs.Parts.{AreSet, AreSome, HasNext}
-use Rattle.fx_env.specs.Scopes.{Held, around, IsReady}
+use Rattle.fx_env.specs.Scopes.{ScopeValues, around, IsTypedHere}
 use Rattle.fx_eval.proofs.Forms.{ThenSet, can_turn, rest_set}
 use Rattle.fx_eval.proofs.Passing.{as_before, meant_before}
 use Rattle.fx_eval.proofs.Taken.{IsOpen, Then, last_taken, part_taken}
@@ -35,9 +35,9 @@ open_meanings (recovers w) (t ∷ ts) h = tt
 open_meanings coalesces ts h = tt
 
 -- the value of a part, what it makes of the form, and what is left to hold then
-pub taken : (types : Types) (told : Option (Source → Data)) (s : Held) (g : Going) (t : Term) (ts : List Term) (w v : Data) (x : Turning) → HasNext g ts →
-    IsValue (around types told s) t w → x ≡ turned g w → Then x (meanings (terms.all ts)) (around types told s) v →
-    IsWorth g (meanings (terms.all (t ∷ ts))) (around types told s) v
+pub taken : (types : Types) (told : Option (Source → Data)) (s : ScopeValues) (g : Going) (t : Term) (ts : List Term) (w v : Data) (x : Turning) → HasNext g ts →
+    IsValue (around types told s) t w → x ≡ turned_by g w → Then x (meanings (terms.all ts)) (around types told s) v →
+    FormIsWorth g (meanings (terms.all (t ∷ ts))) (around types told s) v
 taken types told s g t ts w v x n h e k =
     part_taken g (meaning t) (meanings (terms.all ts)) w (around types told s) v (open_meanings g ts n) h
     (subst (λ (z : Turning). Then z (meanings (terms.all ts)) (around types told s) v) e k)
@@ -49,58 +49,58 @@ IsNext (goes g) = ⊥
 IsNext x = Unit {0}
 
 -- what is ready then
-pub following : (types : Types) (s : Held) (g : Going) (t : Term) (ts : List Term) (w : Data) (x : Turning) → HasNext g ts →
-    ((u : Shape) → IsReady types s t u → fits_in w u ≡ true) → x ≡ turned g w → AreSet types s g (t ∷ ts) → ThenSet types s x ts
+pub following : (types : Types) (s : ScopeValues) (g : Going) (t : Term) (ts : List Term) (w : Data) (x : Turning) → HasNext g ts →
+    ((u : Shape) → IsTypedHere types s t u → fits_in w u ≡ true) → x ≡ turned_by g w → AreSet types s g (t ∷ ts) → ThenSet types s x ts
 following types s g t ts w x n f e k = subst (λ (z : Turning). ThenSet types s z ts) (sym e) (rest_set types s g t ts w n f k)
 
 -- a part that stands alone at the end
-pub ended : (types : Types) (told : Option (Source → Data)) (s : Held) (g : Going) (t : Term) (ts : List Term) (v : Data) → ts ≡ [] → ends_in_branch g ≡ true →
-    IsValue (around types told s) t v → IsWorth g (meanings (terms.all (t ∷ ts))) (around types told s) v
+pub ended : (types : Types) (told : Option (Source → Data)) (s : ScopeValues) (g : Going) (t : Term) (ts : List Term) (v : Data) → ts ≡ [] → ends_in_branch g ≡ true →
+    IsValue (around types told s) t v → FormIsWorth g (meanings (terms.all (t ∷ ts))) (around types told s) v
 ended types told s g t ts v n e h =
-    subst (λ (z : List Term). IsWorth g (meanings (terms.all (t ∷ z))) (around types told s) v) (sym n) (last_taken g (meaning t) (around types told s) v e h)
+    subst (λ (z : List Term). FormIsWorth g (meanings (terms.all (t ∷ z))) (around types told s) v) (sym n) (last_taken g (meaning t) (around types told s) v e h)
 
 -- ---- a form on its way: some parts are passed, and nothing has changed but what reads change
 
 -- what decides of the parts that are left decides of all
 abbrev pub Decides : {B : Type 0} → Option (Source → Data) → Moment B → Going → List Term → Going → List Term → Type 0
 Decides told m g rest g0 parts =
-    (v : Data) → IsWorth g (meanings (terms.all rest)) (around m.fixed.types told m.scope) v → IsWorth g0 (meanings (terms.all parts)) (around m.fixed.types told m.scope) v
+    (v : Data) → FormIsWorth g (meanings (terms.all rest)) (around m.fixed.types told m.scope) v → FormIsWorth g0 (meanings (terms.all parts)) (around m.fixed.types told m.scope) v
 
 -- the last part's value
 pub end_step : {B : Type 0} (told : Option (Source → Data)) (m n : Moment B) (g0 g : Going) (parts rest : List Term) (t : Term) (others : List Term) → Went m n → Decides told m g rest g0 parts → rest ≡ t ∷ others → others ≡ [] →
-    ends_in_branch g ≡ true → (v : Data) → IsValue (around n.fixed.types told n.scope) t v → IsWorth g0 (meanings (terms.all parts)) (around m.fixed.types told m.scope) v
+    ends_in_branch g ≡ true → (v : Data) → IsValue (around n.fixed.types told n.scope) t v → FormIsWorth g0 (meanings (terms.all parts)) (around m.fixed.types told m.scope) v
 end_step told m n g0 g parts rest t others w d e o b v h =
     let a = around m.fixed.types told m.scope in
-    d v (subst (λ (z : List Term). IsWorth g (meanings (terms.all z)) a v) (sym e)
+    d v (subst (λ (z : List Term). FormIsWorth g (meanings (terms.all z)) a v) (sym e)
     (ended m.fixed.types told m.scope g t others v o b (meant_before told (meaning t) (λ s. s) m n w v h)))
 
 -- its value fits
-fits_there : {B : Type 0} (m n : Moment B) (t : Term) (d : Data) → Went m n → ((u : Shape) → IsReady n.fixed.types n.scope t u → fits_in d u ≡ true) →
-    (u : Shape) → IsReady m.fixed.types m.scope t u → fits_in d u ≡ true
-fits_there m n t d w f u r = f u (as_before (λ types s. IsReady types s t u) m n w r)
+fits_there : {B : Type 0} (m n : Moment B) (t : Term) (d : Data) → Went m n → ((u : Shape) → IsTypedHere n.fixed.types n.scope t u → fits_in d u ≡ true) →
+    (u : Shape) → IsTypedHere m.fixed.types m.scope t u → fits_in d u ≡ true
+fits_there m n t d w f u r = f u (as_before (λ types s. IsTypedHere types s t u) m n w r)
 
 pub turn_step : {B : Type 0} (m n : Moment B) (g : Going) (rest : List Term) (t : Term) (others : List Term) (d : Data) → Went m n → AreSet m.fixed.types m.scope g rest → rest ≡ t ∷ others →
-    HasNext g others → ((u : Shape) → IsReady n.fixed.types n.scope t u → fits_in d u ≡ true) → CanTurn g d
+    HasNext g others → ((u : Shape) → IsTypedHere n.fixed.types n.scope t u → fits_in d u ≡ true) → CanTurn g d
 turn_step m n g rest t others d w p e o f =
     can_turn m.fixed.types m.scope g t others d o (fits_there m n t d w f) (subst (AreSet m.fixed.types m.scope g) e p)
 
 -- what is ready behind it
 pub next_step : {B : Type 0} (m n : Moment B) (g : Going) (rest : List Term) (t : Term) (others : List Term) (d : Data) (x : Turning) → Went m n → AreSet m.fixed.types m.scope g rest → rest ≡ t ∷ others →
-    HasNext g others → ((u : Shape) → IsReady n.fixed.types n.scope t u → fits_in d u ≡ true) → x ≡ turned g d → ThenSet m.fixed.types m.scope x others
+    HasNext g others → ((u : Shape) → IsTypedHere n.fixed.types n.scope t u → fits_in d u ≡ true) → x ≡ turned_by g d → ThenSet m.fixed.types m.scope x others
 next_step m n g rest t others d x w p e o f q =
     following m.fixed.types m.scope g t others d x o (fits_there m n t d w f) q (subst (AreSet m.fixed.types m.scope g) e p)
 
 -- what is left to hold behind it
 pub then_step : {B : Type 0} (told : Option (Source → Data)) (m n : Moment B) (g0 g : Going) (parts rest : List Term) (t : Term) (others : List Term) (d : Data) (x : Turning) → Went m n → Decides told m g rest g0 parts → rest ≡ t ∷ others →
-    HasNext g others → IsValue (around n.fixed.types told n.scope) t d → x ≡ turned g d →
-    (v : Data) → Then x (meanings (terms.all others)) (around m.fixed.types told m.scope) v → IsWorth g0 (meanings (terms.all parts)) (around m.fixed.types told m.scope) v
+    HasNext g others → IsValue (around n.fixed.types told n.scope) t d → x ≡ turned_by g d →
+    (v : Data) → Then x (meanings (terms.all others)) (around m.fixed.types told m.scope) v → FormIsWorth g0 (meanings (terms.all parts)) (around m.fixed.types told m.scope) v
 then_step told m n g0 g parts rest t others d x w i e o h q v k =
     let a = around m.fixed.types told m.scope in
-    i v (subst (λ (z : List Term). IsWorth g (meanings (terms.all z)) a v) (sym e)
+    i v (subst (λ (z : List Term). FormIsWorth g (meanings (terms.all z)) a v) (sym e)
     (taken m.fixed.types told m.scope g t others d v x o (meant_before told (meaning t) (λ s. s) m n w d h) q k))
 
 -- there are parts where the next one decides
-pub some_there : (types : Types) (s : Held) (x : Turning) (ts : List Term) → IsNext x → ThenSet types s x ts → AreSome ts
+pub some_there : (types : Types) (s : ScopeValues) (x : Turning) (ts : List Term) → IsNext x → ThenSet types s x ts → AreSome ts
 some_there types s chooses [] n h = absurd h
 some_there types s chooses (t ∷ ts) n h = tt
 some_there types s (catches k cs) [] n h = absurd h
@@ -122,6 +122,6 @@ pub fallback_then : (others : List Term) (u : Term) (beyond : List Term) (k : Ki
     Then (catches k cs) (meanings (terms.all others)) a v
 fallback_then others u beyond k cs a v e h = subst (λ (z : List Term). Then (catches k cs) (meanings (terms.all z)) a v) (sym e) h
 
-pub beyond_then : (others : List Term) (u : Term) (beyond : List Term) (g : Going) (a : Around) (v : Data) → others ≡ u ∷ beyond → IsWorth g (meanings (terms.all beyond)) a v →
+pub beyond_then : (others : List Term) (u : Term) (beyond : List Term) (g : Going) (a : Around) (v : Data) → others ≡ u ∷ beyond → FormIsWorth g (meanings (terms.all beyond)) a v →
     Then (passes g) (meanings (terms.all others)) a v
 beyond_then others u beyond g a v e h = subst (λ (z : List Term). Then (passes g) (meanings (terms.all z)) a v) (sym e) h

@@ -3,16 +3,16 @@ use Rattle.std.proofs.Common.{◌≡◌, ℕ, ◌+◌, suc, List, [], ◌∷◌,
 use Rattle.fx_types.specs.Values.{Data}
 use Rattle.fx_semantics.specs.Around.{Around, Meaning, AreEach, inside, record_of}
 use Rattle.fx_semantics.specs.Fresh.{meaning, meanings}
-use Rattle.fx_eval.specs.Given.{Given, IsGiven, AreGiven}
+use Rattle.fx_eval.specs.Given.{ArgumentValues, PartGives, AreGiven}
 use Rattle.fx_value.specs.Columns.{Row}
 use Rattle.fx_core.specs.Term.{Term, Top, all}
 use Rattle.fx_typing.specs.WellTyped.{standing_at}
 
-pub given_more : (h : Top) (n i j : ℕ) (ts : List Term) (t : Term) (a : Around) (rows : List Row) (gs : List Given) (g : Given) → j ≡ i + length ts →
-    AreGiven h n i (meanings (all ts)) a rows gs → IsGiven (standing_at h n j) (meaning t) a rows g → AreGiven h n i (meanings (all (ts ++ t ∷ []))) a rows (gs ++ g ∷ [])
+pub given_more : (h : Top) (n i j : ℕ) (ts : List Term) (t : Term) (a : Around) (rows : List Row) (gs : List ArgumentValues) (g : ArgumentValues) → j ≡ i + length ts →
+    AreGiven h n i (meanings (all ts)) a rows gs → PartGives (standing_at h n j) (meaning t) a rows g → AreGiven h n i (meanings (all (ts ++ t ∷ []))) a rows (gs ++ g ∷ [])
 given_more h n i j [] t a rows [] g e k x =
     let same : j ≡ i = omega arith in
-    let P : ℕ → Type 0 = λ z. IsGiven (standing_at h n z) (meaning t) a rows g in
+    let P : ℕ → Type 0 = λ z. PartGives (standing_at h n z) (meaning t) a rows g in
     (subst P same x, tt)
 given_more h n i j (u ∷ ts) t a rows (f ∷ gs) g e k x = (k.0, given_more h n (suc i) j ts t a rows gs g (omega arith) k.1 x)
 given_more h n i j [] t a rows (f ∷ gs) g e k x = absurd k

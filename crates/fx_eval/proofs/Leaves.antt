@@ -5,7 +5,7 @@ use Rattle.fx_types.specs.Types.{Shape, blanks, numbers, texts, booleans, dates,
 use Rattle.fx_types.specs.Values.{Data}
 use Rattle.fx_eval.proofs.Ready.{one_part}
 use Rattle.fx_eval.proofs.Ways.{changed_coerces}
-use Rattle.fx_env.specs.Scopes.{Held, IsReady, CanEvaluate}
+use Rattle.fx_env.specs.Scopes.{ScopeValues, IsTypedHere, CanEvaluate}
 use Rattle.fx_semantics.specs.Sound.{AreFit}
 use Rattle.fx_core.specs.declared.sources.Source.{Source}
 use Rattle.fx_core.specs.Term.{Term, Terms, of, nil, cons, row, coerce}
@@ -23,7 +23,7 @@ scope_there (d ∷ ds) [] k t f e = absurd f
 scope_there (d ∷ ds) (u ∷ ts) zero t f e = refl
 scope_there (d ∷ ds) (u ∷ ts) (suc k) t f e = scope_there ds ts k t f.1 e
 
-pub row_there : (types : Types) (s : Held) (k : ℕ) → CanEvaluate types s (of (row k) nil) → IsSome (slice_get s.rows k)
+pub row_there : (types : Types) (s : ScopeValues) (k : ℕ) → CanEvaluate types s (of (row k) nil) → IsSome (slice_get s.rows k)
 row_there types s k r = scope_there s.rows r.1.context.rows k r.0 r.1.suits.rows r.1.typed.2
 
 coerces : (c : Context) (to : Shape) (ts : Terms) (u t : Shape) → IsRuled c (coerce to) ts (u ∷ []) t → HasCoercion u to
@@ -42,8 +42,8 @@ coerces c blanks ts (records cs) t h = tt
 coerces c blanks ts (tables cs) t h = tt
 
 -- the value of the part can be coerced
-pub can_coerce : (types : Types) (s : Held) (to : Shape) (t : Term) (d : Data) → CanEvaluate types s (of (coerce to) (cons t nil)) →
-    ((u : Shape) → IsReady types s t u → fits_in d u ≡ true) → CanCoerce d to
+pub can_coerce : (types : Types) (s : ScopeValues) (to : Shape) (t : Term) (d : Data) → CanEvaluate types s (of (coerce to) (cons t nil)) →
+    ((u : Shape) → IsTypedHere types s t u → fits_in d u ≡ true) → CanCoerce d to
 can_coerce types s to t d r f =
     let h = r.1.typed in
     let part = h.1 in

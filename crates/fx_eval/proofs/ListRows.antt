@@ -10,7 +10,7 @@ use Rattle.fx_tables.specs.RowCalls.{CanBeRowType}
 use Rattle.fx_eval.specs.Lists.{CanList}
 use Rattle.fx_tables.specs.Unions.{CanBeRow, CanBeRows}
 use Rattle.fx_core.specs.ColumnLists.{row_columns}
-use Rattle.fx_typing.specs.WellTyped.{AreAll}
+use Rattle.fx_typing.specs.WellTyped.{AreAllOfShape}
 use Rattle.fx_value.specs.Coercion.{same}
 use Rattle.fx_value.specs.Fits.{fits_in}
 
@@ -35,7 +35,7 @@ pub can_be_rows : (r : Shape) (ds : List Data) → CanList r ds → CanBeRows (t
 can_be_rows r ds h = all_rows r ds h.0 h.1
 
 -- values that fit types which are all one
-all_of : (r : Shape) (ds : List Data) (us : List Shape) → AreAll r us → AreFit ds us → All (λ d. fits_in d r ≡ true) ds
+all_of : (r : Shape) (ds : List Data) (us : List Shape) → AreAllOfShape r us → AreFit ds us → All (λ d. fits_in d r ≡ true) ds
 all_of r [] [] a f = All-nil (λ d. fits_in d r ≡ true)
 all_of r (d ∷ ds) (u ∷ us) a f =
     let P : Shape → Type 0 = λ z. fits_in d z ≡ true in
@@ -43,5 +43,5 @@ all_of r (d ∷ ds) (u ∷ us) a f =
 all_of r [] (u ∷ us) a f = absurd f
 all_of r (d ∷ ds) [] a f = absurd f
 
-pub can_list : (r : Shape) (ds : List Data) (us : List Shape) → CanBeRowType r → AreAll r us → AreFit ds us → CanList r ds
+pub can_list : (r : Shape) (ds : List Data) (us : List Shape) → CanBeRowType r → AreAllOfShape r us → AreFit ds us → CanList r ds
 can_list r ds us n a f = (n, all_of r ds us a f)

@@ -2,7 +2,7 @@
 use Rattle.std.proofs.Common.{◌≡◌, ℕ, ℤ, List, Bool, true, refl, subst}
 use Rattle.fx_types.specs.Types.{Shape, blanks, numbers, texts, booleans, dates, records, tables}
 use Rattle.fx_types.specs.Values.{Data, blank, number, text, boolean, date, rec, tab, fault}
-use Rattle.fx_eval.specs.Parts.{IsMatched}
+use Rattle.fx_eval.specs.Parts.{IsComparable}
 use Rattle.fx_scalar.specs.LazyForms.{CanMatch}
 use Rattle.fx_typing.specs.Ways.{is_comparable, is_scalar}
 use Rattle.fx_value.specs.Fits.{fits_in}
@@ -259,7 +259,7 @@ beside_blank (records cs) (tab rs) e h = absurd cc
 beside_blank (tables cs) (tab rs) e h = absurd cc
 beside_blank k (fault q ms) e h = tt
 
-pub can_match : (w d : Data) (u k : Shape) → IsMatched w u → fits_in d k ≡ true → is_comparable u k ≡ true → CanMatch w d
+pub can_match : (w d : Data) (u k : Shape) → IsComparable w u → fits_in d k ≡ true → is_comparable u k ≡ true → CanMatch w d
 can_match (number x) d u k p h e = beside_number x k d (subst (λ (z : Shape). is_comparable z k ≡ true) (number_type x u p) e) h
 can_match (text x) d u k p h e = beside_text x k d (subst (λ (z : Shape). is_comparable z k ≡ true) (text_type x u p) e) h
 can_match (boolean x) d u k p h e = beside_boolean x k d (subst (λ (z : Shape). is_comparable z k ≡ true) (boolean_type x u p) e) h

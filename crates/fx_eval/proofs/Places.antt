@@ -2,7 +2,7 @@
 use Rattle.std.proofs.Common.{◌≡◌, ◌≤◌, ℕ, suc, ◌%◌, List, [], ◌∷◌, length, Bool, true, false, refl, ap, sym, subst, arith}
 use Rattle.std.specs.Prelude.{nat_eq, nat_le, ◌||◌, ◌&&◌, if◌then◌else◌}
 use Rattle.std.proofs.lemmas.Bool.{leb-true, eqb-true, eq-eqb}
-use Rattle.fx_core.specs.Rows.{row_of, inner_at, ended_at, takes_count, is_ended, is_within}
+use Rattle.fx_core.specs.Rows.{row_of, inner_at, ended_at, takes_count, is_ended, is_arity}
 use Rattle.fx_core.specs.declared.functions.Fun.{Fun}
 use Rattle.fx_core.specs.declared.rows.Ending.{Ending}
 use Rattle.fx_core.specs.declared.rows.Ending.TheVariants as ending
@@ -36,14 +36,14 @@ or_second true b e h = absurd cc
 or_second false b e h = h
 
 -- there are no more than most, which is no free number
-within : (least most n : ℕ) (e : Ending) → nat_eq most 255 ≡ false → (is_within least most n && is_ended e n) ≡ true → n ≤ most
+within : (least most n : ℕ) (e : Ending) → nat_eq most 255 ≡ false → (is_arity least most n && is_ended e n) ≡ true → n ≤ most
 within least most n e q h =
-    let w = and_first (is_within least most n) (is_ended e n) h in
+    let w = and_first (is_arity least most n) (is_ended e n) h in
     leb-true n most (or_second (nat_eq most 255) (nat_le n most) q (and_second (nat_le least n) (nat_eq most 255 || nat_le n most) w))
 
 pub at_least : (r : Row) (n : ℕ) → takes_count r n ≡ true → r.least ≤ n
 at_least r n h =
-    let w = and_first (is_within r.least r.most n) (is_ended r.ending n) h in
+    let w = and_first (is_arity r.least r.most n) (is_ended r.ending n) h in
     leb-true r.least n (and_first (nat_le r.least n) (nat_eq r.most 255 || nat_le n r.most) w)
 
 pub at_most : (r : Row) (n : ℕ) → nat_eq r.most 255 ≡ false → takes_count r n ≡ true → n ≤ r.most
@@ -53,7 +53,7 @@ at_most r n q h = within r.least r.most n r.ending q h
 pub whole : (r : Row) (n : ℕ) → r.ending ≡ ending.Whole → takes_count r n ≡ true → n % 2 ≡ 1
 whole r n e h =
     let P : Ending → Type 0 = λ x. is_ended x n ≡ true in
-    eqb-true (n % 2) 1 (subst P e (and_second (is_within r.least r.most n) (is_ended r.ending n) h))
+    eqb-true (n % 2) 1 (subst P e (and_second (is_arity r.least r.most n) (is_ended r.ending n) h))
 
 abbrev pub ArePaired : {A : Type 0} → List A → Type 0
 ArePaired [] = Unit {0}

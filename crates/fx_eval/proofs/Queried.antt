@@ -4,7 +4,7 @@ use Rattle.std.specs.Prelude.{IfSome, IsSomeAnd, ◌||◌, option_map, slice_get
 use Rattle.std.specs.List.{All, AllByRecursion, list_any}
 use Rattle.std.proofs.lemmas.List.Elements.{recursion_from_All, All-from_recursion}
 use Rattle.std.proofs.lemmas.Option.{same_Some}
-use Rattle.fx_base.specs.Silence.{Goes, IsLater, IsLost, Marks}
+use Rattle.fx_base.specs.Silence.{MayFallSilent, IsLater, SilenceCause, Marks}
 use Rattle.fx_base.specs.Telling.{Stays}
 use Rattle.fx_types.specs.declared.faults.Fault.{Fault}
 use Rattle.fx_types.specs.Types.{ColumnList, Shape, blanks, booleans, numbers, records, tables}
@@ -20,14 +20,14 @@ use Rattle.fx_eval.proofs.Passing.{heard_back}
 use Rattle.fx_eval.proofs.Ready.{Lawfully, calm_parts, calm_rest, part_ready, ready_fits, suits_inside}
 use Rattle.fx_eval.proofs.Rows.{table_can}
 use Rattle.fx_eval.proofs.SketchSizes.{constants_fall}
-use Rattle.fx_eval.specs.Demands.{AnswersAreValues, CanStand, CanTake, ConstantsAreReady, FoundAreReady, IsAnswered, IsAskedFor, IsDemand, IsFirstOf, IsFolded, IsSearch, IsSearchBy, IsWorthBy, fun_of}
-use Rattle.fx_eval.specs.Moments.{Went, moment}
+use Rattle.fx_eval.specs.Demands.{AnswersAreValues, CanStand, CanAddUp, ConstantsAreReady, FoundAreReady, IsAnswered, IsAskedFor, IsDemand, IsFirstGiven, IsFolded, IsSearch, IsSearchBy, IsWorthBy, fun_of}
+use Rattle.fx_eval.specs.EvalSteps.{Went, moment}
 use Rattle.fx_eval.specs.Parts.{AreFine, inner}
 use Rattle.fx_env.specs.Queries.{AreRead, AreTold, AreValuesOf, KeepsTables}
-use Rattle.fx_env.specs.Scopes.{CanEvaluate, Fixed, Held, IsReady, Suits, around}
-use Rattle.fx_env.specs.Telling.{Heard, IsHeard, Told, tables_told, values_told}
+use Rattle.fx_env.specs.Scopes.{CanEvaluate, Fixed, ScopeValues, IsTypedHere, Suits, around}
+use Rattle.fx_env.specs.Telling.{Heard, IsHeard, EnvState, tables_told, values_told}
 use Rattle.fx_plan.specs.declared.plans.Sketch.{Sketch}
-use Rattle.fx_plan.specs.Outlines.{Outline, OutlineList, all_filled, filled, value_at, constant, compares, starts, contains, all_of, any_of, opposite, no_outlines, with}
+use Rattle.fx_plan.specs.Outlines.{Outline, OutlineList, all_filled, filled, constant_at, constant, compares, starts, contains, all_of, any_of, opposite, no_outlines, with}
 use Rattle.fx_plan.specs.Plans.{CanPlan, IsPlan, is_fault}
 use Rattle.fx_plan.specs.QueryExpressions.{column_of, sketch_of}
 use Rattle.fx_plan.specs.Ranges.{column_type}
@@ -36,7 +36,7 @@ use Rattle.fx_semantics.specs.Fresh.{IsValue, meaning, meanings}
 use Rattle.fx_semantics.specs.Rows.{IsOfFound, rows_in}
 use Rattle.fx_semantics.specs.Sound.{AreFit, AreLawfulTypings, IsLawfulType, ValuesFit}
 use Rattle.fx_semantics.specs.Sources.{FitsIn, Gives, IsTold}
-use Rattle.fx_tables.specs.RowCalls.{first_of as first_row}
+use Rattle.fx_tables.specs.RowCalls.{first_row_record as first_row}
 use Rattle.fx_core.specs.declared.functions.Fun.{Fun}
 use Rattle.fx_core.specs.declared.functions.Fun.TheVariants as fun
 use Rattle.fx_core.specs.declared.rows.Scalar.TheVariants.{Number}
@@ -56,17 +56,17 @@ use Rattle.fx_plan.proofs.Placing.{column_typed, fit_many, lawful_at}
 use Rattle.fx_plan.proofs.Wholes.{fit_rows, rows_back}
 use Rattle.fx_plan.specs.Constants.{HaveTypes, ReadsTables, SketchesCanPlan, in_row, row_shape}
 use Rattle.fx_plan.specs.Consumers.{AreTotalsOf, CountsAreValues, FirstsAreValues, FoundAreValues, ScansAreFirstRows, ScansAreValues, TotalsAreValues, over_query}
-use Rattle.fx_plan.specs.Limited.{first_rows}
-use Rattle.fx_plan.specs.Settings.{Setting}
+use Rattle.fx_plan.specs.Limited.{first_rows_of}
+use Rattle.fx_plan.specs.Settings.{EvalSetting}
 use Rattle.fx_plan.specs.Wholes.{IsPlanned}
 use Rattle.row_queries.specs.Answers.{AreRowsFor, IsScanValue, table_or_fault}
 use Rattle.row_queries.specs.declared.queries.Query.{Query}
 use Rattle.row_queries.specs.declared.rows.Row.{Row}
 use Rattle.row_queries.specs.declared.rows.RowList.{RowList}
 use Rattle.row_queries.specs.Laws.{RowsFit}
-use Rattle.row_queries.specs.Queries.{CanTotal, IsOfNumbers, IsQuery, first_fault, given_of, outcome_on, rows_or_fault}
+use Rattle.row_queries.specs.Queries.{CanTotal, IsOfNumbers, IsQuery, first_outcome_fault, given_of, outcome_on, rows_or_fault}
 use Rattle.row_queries.specs.RowTests.{HasNoFaults, HaveNoFaults, IsNoFault}
-use Rattle.row_queries.specs.TableRows.{IsRowOf, record_of, rows_at, table_of}
+use Rattle.row_queries.specs.TableRows.{IsRowOf, record_of_row, rows_at, rows_table}
 use Rattle.fx_plan.proofs.Sound.{no_fault_at}
 
 -- ---- constants
@@ -75,24 +75,24 @@ abbrev Types : Type 0
 Types = Source → Option Shape
 
 -- trees of these types are ready
-abbrev AreAllReady : Types → Held → List Term → List Shape → Type 0
+abbrev AreAllReady : Types → ScopeValues → List Term → List Shape → Type 0
 AreAllReady types s [] [] = Unit {0}
-AreAllReady types s (t ∷ ts) (u ∷ us) = IsReady types s t u × AreAllReady types s ts us
+AreAllReady types s (t ∷ ts) (u ∷ us) = IsTypedHere types s t u × AreAllReady types s ts us
 AreAllReady types s ts us = ⊥
 
-all_ready : (types : Types) (s : Held) (c : Context) → Suits types s c → (ts : List Term) (us : List Shape) → HaveTypes c ts us → AreAllReady types s ts us
+all_ready : (types : Types) (s : ScopeValues) (c : Context) → Suits types s c → (ts : List Term) (us : List Shape) → HaveTypes c ts us → AreAllReady types s ts us
 all_ready types s c f [] [] h = tt
 all_ready types s c f (t ∷ ts) (u ∷ us) h = (record { context = c; suits = f; typed = h.0.0; lawful = h.0.1; quiet = h.1 }, all_ready types s c f ts us h.2)
 all_ready types s c f [] (u ∷ us) h = absurd h
 all_ready types s c f (t ∷ ts) [] h = absurd h
 
-all_fine : (types : Types) (s : Held) (ts : List Term) (us : List Shape) → AreAllReady types s ts us → AreFine types s ts
+all_fine : (types : Types) (s : ScopeValues) (ts : List Term) (us : List Shape) → AreAllReady types s ts us → AreFine types s ts
 all_fine types s [] [] h = tt
 all_fine types s (t ∷ ts) (u ∷ us) h = ((u, h.0), all_fine types s ts us h.1)
 all_fine types s [] (u ∷ us) h = absurd h
 all_fine types s (t ∷ ts) [] h = absurd h
 
-all_fit : ValuesFit → (types : Types) (told : Option (Source → Data)) (s : Held) (ts : List Term) (us : List Shape) → AreAllReady types s ts us →
+all_fit : ValuesFit → (types : Types) (told : Option (Source → Data)) (s : ScopeValues) (ts : List Term) (us : List Shape) → AreAllReady types s ts us →
     (ds : List Data) → AreValues (meanings (all ts)) (around types told s) ds → AreFit ds us
 all_fit law types told s [] [] h [] k = tt
 all_fit law types told s [] [] h (d ∷ ds) k = absurd k
@@ -105,7 +105,7 @@ lawful_in : (c : Context) (t : Term) (u : Shape) → Lawfully c t u → IsLawful
 lawful_in c (of h ts) u l = l.1.0
 
 -- the constants of a query expression that is ready
-query_ready : ValuesFit → SketchesCanPlan → (types : Types) (shapes : List TableShape) (s : Held) (q : Term) (k : Sketch) → All IsLawfulTable shapes → AreRead types shapes → CanEvaluate types s q →
+query_ready : ValuesFit → SketchesCanPlan → (types : Types) (shapes : List TableShape) (s : ScopeValues) (q : Term) (k : Sketch) → All IsLawfulTable shapes → AreRead types shapes → CanEvaluate types s q →
     sketch_of shapes (length s.rows) q ≡ Some k → AreFine types (inner s blank) k.constants
     × ((ds : List Data) → AreValues (meanings (all k.constants)) (around types None (inner s blank)) ds → CanPlan shapes k ds)
 query_ready fit plans types shapes s q k lawful reads ready sketched =
@@ -121,11 +121,11 @@ query_ready fit plans types shapes s q k lawful reads ready sketched =
     )
 
 -- the table of a call
-table_of_call : (types : Types) (s : Held) (t : Term) (f : Fun) (q : Term) (cs : List Term) → t ≡ of (top.over f) (cons q (all cs)) → CanEvaluate types s t → CanEvaluate types s q
+table_of_call : (types : Types) (s : ScopeValues) (t : Term) (f : Fun) (q : Term) (cs : List Term) → t ≡ of (top.over f) (cons q (all cs)) → CanEvaluate types s t → CanEvaluate types s q
 table_of_call types s t f q cs e r = table_can types s f q cs (subst (CanEvaluate types s) e r)
 
 -- what `LookUp` is made of
-record IsSearched (types : Types) (s : Held) (q c : Term) (fs : Terms) : Type 0 where
+record IsSearched (types : Types) (s : ScopeValues) (q c : Term) (fs : Terms) : Type 0 where
   pub context : Context
   pub suits : Suits types s context
   pub columns : ColumnList
@@ -135,7 +135,7 @@ record IsSearched (types : Types) (s : Held) (q c : Term) (fs : Terms) : Type 0 
   pub behind : AreTyped context (top.over fun.LookUp) (parts_count (cons q (cons c fs))) (tables columns ∷ booleans ∷ []) fs types_behind
   pub lawful_behind : AreLawfulTypings context (top.over fun.LookUp) (parts_count (cons q (cons c fs))) (tables columns ∷ booleans ∷ []) fs types_behind behind
 
-searched : (types : Types) (s : Held) (q c : Term) (fs : Terms) → CanEvaluate types s (over_query fun.LookUp q (cons c fs)) → IsSearched types s q c fs
+searched : (types : Types) (s : ScopeValues) (q c : Term) (fs : Terms) → CanEvaluate types s (over_query fun.LookUp q (cons c fs)) → IsSearched types s q c fs
 searched types s q c fs r =
     let i = r.1 in
     let w = i.typed.1 in
@@ -170,7 +170,7 @@ calm_two false true d e = absurd cc
 calm_two false false d e = refl
 
 -- the rows of `LookUp` with its condition as one more filter
-filter_can : (types : Types) (s : Held) (q c : Term) (fs : Terms) → CanEvaluate types s (over_query fun.LookUp q (cons c fs)) → CanEvaluate types s (over_query fun.Filter q (cons c nil))
+filter_can : (types : Types) (s : ScopeValues) (q c : Term) (fs : Terms) → CanEvaluate types s (over_query fun.LookUp q (cons c fs)) → CanEvaluate types s (over_query fun.Filter q (cons c nil))
 filter_can types s q c fs r =
     let i = searched types s q c fs r in
     let ks = i.columns in (
@@ -185,7 +185,7 @@ filter_can types s q c fs r =
     )
 
 -- the row that it finds
-found_can : (types : Types) (s : Held) (q c : Term) (fs : Terms) → (r : CanEvaluate types s (over_query fun.LookUp q (cons c fs))) → IsReady types s (over_query fun.LookUp q (cons c nil)) (records (searched types s q c fs r).columns)
+found_can : (types : Types) (s : ScopeValues) (q c : Term) (fs : Terms) → (r : CanEvaluate types s (over_query fun.LookUp q (cons c fs))) → IsTypedHere types s (over_query fun.LookUp q (cons c nil)) (records (searched types s q c fs r).columns)
 found_can types s q c fs r =
     let i = searched types s q c fs r in
     let ks = i.columns in
@@ -198,7 +198,7 @@ found_can types s q c fs r =
     }
 
 -- its formula in the scope of a row that fits
-search_formula : (types : Types) (s : Held) (q c f : Term) → (r : CanEvaluate types s (over_query fun.LookUp q (cons c (cons f nil)))) → (d : Data) → fits_in d (records (searched types s q c (cons f nil) r).columns) ≡ true →
+search_formula : (types : Types) (s : ScopeValues) (q c f : Term) → (r : CanEvaluate types s (over_query fun.LookUp q (cons c (cons f nil)))) → (d : Data) → fits_in d (records (searched types s q c (cons f nil) r).columns) ≡ true →
     CanEvaluate types (inner s d) f
 search_formula types s q c f r d fits =
     let i = searched types s q c (cons f nil) r in
@@ -209,18 +209,18 @@ search_formula types s q c f r d fits =
     )
 
 -- what a formula stands in the scope of
-stands_in : (types : Types) (s : Held) (g : Term) (d : Data) → ((z : Data) → d ≡ z → CanEvaluate types (inner s z) g) → CanStand types s g d
+stands_in : (types : Types) (s : ScopeValues) (g : Term) (d : Data) → ((z : Data) → d ≡ z → CanEvaluate types (inner s z) g) → CanStand types s g d
 stands_in types s g (rec fs) k = k (rec fs) refl
 stands_in types s g d k = tt
 
 -- `LookUp` without its formula is ready, and the formula where it finds a row
-pub search_can : (types : Types) (s : Held) (f : Fun) (q c x : Term) (ps : List Term) → f ≡ fun.LookUp → ps ≡ c ∷ x ∷ [] → CanEvaluate types s (of (top.over f) (cons q (all ps))) → CanEvaluate types s (of (top.over f) (cons q (all (c ∷ []))))
+pub search_can : (types : Types) (s : ScopeValues) (f : Fun) (q c x : Term) (ps : List Term) → f ≡ fun.LookUp → ps ≡ c ∷ x ∷ [] → CanEvaluate types s (of (top.over f) (cons q (all ps))) → CanEvaluate types s (of (top.over f) (cons q (all (c ∷ []))))
 search_can types s f q c x ps e p r =
     let call : CanEvaluate types s (over_query fun.LookUp q (cons c (cons x nil))) =
     subst (λ (zs : List Term). CanEvaluate types s (of (top.over fun.LookUp) (cons q (all zs)))) p (subst (λ (g : Fun). CanEvaluate types s (of (top.over g) (cons q (all ps)))) e r) in
     subst (λ (g : Fun). CanEvaluate types s (of (top.over g) (cons q (cons c nil)))) (sym e) (records (searched types s q c (cons x nil) call).columns, found_can types s q c (cons x nil) call)
 
-pub search_stands : ValuesFit → (types : Types) (s : Held) (f : Fun) (q c x : Term) (ps : List Term) (v : Data) → f ≡ fun.LookUp → ps ≡ c ∷ x ∷ [] → CanEvaluate types s (of (top.over f) (cons q (all ps))) →
+pub search_stands : ValuesFit → (types : Types) (s : ScopeValues) (f : Fun) (q c x : Term) (ps : List Term) (v : Data) → f ≡ fun.LookUp → ps ≡ c ∷ x ∷ [] → CanEvaluate types s (of (top.over f) (cons q (all ps))) →
     IsValue (around types None s) (of (top.over f) (cons q (all (c ∷ [])))) v → CanStand types s x v
 search_stands law types s f q c x ps v e p r h =
     let call : CanEvaluate types s (over_query fun.LookUp q (cons c (cons x nil))) =
@@ -245,19 +245,19 @@ constants_ready fit plans types shapes s t (demand.Total f i) k lawful reads rea
 
 -- ---- answers
 
-abbrev pub setting_of : Types → Option (Source → Data) → Held → Setting
+abbrev pub setting_of : Types → Option (Source → Data) → ScopeValues → EvalSetting
 setting_of types told s = record { types = types; told = told; rows = s.rows; item = s.item; caught = s.caught }
 
 told_there : (shapes : List TableShape) (told : Option (Source → Data)) (all_rows : Option (List (List Row))) (n : ℕ) (t : TableShape) (rows : List Row) →
-    slice_get shapes n ≡ Some t → AreTold shapes told all_rows → IfSome all_rows (λ rs. rows ≡ rows_at rs n) → IsTold told (source.Table n) (table_of t rows)
+    slice_get shapes n ≡ Some t → AreTold shapes told all_rows → IfSome all_rows (λ rs. rows ≡ rows_at rs n) → IsTold told (source.Table n) (rows_table t rows)
 told_there shapes None all_rows n t rows e link h = tt
 told_there shapes (Some values) all_rows n t rows e link h =
     let x = link values refl in
     let same : rows ≡ rows_at x.0 n = subst (λ (o : Option (List (List Row))). IfSome o (λ rs. rows ≡ rows_at rs n)) x.1 h in
-    ap (table_of t) same ∙ sym (x.2 n t e)
+    ap (rows_table t) same ∙ sym (x.2 n t e)
 
 -- a query of the sketch with these constants is planned, over such rows
-planned_so : RowsFit → (types : Types) (shapes : List TableShape) (told : Option (Source → Data)) (all_rows : Option (List (List Row))) (s : Held) (q : Term) (k : Sketch) (ds : List Data) (take : Option ℕ)
+planned_so : RowsFit → (types : Types) (shapes : List TableShape) (told : Option (Source → Data)) (all_rows : Option (List (List Row))) (s : ScopeValues) (q : Term) (k : Sketch) (ds : List Data) (take : Option ℕ)
     (query : Query) (t : TableShape) (rows : List Row) → All IsLawfulTable shapes → AreRead types shapes → AreTold shapes told all_rows → sketch_of shapes (length s.rows) q ≡ Some k →
     AreValues (meanings (all k.constants)) (around types told (inner s blank)) ds → list_any is_fault ds ≡ false → IsPlan shapes k ds take query → IsQuery shapes query → AreRowsFor shapes all_rows query t rows →
     IsPlanned (setting_of types told s) shapes t q k take query rows
@@ -265,7 +265,7 @@ planned_so fit types shapes told all_rows s q k ds take query t rows lawful read
   lawful = here;
   is_table = at;
   held = there.held;
-  gives = (subst (λ (o : Option Shape). FitsIn o (table_of t rows)) (sym (reads k.table t at)) fits, told_there shapes told all_rows k.table t rows at link same);
+  gives = (subst (λ (o : Option Shape). FitsIn o (rows_table t rows)) (sym (reads k.table t at)) fits, told_there shapes told all_rows k.table t rows at link same);
   sketched = sketched;
   place = blank;
   constants = ds;
@@ -284,26 +284,26 @@ planned_so fit types shapes told all_rows s q k ds take query t rows lawful read
     here : IsLawfulTable t
     here = lawful_at shapes k.table t (recursion_from_All IsLawfulTable shapes lawful) at
 
-    fits : fits_in (table_of t rows) (tables (columns_of t)) ≡ true
+    fits : fits_in (rows_table t rows) (tables (columns_of t)) ≡ true
     fits = fit t rows here (All-from_recursion (IsRowOf t) rows (fit_rows t rows there.held))
 
 -- what is taken of a query expression that gives rows, blank where it gives none
-none_in : (f : Option Fault) (rows : List Row) (a : RowList) → a ≡ rows_or_fault rows f → (t : TableShape) → first_row (rows_in (table_or_fault t a.rows a.fault)) ≡ first_row (map (record_of t) a.rows)
+none_in : (f : Option Fault) (rows : List Row) (a : RowList) → a ≡ rows_or_fault rows f → (t : TableShape) → first_row (rows_in (table_or_fault t a.rows a.fault)) ≡ first_row (map (record_of_row t) a.rows)
 none_in None rows a e t =
-    subst (λ (x : RowList). first_row (rows_in (table_or_fault t x.rows x.fault)) ≡ first_row (map (record_of t) x.rows)) (sym e) (ap first_row (rows_back (map (record_of t) rows)))
-none_in (Some f) rows a e t = subst (λ (x : RowList). first_row (rows_in (table_or_fault t x.rows x.fault)) ≡ first_row (map (record_of t) x.rows)) (sym e) refl
+    subst (λ (x : RowList). first_row (rows_in (table_or_fault t x.rows x.fault)) ≡ first_row (map (record_of_row t) x.rows)) (sym e) (ap first_row (rows_back (map (record_of_row t) rows)))
+none_in (Some f) rows a e t = subst (λ (x : RowList). first_row (rows_in (table_or_fault t x.rows x.fault)) ≡ first_row (map (record_of_row t) x.rows)) (sym e) refl
 
 -- the first row of what a scan answers
-pub first_of_scan : (shapes : List TableShape) (told : Option (List (List Row))) (q : Query) (d v : Data) → IsScanValue shapes told q d → v ≡ first_row (rows_in d) → IsFirstOf shapes told q v
+pub first_of_scan : (shapes : List TableShape) (told : Option (List (List Row))) (q : Query) (d v : Data) → IsScanValue shapes told q d → v ≡ first_row (rows_in d) → IsFirstGiven shapes told q v
 first_of_scan shapes told q d v h e =
     let a = h.3 in
-    (h.0, h.1, h.2, (a.0, a.1, e ∙ ap (λ (x : Data). first_row (rows_in x)) a.2 ∙ none_in (first_fault (map (outcome_on q) a.1.0)) (given_of q a.1.0) a.0 a.1.2 h.0))
+    (h.0, h.1, h.2, (a.0, a.1, e ∙ ap (λ (x : Data). first_row (rows_in x)) a.2 ∙ none_in (first_outcome_fault (map (outcome_on q) a.1.0)) (given_of q a.1.0) a.0 a.1.2 h.0))
 
 module _ (scans : ScansAreValues) (firsts : ScansAreFirstRows) (counts : CountsAreValues) (one : FirstsAreValues) (found : FoundAreValues) (totals : TotalsAreValues) (fit : RowsFit)
-    (types : Types) (shapes : List TableShape) (told : Option (Source → Data)) (all_rows : Option (List (List Row))) (s : Held) (t : Term) (k : Sketch) (ds : List Data) (v : Data)
+    (types : Types) (shapes : List TableShape) (told : Option (Source → Data)) (all_rows : Option (List (List Row))) (s : ScopeValues) (t : Term) (k : Sketch) (ds : List Data) (v : Data)
     (lawful : All IsLawfulTable shapes) (reads : AreRead types shapes) (link : AreTold shapes told all_rows) (values : AreValues (meanings (all k.constants)) (around types told (inner s blank)) ds)
     (faultless : list_any is_fault ds ≡ false) where
-  abbrev here : Setting
+  abbrev here : EvalSetting
   here = setting_of types told s
 
   -- the call that the tree is
@@ -339,7 +339,7 @@ module _ (scans : ScansAreValues) (firsts : ScansAreFirstRows) (counts : CountsA
   worth (demand.FirstRows n) h a =
       let m = a.3 in
       let p = planned h.0 (Some n) a.0 m.0 m.1 h.2 a.1 a.2 m.2 in
-      called (first_rows n h.0) h.1 (subst (IsValue (around types told s) (first_rows n h.0)) (sym m.3.2) (firsts here shapes m.0 h.0 k n a.0 m.1 m.3.0 p m.3.1))
+      called (first_rows_of n h.0) h.1 (subst (IsValue (around types told s) (first_rows_of n h.0)) (sym m.3.2) (firsts here shapes m.0 h.0 k n a.0 m.1 m.3.0 p m.3.1))
   worth demand.Count h a =
       let m = a.3.1 in
       let p = planned h.0 None a.0 m.0 m.1 h.2 a.1 a.2 m.2 in
@@ -386,15 +386,15 @@ found_are_ready law found fit types shapes rows s t k ds v lawful reads ready h 
 
 -- ---- what is told, from one moment to the next
 
-told_back : {B : Type 0} (lost : Type 0) (x y : Option (Told B)) (w : Told B) → Goes lost Stays x y → y ≡ Some w → x ≡ Some w
+told_back : {B : Type 0} (lost : Type 0) (x y : Option (EnvState B)) (w : EnvState B) → MayFallSilent lost Stays x y → y ≡ Some w → x ≡ Some w
 told_back lost None y w g e = absurd cc
 told_back lost (Some a) None w g e = absurd cc
 told_back lost (Some a) (Some b) w g e = ap Some (sym g) ∙ e
 
-keeps_after : {B : Type 0} (f : Fixed) (lost : Type 0) (x y : Option (Told B)) → Goes lost Stays x y → KeepsTables f x → KeepsTables f y
+keeps_after : {B : Type 0} (f : Fixed) (lost : Type 0) (x y : Option (EnvState B)) → MayFallSilent lost Stays x y → KeepsTables f x → KeepsTables f y
 keeps_after f lost x y g k = record { lawful = k.lawful; read = k.read; values = λ w e. k.values w (told_back lost x y w g e) }
 
-keeps_told : {B : Type 0} (f : Fixed) (x : Option (Told B)) (told : Option (Source → Data)) → KeepsTables f x → IsHeard (values_told x) told → AreTold f.schema.tables told (tables_told x)
+keeps_told : {B : Type 0} (f : Fixed) (x : Option (EnvState B)) (told : Option (Source → Data)) → KeepsTables f x → IsHeard (values_told x) told → AreTold f.schema.tables told (tables_told x)
 keeps_told f x None k h values e = absurd cc
 keeps_told f None (Some g) k h values e = absurd cc
 keeps_told f (Some w) (Some g) k h values e =
@@ -402,15 +402,15 @@ keeps_told f (Some w) (Some g) k h values e =
     (w.tables, refl, subst (λ (z : Source → Data). AreValuesOf f.schema.tables z w.tables) same (k.values w refl))
 
 -- the same values, read again
-pub heard_same : {B : Type 0} (x : Option (Told B)) (types : Types) (s : Held) (cs : List Term) (xs ys : List Value) → ys ≡ xs →
+pub heard_same : {B : Type 0} (x : Option (EnvState B)) (types : Types) (s : ScopeValues) (cs : List Term) (xs ys : List Value) → ys ≡ xs →
     Heard (values_told x) (λ told. AreValues (meanings (all cs)) (around types told (inner s blank)) (map view xs)) →
     Heard (values_told x) (λ told. AreValues (meanings (all cs)) (around types told (inner s blank)) (map view ys))
 heard_same x types s cs xs ys e h =
     subst (λ (zs : List Value). Heard (values_told x) (λ told. AreValues (meanings (all cs)) (around types told (inner s blank)) (map view zs))) (sym e) h
 
 -- what is answered is the value, where the constants were evaluated between x and y, and the query asked between y and z
-pub asked_worth : {B : Type 0} → AnswersAreValues → (f g : Fixed) (x y z : Option (Told B)) (lost gone : Type 0) (s : Held) (t : Term) (d : Demand) (k : Sketch) (cs : List Term) (ds : List Data) (v : Data) →
-    g ≡ f → Goes lost Stays x y → Goes gone Stays y z → IsAskedFor f x s t d k → cs ≡ k.constants →
+pub asked_worth : {B : Type 0} → AnswersAreValues → (f g : Fixed) (x y z : Option (EnvState B)) (lost gone : Type 0) (s : ScopeValues) (t : Term) (d : Demand) (k : Sketch) (cs : List Term) (ds : List Data) (v : Data) →
+    g ≡ f → MayFallSilent lost Stays x y → MayFallSilent gone Stays y z → IsAskedFor f x s t d k → cs ≡ k.constants →
     Heard (values_told y) (λ told. AreValues (meanings (all cs)) (around f.types told (inner s blank)) ds) → false ≡ list_any is_fault ds →
     IsAnswered g.schema.tables (tables_told z) d k ds v → Heard (values_told z) (λ told. IsWorthBy d (around f.types told s) t v)
 unfolding AnswersAreValues
@@ -422,7 +422,7 @@ asked_worth law f g x y z lost gone s t d k cs ds v same first second asked is v
     (subst (λ (e : Fixed). IsAnswered e.schema.tables (tables_told z) d k ds v) same answered)
 
 -- the moment after an answer, from the one before it
-pub answered_went : {B : Type 0} (f g : Fixed) (x y : Option (Told B)) (m n : Marks) (k l v w : ℕ) (s : Held) (steps : ℕ) → g ≡ f → Goes (IsLost m n) Stays x y → IsLater m n → l ≡ k → v ≤ w →
+pub answered_went : {B : Type 0} (f g : Fixed) (x y : Option (EnvState B)) (m n : Marks) (k l v w : ℕ) (s : ScopeValues) (steps : ℕ) → g ≡ f → MayFallSilent (SilenceCause m n) Stays x y → IsLater m n → l ≡ k → v ≤ w →
     Went (moment f x m k v s steps) (moment g y n l w s steps)
 answered_went f g x y m n k l v w s steps fixed told later ticked visited = record {
   fixed = fixed;
@@ -448,13 +448,13 @@ pub found_worth : (d : Demand) (a : Around) (t f : Term) (v w : Data) → d ≡ 
 found_worth d a t f v w e by h o = (subst (λ (x : Demand). IsWorthBy x a t v) e h) f w by o
 
 -- a formula for the row that is found
-pub search_there : {B : Type 0} (f : Fixed) (x : Option (Told B)) (s : Held) (t : Term) (d : Demand) (k : Sketch) → IsAskedFor f x s t d k → d ≡ demand.FoundIn → IsSearch t
+pub search_there : {B : Type 0} (f : Fixed) (x : Option (EnvState B)) (s : ScopeValues) (t : Term) (d : Demand) (k : Sketch) → IsAskedFor f x s t d k → d ≡ demand.FoundIn → IsSearch t
 search_there f x s t d k a e =
     let h : IsDemand f.schema.tables (length s.rows) demand.FoundIn k t = subst (λ (z : Demand). IsDemand f.schema.tables (length s.rows) z k t) e a.demand in
     (h.2, (h.0, h.1, h.3))
 
 -- it is ready in the scope of that row
-pub stands_there : {B : Type 0} → FoundAreReady → (f g : Fixed) (x y : Option (Told B)) (rows : Option (List (List Row))) (s : Held) (t : Term) (d : Demand) (k : Sketch) (cs : List Term) (ds : List Data) (v : Data) (formula : Term) → g ≡ f → CanEvaluate f.types s t →
+pub stands_there : {B : Type 0} → FoundAreReady → (f g : Fixed) (x y : Option (EnvState B)) (rows : Option (List (List Row))) (s : ScopeValues) (t : Term) (d : Demand) (k : Sketch) (cs : List Term) (ds : List Data) (v : Data) (formula : Term) → g ≡ f → CanEvaluate f.types s t →
     IsAskedFor f x s t d k → cs ≡ k.constants → Heard (values_told y) (λ told. AreValues (meanings (all cs)) (around f.types told (inner s blank)) ds) → false ≡ list_any is_fault ds →
     IsAnswered g.schema.tables rows d k ds v → d ≡ demand.FoundIn → IsSearchBy t formula → CanStand f.types s formula v
 unfolding FoundAreReady
@@ -470,14 +470,14 @@ search_smaller t f by = rw by.2 (omega arith)
 -- ---- where a query expression is asked
 
 -- its constants are ready
-pub constants_there : {B : Type 0} → ConstantsAreReady → (f : Fixed) (x : Option (Told B)) (s : Held) (t : Term) (d : Demand) (k : Sketch) (cs : List Term) → CanEvaluate f.types s t → IsAskedFor f x s t d k →
+pub constants_there : {B : Type 0} → ConstantsAreReady → (f : Fixed) (x : Option (EnvState B)) (s : ScopeValues) (t : Term) (d : Demand) (k : Sketch) (cs : List Term) → CanEvaluate f.types s t → IsAskedFor f x s t d k →
     cs ≡ k.constants → AreFine f.types (inner s blank) cs
 unfolding ConstantsAreReady
 constants_there law f x s t d k cs r a e =
     subst (AreFine f.types (inner s blank)) (sym e) (law f.types f.schema.tables s t d k a.keeps.lawful.2 a.keeps.read r a.demand).0
 
 -- with their values it can be planned
-pub plan_there : {B : Type 0} → ConstantsAreReady → (f g : Fixed) (x y : Option (Told B)) (s : Held) (t : Term) (d : Demand) (k : Sketch) (cs : List Term) (ds : List Data) → g ≡ f → CanEvaluate f.types s t →
+pub plan_there : {B : Type 0} → ConstantsAreReady → (f g : Fixed) (x y : Option (EnvState B)) (s : ScopeValues) (t : Term) (d : Demand) (k : Sketch) (cs : List Term) (ds : List Data) → g ≡ f → CanEvaluate f.types s t →
     IsAskedFor f x s t d k → cs ≡ k.constants → Heard (values_told y) (λ told. AreValues (meanings (all cs)) (around f.types told (inner s blank)) ds) → CanPlan g.schema.tables k ds
 unfolding ConstantsAreReady
 plan_there law f g x y s t d k cs ds same r a e values =
@@ -494,7 +494,7 @@ numbers_at t (suc i) e = by (slice_get t.columns i) e
     by None q = absurd cc
     by (Some c) q = cc
 
-takes_so : (shapes : List TableShape) (k : ℕ) (d : Demand) (s : Sketch) (t : Term) → IsDemand shapes k d s t → CanTake shapes d s
+takes_so : (shapes : List TableShape) (k : ℕ) (d : Demand) (s : Sketch) (t : Term) → IsDemand shapes k d s t → CanAddUp shapes d s
 takes_so shapes k (demand.Total f i) s t h = let column = h.4 in (column.0, column.1, numbers_at column.0 i (column_typed column.0 k Number h.1 i column.2).1)
 takes_so shapes k demand.Rows s t h = tt
 takes_so shapes k (demand.FirstRows n) s t h = tt
@@ -503,8 +503,8 @@ takes_so shapes k demand.First s t h = tt
 takes_so shapes k demand.Found s t h = tt
 takes_so shapes k demand.FoundIn s t h = tt
 
-pub take_there : {B : Type 0} (f g : Fixed) (x : Option (Told B)) (s : Held) (t : Term) (d : Demand) (k : Sketch) → g ≡ f → IsAskedFor f x s t d k → CanTake g.schema.tables d k
-take_there f g x s t d k same a = subst (λ (h : Fixed). CanTake h.schema.tables d k) (sym same) (takes_so f.schema.tables (length s.rows) d k t a.demand)
+pub take_there : {B : Type 0} (f g : Fixed) (x : Option (EnvState B)) (s : ScopeValues) (t : Term) (d : Demand) (k : Sketch) → g ≡ f → IsAskedFor f x s t d k → CanAddUp g.schema.tables d k
+take_there f g x s t d k same a = subst (λ (h : Fixed). CanAddUp h.schema.tables d k) (sym same) (takes_so f.schema.tables (length s.rows) d k t a.demand)
 
 -- ---- constants are smaller
 
@@ -525,7 +525,7 @@ demand_smaller n shapes demand.FoundIn k t h =
     query_smaller n shapes t (over_query fun.Filter h.0 (cons h.1 nil)) k h.4 (rw h.3 (omega arith))
 demand_smaller n shapes (demand.Total f i) k t h = query_smaller n shapes t h.0 k h.3 (within t (fun_of f) h.0 (cons h.1 nil) h.2)
 
-pub constants_smaller : {B : Type 0} (f : Fixed) (x : Option (Told B)) (s : Held) (t : Term) (d : Demand) (k : Sketch) (cs : List Term) → IsAskedFor f x s t d k → cs ≡ k.constants →
+pub constants_smaller : {B : Type 0} (f : Fixed) (x : Option (EnvState B)) (s : ScopeValues) (t : Term) (d : Demand) (k : Sketch) (cs : List Term) → IsAskedFor f x s t d k → cs ≡ k.constants →
     terms_size (all cs) < term_size t
 constants_smaller f x s t d k cs a e =
     subst (λ (xs : List Term). terms_size (all xs) < term_size t) (sym e) (demand_smaller (length s.rows) f.schema.tables d k t a.demand)
@@ -538,10 +538,10 @@ no_error d e = tt
 
 mutual
   filled_faultless : (ds : List Data) → list_any is_fault ds ≡ false → (o : Outline) → HasNoFaults (filled ds o)
-  filled_faultless ds e (constant i) = no_error (value_at ds i) (no_fault_at ds i e)
-  filled_faultless ds e (compares op k i) = no_error (value_at ds i) (no_fault_at ds i e)
-  filled_faultless ds e (starts k i) = no_error (value_at ds i) (no_fault_at ds i e)
-  filled_faultless ds e (contains k i) = no_error (value_at ds i) (no_fault_at ds i e)
+  filled_faultless ds e (constant i) = no_error (constant_at ds i) (no_fault_at ds i e)
+  filled_faultless ds e (compares op k i) = no_error (constant_at ds i) (no_fault_at ds i e)
+  filled_faultless ds e (starts k i) = no_error (constant_at ds i) (no_fault_at ds i e)
+  filled_faultless ds e (contains k i) = no_error (constant_at ds i) (no_fault_at ds i e)
   filled_faultless ds e (all_of os) = all_faultless ds e os
   filled_faultless ds e (any_of os) = all_faultless ds e os
   filled_faultless ds e (opposite o) = filled_faultless ds e o
@@ -554,7 +554,7 @@ mutual
 pub plan_faultless : (shapes : List TableShape) (k : Sketch) (ds : List Data) (take : Option ℕ) (q : Query) → IsPlan shapes k ds take q → list_any is_fault ds ≡ false → HasNoFaults q.test
 plan_faultless shapes k ds take q p e = subst HasNoFaults (sym p.test) (filled_faultless ds e k.test)
 
-pub plan_totals : (shapes : List TableShape) (k : Sketch) (ds : List Data) (take : Option ℕ) (q : Query) (f : Fold) (i : ℕ) → IsPlan shapes k ds take q → CanTake shapes (demand.Total f i) k → CanTotal shapes q i
+pub plan_totals : (shapes : List TableShape) (k : Sketch) (ds : List Data) (take : Option ℕ) (q : Query) (f : Fold) (i : ℕ) → IsPlan shapes k ds take q → CanAddUp shapes (demand.Total f i) k → CanTotal shapes q i
 plan_totals shapes k ds take q f i p h =
     let P : ℕ → Type 0 = λ n. IsSomeAnd (slice_get shapes n) (λ (t : TableShape). IsOfNumbers t i) in
     subst P (sym p.table) (subst (λ (o : Option TableShape). IsSomeAnd o (λ (t : TableShape). IsOfNumbers t i)) (sym h.1) h.2)

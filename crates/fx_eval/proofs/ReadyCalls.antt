@@ -18,60 +18,60 @@ use Rattle.fx_core.specs.declared.functions.Fun.TheVariants as fun
 use Rattle.fx_core.specs.declared.rows.Takes.{Takes}
 use Rattle.fx_core.specs.SourceTypes.{put_column}
 use Rattle.fx_tables.proofs.FitColumns.{all_renamed_fit, rises_put}
-use Rattle.fx_tables.specs.ColumnCalls.{CanAdd, CanRename, in_turn}
+use Rattle.fx_tables.specs.ColumnCalls.{CanAddColumns, CanRename, in_turn}
 use Rattle.fx_tables.specs.RowCalls.{AreKeysOrErrors}
 use Rattle.fx_value.specs.Order.{AreOfOneType, IsScalar}
-use Rattle.fx_eval.specs.Given.{Given, once, each, AreGiven, IsGiven, columns_in, pairs_in, values_in}
-use Rattle.fx_eval.specs.TableCalls.{AreColumns, AreFor, AreFormulas, AreNames, ArePairs, CanMake, IsCount, IsFormula, IsJoining, IsSearch}
+use Rattle.fx_eval.specs.Given.{ArgumentValues, once, each, AreGiven, PartGives, new_columns, pairs_in, values_in}
+use Rattle.fx_eval.specs.TableCalls.{AreNewColumns, AreFor, AreFormulas, AreColumnNames, AreNamePairs, CanMake, IsOneOrNone, IsOneFormula, IsJoining, IsConditionAndFormula}
 use Rattle.fx_eval.proofs.Parts.{AreOf, are_of, each_many, is_of}
 use Rattle.fx_eval.proofs.Places.{ArePaired, at_least, at_most, formula_behind, inner_behind, name_at, paired_by, whole}
-use Rattle.fx_value.specs.Columns.{Row, renamed, with_column}
+use Rattle.fx_value.specs.Columns.{Row, field_renamed, rows_with_column}
 use Rattle.fx_tables.specs.Unions.{is_fault}
 use Rattle.fx_core.specs.Term.{Term, Terms, of, nil, cons, const, Top, over}
-use Rattle.fx_typing.specs.Columns.{added, dropped, label_of, names_there, shown}
+use Rattle.fx_typing.specs.Columns.{added, dropped, label_of, names_there, columns_shown}
 use Rattle.fx_core.specs.ColumnLists.{and_then, field_in, if_there, with_new, with_renamed}
 use Rattle.fx_typing.specs.Columns as columns
 use Rattle.fx_core.specs.ColumnLists as lists
 use Rattle.fx_typing.specs.Ways.{is_scalar}
-use Rattle.fx_typing.specs.WellTyped.{AllStand, Context, Standing, answered, context_for, head_of, inside, paired, plain, standing_at, standing_of}
+use Rattle.fx_typing.specs.WellTyped.{AllStand, Context, PartScope, answered_type, context_for, head_of, inside, typed_pairs, plain, standing_at, standing_of}
 use Rattle.fx_typing.proofs.Operators.{then_ok}
 use Rattle.fx_value.proofs.Unions.{Rises}
 use Rattle.fx_value.specs.Fits.{fits_in}
 
 -- ---- how parts are given
 
-formula_for : (P : Meaning) (a : Around) (rows : List Row) (g : Given) → IsGiven inside P a rows g → AreFor (length rows) g
+formula_for : (P : Meaning) (a : Around) (rows : List Row) (g : ArgumentValues) → PartGives inside P a rows g → AreFor (length rows) g
 formula_for P a rows (each ds) h = each_many P a rows ds h
 formula_for P a rows (once d) h = absurd h
 
 -- all parts behind the table stand in the scope of a row
-formulas : (h : Top) (n : ℕ) → ((i : ℕ) → standing_at h n (suc i) ≡ inside) → (i : ℕ) (Ps : List Meaning) (a : Around) (rows : List Row) (gs : List Given) →
+formulas : (h : Top) (n : ℕ) → ((i : ℕ) → standing_at h n (suc i) ≡ inside) → (i : ℕ) (Ps : List Meaning) (a : Around) (rows : List Row) (gs : List ArgumentValues) →
     AreGiven h n (suc i) Ps a rows gs → AreFormulas (length rows) gs
 formulas h n p i [] a rows [] k = tt
 formulas h n p i (P ∷ Ps) a rows (g ∷ gs) k =
-    let Q : Standing → Type 0 = λ s. IsGiven s P a rows g in
+    let Q : PartScope → Type 0 = λ s. PartGives s P a rows g in
     (formula_for P a rows g (subst Q (p i) k.0), formulas h n p (suc i) Ps a rows gs k.1)
 formulas h n p i [] a rows (g ∷ gs) k = absurd k
 formulas h n p i (P ∷ Ps) a rows [] k = absurd k
 
-abbrev AreOnce : List Given → Type 0
+abbrev AreOnce : List ArgumentValues → Type 0
 AreOnce [] = Unit {0}
 AreOnce (once d ∷ gs) = AreOnce gs
 AreOnce gs = ⊥
 
 -- all of them stand where the whole stands
-singles : (h : Top) (n : ℕ) → ((i : ℕ) → standing_at h n (suc i) ≡ plain) → (i : ℕ) (Ps : List Meaning) (a : Around) (rows : List Row) (gs : List Given) →
+singles : (h : Top) (n : ℕ) → ((i : ℕ) → standing_at h n (suc i) ≡ plain) → (i : ℕ) (Ps : List Meaning) (a : Around) (rows : List Row) (gs : List ArgumentValues) →
     AreGiven h n (suc i) Ps a rows gs → AreOnce gs
 singles h n p i [] a rows [] k = tt
 singles h n p i (P ∷ Ps) a rows (once d ∷ gs) k = singles h n p (suc i) Ps a rows gs k.1
 singles h n p i (P ∷ Ps) a rows (each ds ∷ gs) k =
-    let Q : Standing → Type 0 = λ s. IsGiven s P a rows (each ds) in
+    let Q : PartScope → Type 0 = λ s. PartGives s P a rows (each ds) in
     absurd (subst Q (p i) k.0)
 singles h n p i [] a rows (g ∷ gs) k = absurd k
 singles h n p i (P ∷ Ps) a rows [] k = absurd k
 
 -- there is something given for each part
-so_many : (h : Top) (n i : ℕ) (ts : Terms) (us : List Shape) (a : Around) (rows : List Row) (gs : List Given) → SoMany ts us → AreGiven h n i (meanings ts) a rows gs →
+so_many : (h : Top) (n i : ℕ) (ts : Terms) (us : List Shape) (a : Around) (rows : List Row) (gs : List ArgumentValues) → SoMany ts us → AreGiven h n i (meanings ts) a rows gs →
     length us ≡ length gs
 so_many h n i nil [] a rows [] m k = refl
 so_many h n i (cons t ts) (u ∷ us) a rows (g ∷ gs) m k = ap suc (so_many h n (suc i) ts us a rows gs m k.1)
@@ -82,25 +82,25 @@ so_many h n i (cons t ts) (u ∷ us) a rows [] m k = absurd k
 
 -- ---- by their number
 
-one_formula : (n : ℕ) (gs : List Given) → AreFormulas n gs → 2 ≤ suc (length gs) → suc (length gs) ≤ 2 → IsFormula gs × (length (values_in gs) ≡ n)
+one_formula : (n : ℕ) (gs : List ArgumentValues) → AreFormulas n gs → 2 ≤ suc (length gs) → suc (length gs) ≤ 2 → IsOneFormula gs × (length (values_in gs) ≡ n)
 one_formula n [] f l m = absurd (omega arith)
 one_formula n (each ds ∷ []) f l m = (tt, f.0)
 one_formula n (once d ∷ gs) f l m = absurd f.0
 one_formula n (each ds ∷ g ∷ gs) f l m = absurd (omega arith)
 
-search_of : (n : ℕ) (gs : List Given) → AreFormulas n gs → 2 ≤ suc (length gs) → suc (length gs) ≤ 3 → IsSearch n gs
+search_of : (n : ℕ) (gs : List ArgumentValues) → AreFormulas n gs → 2 ≤ suc (length gs) → suc (length gs) ≤ 3 → IsConditionAndFormula n gs
 search_of n [] f l m = absurd (omega arith)
 search_of n (g ∷ []) f l m = f.0
 search_of n (g ∷ h ∷ []) f l m = (f.0, f.1.0)
 search_of n (g ∷ h ∷ j ∷ gs) f l m = absurd (omega arith)
 
-count_of : (gs : List Given) → AreOnce gs → suc (length gs) ≤ 2 → IsCount gs
+count_of : (gs : List ArgumentValues) → AreOnce gs → suc (length gs) ≤ 2 → IsOneOrNone gs
 count_of [] f m = tt
 count_of (once d ∷ []) f m = tt
 count_of (each ds ∷ gs) f m = absurd f
 count_of (once d ∷ g ∷ gs) f m = absurd (omega arith)
 
-joining_of : (n : ℕ) (Ps : List Meaning) (a : Around) (rows : List Row) (gs : List Given) → AreGiven (over fun.Concat) n 1 Ps a rows gs → 2 ≤ suc (length gs) → suc (length gs) ≤ 3 →
+joining_of : (n : ℕ) (Ps : List Meaning) (a : Around) (rows : List Row) (gs : List ArgumentValues) → AreGiven (over fun.Concat) n 1 Ps a rows gs → 2 ≤ suc (length gs) → suc (length gs) ≤ 3 →
     IsJoining gs
 joining_of n [] a rows [] k l m = absurd (omega arith)
 joining_of n (P ∷ []) a rows (each ds ∷ []) k l m = tt
@@ -121,16 +121,16 @@ text_is : (t : Term) (a : Around) (x : List ℕ) (d : Data) → label_of t ≡ S
 text_is (of (const (text y)) nil) a x d e h = let q : y ≡ x = cc in h ∙ ap text q
 text_is t a x d e h = cc
 
-named : (x : List ℕ) (d : Data) (gs : List Given) → d ≡ text x → AreNames gs → AreNames (once d ∷ gs)
-named x d gs e h = let P : Data → Type 0 = λ z. AreNames (once z ∷ gs) in subst P (sym e) h
+named : (x : List ℕ) (d : Data) (gs : List ArgumentValues) → d ≡ text x → AreColumnNames gs → AreColumnNames (once d ∷ gs)
+named x d gs e h = let P : Data → Type 0 = λ z. AreColumnNames (once z ∷ gs) in subst P (sym e) h
 
-there_names : (a : Around) (rows : List Row) (ts : Terms) (us : List Shape) (cs : ColumnList) (ns : List (List ℕ)) (gs : List Given) → SoMany ts us → names_there (paired ts us) cs ≡ Ok ns →
-    AreOnce gs → AreOf (meanings ts) a rows gs → AreNames gs
+there_names : (a : Around) (rows : List Row) (ts : Terms) (us : List Shape) (cs : ColumnList) (ns : List (List ℕ)) (gs : List ArgumentValues) → SoMany ts us → names_there (typed_pairs ts us) cs ≡ Ok ns →
+    AreOnce gs → AreOf (meanings ts) a rows gs → AreColumnNames gs
 there_names a rows nil [] cs ns [] m e f k = tt
 there_names a rows (cons t ts) (u ∷ us) cs ns (once d ∷ gs) m e f k =
     let x = label_ok (label_of t) _ ns e in
     let y = then_ok (if_there (field_in x.0 cs)) _ ns x.2 in
-    let z = then_ok (names_there (paired ts us) cs) _ ns y.2 in
+    let z = then_ok (names_there (typed_pairs ts us) cs) _ ns y.2 in
     named x.0 d gs (text_is t a x.0 d x.1 k.0) (there_names a rows ts us cs z.0 gs m z.1 f k.1)
 there_names a rows (cons t ts) (u ∷ us) cs ns (each ds ∷ gs) m e f k = absurd f
 there_names a rows nil [] cs ns (g ∷ gs) m e f k = absurd k
@@ -142,15 +142,15 @@ there_names a rows (cons t ts) [] cs ns gs m e f k = absurd m
 
 -- ---- new names of columns
 
-pairs_named : (x y : List ℕ) (d e : Data) (gs : List Given) (rows : List Row) → d ≡ text x → e ≡ text y → ArePairs gs × CanRename ((x, y) ∷ pairs_in gs) rows →
-    ArePairs (once d ∷ once e ∷ gs) × CanRename (pairs_in (once d ∷ once e ∷ gs)) rows
+pairs_named : (x y : List ℕ) (d e : Data) (gs : List ArgumentValues) (rows : List Row) → d ≡ text x → e ≡ text y → AreNamePairs gs × CanRename ((x, y) ∷ pairs_in gs) rows →
+    AreNamePairs (once d ∷ once e ∷ gs) × CanRename (pairs_in (once d ∷ once e ∷ gs)) rows
 pairs_named x y d e gs rows p q h =
-    let P : Data → Type 0 = λ z. ArePairs (once z ∷ once e ∷ gs) × CanRename (pairs_in (once z ∷ once e ∷ gs)) rows in
-    let Q : Data → Type 0 = λ z. ArePairs (once (text x) ∷ once z ∷ gs) × CanRename (pairs_in (once (text x) ∷ once z ∷ gs)) rows in
+    let P : Data → Type 0 = λ z. AreNamePairs (once z ∷ once e ∷ gs) × CanRename (pairs_in (once z ∷ once e ∷ gs)) rows in
+    let Q : Data → Type 0 = λ z. AreNamePairs (once (text x) ∷ once z ∷ gs) × CanRename (pairs_in (once (text x) ∷ once z ∷ gs)) rows in
     subst P (sym p) (subst Q (sym q) h)
 
-renamed_names : (a : Around) (given : List Row) (ts : Terms) (us : List Shape) (cs es : ColumnList) (rows : List Row) (gs : List Given) → SoMany ts us → ArePaired us → Rises cs →
-    columns.renamed (paired ts us) cs ≡ Ok es → RowsFit cs rows → AreOnce gs → AreOf (meanings ts) a given gs → ArePairs gs × CanRename (pairs_in gs) rows
+renamed_names : (a : Around) (given : List Row) (ts : Terms) (us : List Shape) (cs es : ColumnList) (rows : List Row) (gs : List ArgumentValues) → SoMany ts us → ArePaired us → Rises cs →
+    columns.columns_renamed (typed_pairs ts us) cs ≡ Ok es → RowsFit cs rows → AreOnce gs → AreOf (meanings ts) a given gs → AreNamePairs gs × CanRename (pairs_in gs) rows
 renamed_names a given nil [] cs es rows [] m w rising e h f k = (tt, tt)
 renamed_names a given (cons t (cons t' ts)) (u ∷ u' ∷ us) cs es rows (once d ∷ once d' ∷ gs) m w rising e h f k =
     let x = label_ok (label_of t) _ es e in
@@ -162,9 +162,9 @@ renamed_names a given (cons t (cons t' ts)) (u ∷ u' ∷ us) cs es rows (once d
     let go : ColumnList → Result ColumnList ℕ = λ ds. in_turn step [] ds in
     let free = all_lack x'.0 rows cs h v.0 in
     let made = all_renamed_fit ((x.0, x'.0) ∷ []) rows cs y.0 rising (free, tt) (table_fits cs rows h) (ap (λ (r : Result ColumnList ℕ). and_then r go) y.1) in
-    let more = renamed_names a given ts us y.0 es (map (renamed x.0 x'.0) rows) gs m w
-    (subst Rises v.1 (rises_put x'.0 z.0 (lists.without x.0 cs) (rises_without x.0 cs rising))) y.2
-    (fit_table y.0 (map (renamed x.0 x'.0) rows) made) f k.1.1 in
+    let more = renamed_names a given ts us y.0 es (map (field_renamed x.0 x'.0) rows) gs m w
+    (subst Rises v.1 (rises_put x'.0 z.0 (lists.columns_without x.0 cs) (rises_without x.0 cs rising))) y.2
+    (fit_table y.0 (map (field_renamed x.0 x'.0) rows) made) f k.1.1 in
     pairs_named x.0 x'.0 d d' gs rows (text_is t a x.0 d x.1 k.0) (text_is t' a x'.0 d' x'.1 k.1.0) (more.0, (free, more.1))
 renamed_names a given nil [] cs es rows (g ∷ gs) m w rising e h f k = absurd k
 renamed_names a given nil (u ∷ us) cs es rows gs m w rising e h f k = absurd m
@@ -178,16 +178,16 @@ renamed_names a given (cons t (cons t' ts)) (u ∷ u' ∷ us) cs es rows (once d
 
 -- ---- new columns
 
-wide_many : (n : List ℕ) (rows : List Row) (ds : List Data) → length ds ≡ length rows → length (with_column n rows ds) ≡ length rows
+wide_many : (n : List ℕ) (rows : List Row) (ds : List Data) → length ds ≡ length rows → length (rows_with_column n rows ds) ≡ length rows
 wide_many n [] [] e = refl
 wide_many n (r ∷ rows) (d ∷ ds) e = let q : length ds ≡ length rows = omega arith in ap suc (wide_many n rows ds q)
 wide_many n [] (d ∷ ds) e = absurd cc
 wide_many n (r ∷ rows) [] e = absurd cc
 
-column_named : (x : List ℕ) (d : Data) (ds : List Data) (gs : List Given) (rows : List Row) → d ≡ text x → AreColumns gs × CanAdd ((x, ds) ∷ columns_in gs) rows →
-    AreColumns (once d ∷ each ds ∷ gs) × CanAdd (columns_in (once d ∷ each ds ∷ gs)) rows
+column_named : (x : List ℕ) (d : Data) (ds : List Data) (gs : List ArgumentValues) (rows : List Row) → d ≡ text x → AreNewColumns gs × CanAddColumns ((x, ds) ∷ new_columns gs) rows →
+    AreNewColumns (once d ∷ each ds ∷ gs) × CanAddColumns (new_columns (once d ∷ each ds ∷ gs)) rows
 column_named x d ds gs rows p h =
-    let P : Data → Type 0 = λ z. AreColumns (once z ∷ each ds ∷ gs) × CanAdd (columns_in (once z ∷ each ds ∷ gs)) rows in
+    let P : Data → Type 0 = λ z. AreNewColumns (once z ∷ each ds ∷ gs) × CanAddColumns (new_columns (once z ∷ each ds ∷ gs)) rows in
     subst P (sym p) h
 
 abbrev Adding : Top
@@ -212,9 +212,9 @@ odd_again : (i : ℕ) → i % 2 ≡ 1 → suc (suc i) % 2 ≡ 1
 odd_again i e = omega (arith, e)
 
 new_names : (g : Giving) (c : Context) (rows : List Data) (item : Option Data) (caught : Option Fault) → Suits g c rows item →
-    (bs : ColumnList) (given : List Row) → RowsFit bs given → (n m i : ℕ) (more : List Shape) (ts : Terms) (us : List Shape) (cs es : ColumnList) (trs : List Row) (gs : List Given) →
-    ArePaired us → length (tables bs ∷ more) % 2 ≡ 1 → i % 2 ≡ 1 → AllHold g c Adding n (tables bs ∷ more) (meanings ts) us → added (paired ts us) cs ≡ Ok es →
-    RowsFit cs trs → length trs ≡ length given → AreGiven Adding m i (meanings ts) (stands g rows item caught) given gs → AreColumns gs × CanAdd (columns_in gs) trs
+    (bs : ColumnList) (given : List Row) → RowsFit bs given → (n m i : ℕ) (more : List Shape) (ts : Terms) (us : List Shape) (cs es : ColumnList) (trs : List Row) (gs : List ArgumentValues) →
+    ArePaired us → length (tables bs ∷ more) % 2 ≡ 1 → i % 2 ≡ 1 → AllHold g c Adding n (tables bs ∷ more) (meanings ts) us → added (typed_pairs ts us) cs ≡ Ok es →
+    RowsFit cs trs → length trs ≡ length given → AreGiven Adding m i (meanings ts) (stands g rows item caught) given gs → AreNewColumns gs × CanAddColumns (new_columns gs) trs
 new_names g c rows item caught s bs given b n m i more nil [] cs es trs [] w o p k e h l q = (tt, tt)
 new_names g c rows item caught s bs given b n m i more (cons t (cons f ts)) (u ∷ v ∷ us) cs es trs (once d ∷ each ds ∷ gs) w o p k e h l q =
     let a = stands g rows item caught in
@@ -223,12 +223,12 @@ new_names g c rows item caught s bs given b n m i more (cons t (cons f ts)) (u �
     let z = free_ok (field_in x.0 cs) (put_column x.0 v cs) y.0 y.1 in
     let place : standing_at Adding n (length ((tables bs ∷ more) ++ u ∷ [])) ≡ inside =
     ap (standing_at Adding n) (one_more (tables bs ∷ more) u) ∙ formula_there n (length (tables bs ∷ more)) o in
-    let H : Standing → Type 0 = λ st. Holds g (context_for st c ((tables bs ∷ more) ++ u ∷ [])) (meaning f) v in
+    let H : PartScope → Type 0 = λ st. Holds g (context_for st c ((tables bs ∷ more) ++ u ∷ [])) (meaning f) v in
     let values = is_of (standing_at Adding m (suc i)) (meaning f) a given (each ds) q.1.0 in
     let fit = each_fits g c rows item caught s bs (meaning f) v (subst H place k.1.0) given ds b values in
     let many : length ds ≡ length trs = each_many (meaning f) a given ds values ∙ sym l in
-    let R : ColumnList → Type 0 = λ j. RowsFit j (with_column x.0 trs ds) in
-    let rest = new_names g c rows item caught s bs given b n m (suc (suc i)) ((more ++ u ∷ []) ++ v ∷ []) ts us y.0 es (with_column x.0 trs ds) gs
+    let R : ColumnList → Type 0 = λ j. RowsFit j (rows_with_column x.0 trs ds) in
+    let rest = new_names g c rows item caught s bs given b n m (suc (suc i)) ((more ++ u ∷ []) ++ v ∷ []) ts us y.0 es (rows_with_column x.0 trs ds) gs
     w (two_more (tables bs ∷ more) u v o) (odd_again i p) k.1.1 y.2
     (subst R z.1 (with_column_fit x.0 v cs z.0 trs ds h fit)) (wide_many x.0 trs ds many ∙ l) q.1.1 in
     column_named x.0 d ds gs trs (text_is t a x.0 d x.1 (is_of (standing_at Adding m i) (meaning t) a given (once d) q.0))
@@ -241,10 +241,10 @@ new_names g c rows item caught s bs given b n m i more (cons t nil) (u ∷ v ∷
 new_names g c rows item caught s bs given b n m i more (cons t (cons f ts)) (u ∷ v ∷ us) cs es trs [] w o p k e h l q = absurd q
 new_names g c rows item caught s bs given b n m i more (cons t (cons f ts)) (u ∷ v ∷ us) cs es trs (once d ∷ []) w o p k e h l q = absurd q.1
 new_names g c rows item caught s bs given b n m i more (cons t (cons f ts)) (u ∷ v ∷ us) cs es trs (each ds ∷ gs) w o p k e h l q =
-    let Q : Standing → Type 0 = λ st. IsGiven st (meaning t) (stands g rows item caught) given (each ds) in
+    let Q : PartScope → Type 0 = λ st. PartGives st (meaning t) (stands g rows item caught) given (each ds) in
     absurd (subst Q (name_there m i p) q.0)
 new_names g c rows item caught s bs given b n m i more (cons t (cons f ts)) (u ∷ v ∷ us) cs es trs (once d ∷ once x ∷ gs) w o p k e h l q =
-    let Q : Standing → Type 0 = λ st. IsGiven st (meaning f) (stands g rows item caught) given (once x) in
+    let Q : PartScope → Type 0 = λ st. PartGives st (meaning f) (stands g rows item caught) given (once x) in
     absurd (subst Q (formula_there m i p) q.1.0)
 
 -- ---- keys
@@ -324,7 +324,7 @@ keys_fit : (u : Shape) → is_scalar u ≡ true → (ds : List Data) → AllFit 
 keys_fit u s ds h k = each_against u s ds h k ds h k
 
 keys_ready : (g : Giving) (c : Context) (rows : List Data) (item : Option Data) (caught : Option Fault) → Suits g c rows item → (cs : ColumnList) (trs : List Row) → RowsFit cs trs →
-    (n m : ℕ) (ts : Terms) (us : List Shape) (common : Shape) (gs : List Given) → AllHold g c (over fun.Distinct) n (tables cs ∷ []) (meanings ts) us → AllStand (row_of fun.Distinct) (suc (length us)) 1 (tables cs) common us →
+    (n m : ℕ) (ts : Terms) (us : List Shape) (common : Shape) (gs : List ArgumentValues) → AllHold g c (over fun.Distinct) n (tables cs ∷ []) (meanings ts) us → AllStand (row_of fun.Distinct) (suc (length us)) 1 (tables cs) common us →
     AreGiven (over fun.Distinct) m 1 (meanings ts) (stands g rows item caught) trs gs → AreKeysOrErrors (values_in gs)
 keys_ready g c rows item caught s cs trs rf n m (cons t ts) (u ∷ us) common (each ds ∷ gs) k w q =
     keys_fit u w.0 ds (each_fits g c rows item caught s cs (meaning t) u k.0 trs ds rf q.0)
@@ -348,16 +348,16 @@ hold_many g c h n done nil (u ∷ us) k = absurd k
 hold_many g c h n done (cons t ts) [] k = absurd k
 
 -- one formula behind the table
-one_ready : (f : Fun) (m : ℕ) → ((i : ℕ) → standing_at (over f) m (suc i) ≡ inside) → (ts : Terms) (us : List Shape) (a : Around) (trs : List Row) (gs : List Given) → SoMany ts us →
-    2 ≤ suc (length us) → suc (length us) ≤ 2 → AreGiven (over f) m 1 (meanings ts) a trs gs → IsFormula gs × (length (values_in gs) ≡ length trs)
+one_ready : (f : Fun) (m : ℕ) → ((i : ℕ) → standing_at (over f) m (suc i) ≡ inside) → (ts : Terms) (us : List Shape) (a : Around) (trs : List Row) (gs : List ArgumentValues) → SoMany ts us →
+    2 ≤ suc (length us) → suc (length us) ≤ 2 → AreGiven (over f) m 1 (meanings ts) a trs gs → IsOneFormula gs × (length (values_in gs) ≡ length trs)
 one_ready f m p ts us a trs gs so l j q =
     let many = so_many (over f) m 1 ts us a trs gs so q in
     one_formula (length trs) gs (formulas (over f) m p 0 (meanings ts) a trs gs q) (omega (arith, many, l)) (omega (arith, many, j))
 
 pub can_make : (g : Giving) (c : Context) (rows : List Data) (item : Option Data) (caught : Option Fault) → Suits g c rows item → (cs : ColumnList) → Rises cs → (trs : List Row) → RowsFit cs trs →
-    (f : Fun) (n m : ℕ) (t0 : Term) (ts : Terms) (us : List Shape) (common t : Shape) (gs : List Given) →
+    (f : Fun) (n m : ℕ) (t0 : Term) (ts : Terms) (us : List Shape) (common t : Shape) (gs : List ArgumentValues) →
     AllHold g c (over f) n (tables cs ∷ []) (meanings ts) us → takes_count (row_of f) (suc (length us)) ≡ true → AllStand (row_of f) (suc (length us)) 1 (tables cs) common us →
-    answered (row_of f).answer common (paired (cons t0 ts) (tables cs ∷ us)) ≡ Ok t → head_of f ≡ over f →
+    answered_type (row_of f).answer common (typed_pairs (cons t0 ts) (tables cs ∷ us)) ≡ Ok t → head_of f ≡ over f →
     AreGiven (over f) m 1 (meanings ts) (stands g rows item caught) trs gs → CanMake f trs gs
 can_make g c rows item caught s cs rising trs rf fun.Filter n m t0 ts us common t gs k l w e h q =
     formulas (over fun.Filter) m (λ i. inner_behind IsInner (row_of fun.Filter) i refl refl refl) 0 (meanings ts) (stands g rows item caught) trs gs q
@@ -401,23 +401,23 @@ can_make g c rows item caught s cs rising trs rf fun.AverageRows n m t0 ts us co
     (one_ready fun.AverageRows m (λ i. inner_behind IsInner (row_of fun.AverageRows) i refl refl refl) ts us (stands g rows item caught) trs gs (hold_many g c (over fun.AverageRows) n (tables cs ∷ []) ts us k)
     (at_least (row_of fun.AverageRows) (suc (length us)) l) (at_most (row_of fun.AverageRows) (suc (length us)) refl l) q).0
 can_make g c rows item caught s cs rising trs rf fun.AddColumns n m t0 ts us common t gs k l w e h q =
-    let r = table_ok (added (paired ts us) cs) t e in
+    let r = table_ok (added (typed_pairs ts us) cs) t e in
     let odd : suc (length us) % 2 ≡ 1 = whole (row_of fun.AddColumns) (suc (length us)) refl l in
     new_names g c rows item caught s cs trs rf n m 1 [] ts us cs r.0 trs gs (paired_by us (omega (arith, odd))) refl refl k r.1 rf refl q
 can_make g c rows item caught s cs rising trs rf fun.DropColumns n m t0 ts us common t gs k l w e h q =
-    let r = table_ok (dropped (paired ts us) cs) t e in
-    let x = then_ok (names_there (paired ts us) cs) _ r.0 r.1 in
+    let r = table_ok (dropped (typed_pairs ts us) cs) t e in
+    let x = then_ok (names_there (typed_pairs ts us) cs) _ r.0 r.1 in
     let single = singles (over fun.DropColumns) m (λ i. inner_behind IsOuter (row_of fun.DropColumns) i refl refl refl) 0 (meanings ts) (stands g rows item caught) trs gs q in
     there_names (stands g rows item caught) trs ts us cs x.0 gs (hold_many g c (over fun.DropColumns) n (tables cs ∷ []) ts us k) x.1 single
     (are_of (over fun.DropColumns) m 1 (meanings ts) (stands g rows item caught) trs gs q)
 can_make g c rows item caught s cs rising trs rf fun.ShowColumns n m t0 ts us common t gs k l w e h q =
-    let r = table_ok (shown (paired ts us) cs) t e in
-    let x = then_ok (names_there (paired ts us) cs) _ r.0 r.1 in
+    let r = table_ok (columns_shown (typed_pairs ts us) cs) t e in
+    let x = then_ok (names_there (typed_pairs ts us) cs) _ r.0 r.1 in
     let single = singles (over fun.ShowColumns) m (λ i. inner_behind IsOuter (row_of fun.ShowColumns) i refl refl refl) 0 (meanings ts) (stands g rows item caught) trs gs q in
     there_names (stands g rows item caught) trs ts us cs x.0 gs (hold_many g c (over fun.ShowColumns) n (tables cs ∷ []) ts us k) x.1 single
     (are_of (over fun.ShowColumns) m 1 (meanings ts) (stands g rows item caught) trs gs q)
 can_make g c rows item caught s cs rising trs rf fun.RenameColumns n m t0 ts us common t gs k l w e h q =
-    let r = table_ok (columns.renamed (paired ts us) cs) t e in
+    let r = table_ok (columns.columns_renamed (typed_pairs ts us) cs) t e in
     let odd : suc (length us) % 2 ≡ 1 = whole (row_of fun.RenameColumns) (suc (length us)) refl l in
     let single = singles (over fun.RenameColumns) m (λ i. inner_behind IsOuter (row_of fun.RenameColumns) i refl refl refl) 0 (meanings ts) (stands g rows item caught) trs gs q in
     renamed_names (stands g rows item caught) trs ts us cs r.0 trs gs (hold_many g c (over fun.RenameColumns) n (tables cs ∷ []) ts us k) (paired_by us (omega (arith, odd))) rising r.1 rf single

@@ -12,12 +12,12 @@ use Rattle.fx_eval.proofs.Ready.{suits_inside}
 use Rattle.fx_eval.specs.Demands.{IsAskedFor, IsDemand, SettledAreReady, SettledAreSmall, SettledAreValues, fun_of, settled_in}
 use Rattle.fx_eval.specs.Parts.{inner}
 use Rattle.fx_env.specs.Queries.{AreRead}
-use Rattle.fx_env.specs.Scopes.{CanEvaluate, Fixed, Held, IsReady, Suits, around}
-use Rattle.fx_env.specs.Telling.{Heard, IsHeard, Told, values_told}
+use Rattle.fx_env.specs.Scopes.{CanEvaluate, Fixed, ScopeValues, IsTypedHere, Suits, around}
+use Rattle.fx_env.specs.Telling.{Heard, IsHeard, EnvState, values_told}
 use Rattle.fx_plan.specs.declared.plans.Sketch.{Sketch}
 use Rattle.fx_plan.specs.Constants.{HasType, ReadsTables, in_row, row_shape}
 use Rattle.fx_plan.specs.Consumers.{over_query}
-use Rattle.fx_plan.specs.Outlines.{value_at}
+use Rattle.fx_plan.specs.Outlines.{constant_at}
 use Rattle.fx_plan.specs.QueryExpressions.{sketch_of}
 use Rattle.fx_plan.proofs.Testing.{values_worth}
 use Rattle.fx_semantics.specs.Around.{AreValues}
@@ -41,7 +41,7 @@ Types = Source → Option Shape
 
 -- ---- what it is worth
 
-module _ (queries : SettledAreWorth) (searches : SearchesAreWorth) (types : Types) (shapes : List TableShape) (told : Option (Source → Data)) (s : Held) (k : Sketch) (ds : List Data) (v : Data)
+module _ (queries : SettledAreWorth) (searches : SearchesAreWorth) (types : Types) (shapes : List TableShape) (told : Option (Source → Data)) (s : ScopeValues) (k : Sketch) (ds : List Data) (v : Data)
     (values : AreValues (meanings (all k.constants)) (around types told (inner s blank)) ds) where
   abbrev n : ℕ
   n = length s.rows
@@ -72,7 +72,7 @@ settled_values queries searches types shapes told s t d k ds v h values m = wort
 
 -- ---- where it is ready
 
-module _ (fit : ValuesFit) (queries : SettledHaveTypes) (searches : SearchesHaveTypes) (less : SettledAreNoMore) (types : Types) (shapes : List TableShape) (s : Held) (k : Sketch) (ds : List Data)
+module _ (fit : ValuesFit) (queries : SettledHaveTypes) (searches : SearchesHaveTypes) (less : SettledAreNoMore) (types : Types) (shapes : List TableShape) (s : ScopeValues) (k : Sketch) (ds : List Data)
     (read : AreRead types shapes) (values : AreValues (meanings (all k.constants)) (around types None (inner s blank)) ds) where
   abbrev depth : ℕ
   depth = length s.rows
@@ -84,9 +84,9 @@ module _ (fit : ValuesFit) (queries : SettledHaveTypes) (searches : SearchesHave
   fitting : (c : Context) → Suits types s c → AreFittingFor shapes c k ds
   fitting c f t is i x u at typed =
       let there : Suits types (inner s blank) (in_row c t) = suits_inside types s c blank (row_shape t) f refl in
-      let worth : IsValue (around types None (inner s blank)) x (value_at ds i) = values_worth (around types None (inner s blank)) k.constants ds values i x at in
-      fit (in_row c t) None (inner s blank).rows s.item s.caught x u typed.0 (value_at ds i) there.rows there.item typed.1
-      (subst (λ (z : Types). IsValue (around z None (inner s blank)) x (value_at ds i)) (sym there.sources) worth)
+      let worth : IsValue (around types None (inner s blank)) x (constant_at ds i) = values_worth (around types None (inner s blank)) k.constants ds values i x at in
+      fit (in_row c t) None (inner s blank).rows s.item s.caught x u typed.0 (constant_at ds i) there.rows there.item typed.1
+      (subst (λ (z : Types). IsValue (around z None (inner s blank)) x (constant_at ds i)) (sym there.sources) worth)
 
   same_depth : (c : Context) → Suits types s c → length c.rows ≡ depth
   same_depth c f = sym (fit_many s.rows c.rows f.rows)
@@ -97,7 +97,7 @@ module _ (fit : ValuesFit) (queries : SettledHaveTypes) (searches : SearchesHave
       (queries c shapes q u k ds (reads c f) h (subst (λ (i : ℕ). sketch_of shapes i q ≡ Some k) (sym (same_depth c f)) e) (fitting c f))
 
   -- a tree of the type in its place, which doesn't act
-  ready_so : (t x : Term) (u : Shape) (r : IsReady types s t u) → HasType r.context x u → (acts t ≡ false → acts x ≡ false) → CanEvaluate types s x
+  ready_so : (t x : Term) (u : Shape) (r : IsTypedHere types s t u) → HasType r.context x u → (acts t ≡ false → acts x ≡ false) → CanEvaluate types s x
   ready_so t x u r h q = (u, record { context = r.context; suits = r.suits; typed = h.0; lawful = h.1; quiet = q r.quiet })
 
   query_ready : (t : Term) → CanEvaluate types s t → sketch_of shapes depth t ≡ Some k → CanEvaluate types s ((query_settled depth ds t).0)
@@ -160,20 +160,20 @@ settled_small less (demand.Total f i) k ds t = (less k ds t).1.0
 -- ---- where it is evaluated
 
 -- after the constants were evaluated, between x and y
-pub settled_there : {B : Type 0} → SettledAreReady → (f : Fixed) (x y : Option (Told B)) (s r : Held) (t z : Term) (d : Demand) (k : Sketch) (cs : List Term) (ds : List Data) → r ≡ s → CanEvaluate f.types s t →
+pub settled_there : {B : Type 0} → SettledAreReady → (f : Fixed) (x y : Option (EnvState B)) (s r : ScopeValues) (t z : Term) (d : Demand) (k : Sketch) (cs : List Term) (ds : List Data) → r ≡ s → CanEvaluate f.types s t →
     IsAskedFor f x s t d k → cs ≡ k.constants → Heard (values_told y) (λ told. AreValues (meanings (all cs)) (around f.types told (inner s blank)) ds) → z ≡ settled_in d (length r.rows) ds t → CanEvaluate f.types s z
 unfolding SettledAreReady
 settled_there law f x y s r t z d k cs ds same can a is values e =
-    subst (CanEvaluate f.types s) (sym (e ∙ ap (λ (h : Held). settled_in d (length h.rows) ds t) same))
+    subst (CanEvaluate f.types s) (sym (e ∙ ap (λ (h : ScopeValues). settled_in d (length h.rows) ds t) same))
     (law f.types f.schema.tables s t d k ds a.keeps.read can a.demand (subst (λ (xs : List Term). AreValues (meanings (all xs)) (around f.types None (inner s blank)) ds) is (values None tt)))
 
-pub settled_worth : {B : Type 0} → SettledAreValues → (f : Fixed) (x y : Option (Told B)) (s r : Held) (t z : Term) (d : Demand) (k : Sketch) (cs : List Term) (ds : List Data) (v : Data) (told : Option (Source → Data)) → r ≡ s →
+pub settled_worth : {B : Type 0} → SettledAreValues → (f : Fixed) (x y : Option (EnvState B)) (s r : ScopeValues) (t z : Term) (d : Demand) (k : Sketch) (cs : List Term) (ds : List Data) (v : Data) (told : Option (Source → Data)) → r ≡ s →
     IsAskedFor f x s t d k → cs ≡ k.constants → Heard (values_told y) (λ told. AreValues (meanings (all cs)) (around f.types told (inner s blank)) ds) → z ≡ settled_in d (length r.rows) ds t →
     IsHeard (values_told y) told → IsValue (around f.types told s) z v → IsValue (around f.types told s) t v
 unfolding SettledAreValues
 settled_worth law f x y s r t z d k cs ds v told same a is values e h m =
     law f.types f.schema.tables told s t d k ds v a.demand (subst (λ (xs : List Term). AreValues (meanings (all xs)) (around f.types told (inner s blank)) ds) is (values told h))
-    (subst (λ (w : Term). IsValue (around f.types told s) w v) (e ∙ ap (λ (h : Held). settled_in d (length h.rows) ds t) same) m)
+    (subst (λ (w : Term). IsValue (around f.types told s) w v) (e ∙ ap (λ (h : ScopeValues). settled_in d (length h.rows) ds t) same) m)
 
 pub settled_smaller : SettledAreSmall → (d : Demand) (k : ℕ) (ds : List Data) (t z : Term) → z ≡ settled_in d k ds t → term_size z ≤ term_size t
 unfolding SettledAreSmall

@@ -1,7 +1,7 @@
 -- The parts of a tree are smaller than the tree.
 use Rattle.std.proofs.Common.{◌≡◌, ℕ, zero, suc, ◌+◌, ◌<◌, ◌≤◌, List, [], ◌∷◌, length, get_or, ap, sym, ◌∙◌, arith}
 use Rattle.fx_eval.specs.Parts.{terms_of}
-use Rattle.fx_core.specs.Term.{Term, of, nil, cons, Top, all, parts_of, term_size, terms_size}
+use Rattle.fx_core.specs.Term.{Term, of, nil, cons, Top, all, field_terms, term_size, terms_size}
 use Rattle.fx_eval.proofs.Standings.{all_parts}
 
 pub field_is_smaller : (fs : List (List ℕ × Term)) (i : ℕ) (f : List ℕ × Term) → i < length fs → f ≡ get_or fs i f → term_size f.1 < terms_size (all (terms_of fs))
@@ -13,9 +13,9 @@ field_is_smaller (g ∷ fs) (suc i) f h e = omega (arith, field_is_smaller fs i 
 pub parts_fall : (t : Term) (h : Top) (ts xs : List Term) → of h (all ts) ≡ t → xs ≡ ts → terms_size (all xs) < term_size t
 parts_fall t h ts xs e f = rw (← e, f) (omega arith)
 
-pub fields_fall : (t : Term) (h : Top) (fs gs : List (List ℕ × Term)) → of h (parts_of fs) ≡ t → gs ≡ fs → terms_size (all (terms_of gs)) < term_size t
+pub fields_fall : (t : Term) (h : Top) (fs gs : List (List ℕ × Term)) → of h (field_terms fs) ≡ t → gs ≡ fs → terms_size (all (terms_of gs)) < term_size t
 fields_fall t h fs gs e f =
-    let same : terms_size (parts_of fs) ≡ terms_size (all (terms_of gs)) = ap terms_size (all_parts fs) ∙ ap (λ z. terms_size (all (terms_of z))) (sym f) in
+    let same : terms_size (field_terms fs) ≡ terms_size (all (terms_of gs)) = ap terms_size (all_parts fs) ∙ ap (λ z. terms_size (all (terms_of z))) (sym f) in
     rw (← e) (omega (arith, same))
 
 pub one_falls : (t : Term) (h : Top) (u x : Term) → of h (cons u nil) ≡ t → x ≡ u → suc (term_size x) < term_size t

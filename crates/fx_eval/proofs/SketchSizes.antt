@@ -5,7 +5,7 @@ use Rattle.std.proofs.lemmas.Option.{same_Some}
 use Rattle.fx_types.specs.declared.comparisons.Cmp.{Cmp}
 use Rattle.fx_plan.specs.declared.plans.Sketch.{Sketch}
 use Rattle.fx_plan.specs.Outlines.{Outline, always, flag, constant, compares, is_blank, starts, contains, all_of, any_of, outline_list}
-use Rattle.fx_plan.specs.QueryExpressions.{along, behind, beside, called, called_with_one, called_with_two, column_of, compared, compared_with, comparison_by, filtered, is_constant, is_falling, negated, pattern_by, pattern_of, patterns_of, plain_column, sketch_of, sorted, sorted_by, turned, with_constant}
+use Rattle.fx_plan.specs.QueryExpressions.{along, patterns_behind, beside, call_pattern, called_with_one, called_with_two, column_of, comparison_pattern, compared_with, comparison_by, filter_sketch, is_constant, is_falling, negated, pattern_by, pattern_of, patterns_of, plain_column, sketch_of, sorted, sorted_by, flipped, with_constant}
 use Rattle.fx_core.specs.declared.functions.Form.TheVariants as form
 use Rattle.fx_core.specs.declared.functions.Fun.{Fun}
 use Rattle.fx_core.specs.declared.functions.Fun.TheVariants as fun
@@ -36,14 +36,14 @@ module _ (k : ℕ) where
   beside_falls t s f x y ds o es e = let m = some_map (λ (i : ℕ). with_constant (f i) y ds) (beside t k s x y) (o, es) e in kept (f m.0) y ds o es m.2
 
   compared_falls : (t : TableShape) (p : Option (Cmp × Scalar)) (x y : Term) (ds : List Term) (o : Outline) (es : List Term) →
-      compared t k p x y ds ≡ Some (o, es) → weight es ≤ weight ds + (suc (term_size x) + suc (term_size y))
+      comparison_pattern t k p x y ds ≡ Some (o, es) → weight es ≤ weight ds + (suc (term_size x) + suc (term_size y))
   compared_falls t None x y ds o es e = absurd cc
   compared_falls t (Some p) x y ds o es e = by (is_constant k y) e
     where
-      by : (b : Bool) → (if b then compared_with t k p.0 p.1 x y ds else compared_with t k (turned p.0) p.1 y x ds) ≡ Some (o, es) →
+      by : (b : Bool) → (if b then compared_with t k p.0 p.1 x y ds else compared_with t k (flipped p.0) p.1 y x ds) ≡ Some (o, es) →
           weight es ≤ weight ds + (suc (term_size x) + suc (term_size y))
       by true q = let h = beside_falls t p.1 (compares p.0) x y ds o es q in omega (arith, h)
-      by false q = let h = beside_falls t p.1 (compares (turned p.0)) y x ds o es q in omega (arith, h)
+      by false q = let h = beside_falls t p.1 (compares (flipped p.0)) y x ds o es q in omega (arith, h)
 
   pair_falls : (t : TableShape) (f : Fun) (x y : Term) (ds : List Term) (o : Outline) (es : List Term) →
       called_with_two t k f x y ds ≡ Some (o, es) → weight es ≤ weight ds + (suc (term_size x) + suc (term_size y))
@@ -63,7 +63,7 @@ module _ (k : ℕ) where
   single_falls t fun.IsBlank x ds o es e = bare (option_map is_blank (plain_column t k x)) ds o es e
   single_falls t f x ds o es e = absurd cc
 
-  call_falls : (t : TableShape) (f : Fun) (cs : Terms) (ds : List Term) (o : Outline) (es : List Term) → called t k f cs ds ≡ Some (o, es) → weight es ≤ weight ds + terms_size cs
+  call_falls : (t : TableShape) (f : Fun) (cs : Terms) (ds : List Term) (o : Outline) (es : List Term) → call_pattern t k f cs ds ≡ Some (o, es) → weight es ≤ weight ds + terms_size cs
   call_falls t f nil ds o es e = absurd cc
   call_falls t f (cons x nil) ds o es e = let h = single_falls t f x ds o es e in omega (arith, h)
   call_falls t f (cons x (cons y nil)) ds o es e = let h = pair_falls t f x y ds o es e in omega (arith, h)
@@ -110,11 +110,11 @@ module _ (k : ℕ) where
 
   -- ---- query expressions
 
-  filtered_falls : (ts : List TableShape) (cs : Terms) (s z : Sketch) → filtered ts k cs s ≡ Some z → weight z.constants ≤ weight s.constants + terms_size cs
+  filtered_falls : (ts : List TableShape) (cs : Terms) (s z : Sketch) → filter_sketch ts k cs s ≡ Some z → weight z.constants ≤ weight s.constants + terms_size cs
   filtered_falls ts cs s z e =
       let With : List Outline × List Term → Sketch = λ p. record s { test = all_of (outline_list p.0); constants = p.1 } in
-      let m = some_then (λ (t : TableShape). option_map With (behind (s.test ∷ []) (patterns_of t k cs s.constants))) (slice_get ts s.table) z e in
-      let p = some_map With (behind (s.test ∷ []) (patterns_of m.0 k cs s.constants)) z m.2 in
+      let m = some_then (λ (t : TableShape). option_map With (patterns_behind (s.test ∷ []) (patterns_of t k cs s.constants))) (slice_get ts s.table) z e in
+      let p = some_map With (patterns_behind (s.test ∷ []) (patterns_of m.0 k cs s.constants)) z m.2 in
       let b = some_map (in_front s.test) (patterns_of m.0 k cs s.constants) p.0 p.1 in
       let l = patterns_fall m.0 cs s.constants b.0.0 b.0.1 b.1 in
       let same : b.0.1 ≡ z.constants = ap (λ q. q.1) b.2 ∙ ap (λ (x : Sketch). x.constants) p.2 in
@@ -142,7 +142,7 @@ module _ (k : ℕ) where
       let same : [] ≡ s.constants = ap (λ (x : Sketch). x.constants) m.2 in
       subst (λ (y : List Term). weight y < 1) same (omega arith)
   constants_fall ts (of (top.over fun.Filter) (cons q cs)) s e =
-      let m = some_then (filtered ts k cs) (sketch_of ts k q) s e in
+      let m = some_then (filter_sketch ts k cs) (sketch_of ts k q) s e in
       let first = constants_fall ts q m.0 m.1 in
       let rest = filtered_falls ts cs m.0 s m.2 in
       omega (arith, first, rest)

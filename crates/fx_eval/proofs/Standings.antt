@@ -5,7 +5,7 @@ use Rattle.std.proofs.lemmas.List.{length-append}
 use Rattle.std.proofs.lemmas.Bool.Decides.{Decides-eqb}
 use Rattle.fx_types.specs.Types.{Shape, booleans}
 use Rattle.fx_eval.specs.Parts.{AreConditions, AreBranches, AreMatches, AreRecoveries, AreFine, IsFallback, IsSwitched, caught_in, terms_of}
-use Rattle.fx_env.specs.Scopes.{Held, Suits, IsReady, CanEvaluate}
+use Rattle.fx_env.specs.Scopes.{ScopeValues, Suits, IsTypedHere, CanEvaluate}
 use Rattle.fx_eval.proofs.Ready.{AreCalm, Lawfully, calm_parts, calm_rest, part_ready}
 use Rattle.fx_eval.proofs.CallHeads.{IsPlain}
 use Rattle.fx_semantics.specs.Sound.{AreLawfulTypings}
@@ -16,8 +16,8 @@ use Rattle.fx_core.specs.declared.rows.Takes.{Takes}
 use Rattle.fx_core.specs.declared.rows.Takes.TheVariants as takes
 use Rattle.fx_core.specs.declared.sources.Source.{Source}
 use Rattle.fx_core.specs.Rows.{form_row, takes_at, takes_count}
-use Rattle.fx_core.specs.Term.{Term, Terms, of, nil, cons, all, names_of, parts_of, Top, call, form, rec}
-use Rattle.fx_typing.specs.WellTyped.{Context, AreTyped, AllStand, Stands, Standing, plain, standing_at, standing_of, context_for, first_type, parts_count}
+use Rattle.fx_core.specs.Term.{Term, Terms, of, nil, cons, all, term_field_names, field_terms, Top, call, form, rec}
+use Rattle.fx_typing.specs.WellTyped.{Context, AreTyped, AllStand, Stands, PartScope, plain, standing_at, standing_of, context_for, first_type, parts_count}
 use Rattle.fx_typing.specs.Ways.{is_comparable}
 
 abbrev Types : Type 0
@@ -119,12 +119,12 @@ switch_plain n i =
 -- ---- parts
 
 -- a part of a form where the whole stands
-plain_part : (types : Types) (s : Held) (c : Context) (k : Takes) (done : List Shape) (t : Term) (ts : Terms) (u : Shape) → IsPlain k → Suits types s c →
-    Lawfully (context_for (standing_of k) c done) t u → AreCalm (cons t ts) → IsReady types s t u
+plain_part : (types : Types) (s : ScopeValues) (c : Context) (k : Takes) (done : List Shape) (t : Term) (ts : Terms) (u : Shape) → IsPlain k → Suits types s c →
+    Lawfully (context_for (standing_of k) c done) t u → AreCalm (cons t ts) → IsTypedHere types s t u
 plain_part types s c k done t ts u p f h q =
-    part_ready types s c t ts u f (subst (λ (z : Standing). Lawfully (context_for z c done) t u) p h) q
+    part_ready types s c t ts u f (subst (λ (z : PartScope). Lawfully (context_for z c done) t u) p h) q
 
-fallback_part : (types : Types) (s : Held) (c : Context) (k : Takes) (done : List Shape) (t : Term) (ts : Terms) (u : Shape) → k ≡ takes.Fallback → Suits types s c →
+fallback_part : (types : Types) (s : ScopeValues) (c : Context) (k : Takes) (done : List Shape) (t : Term) (ts : Terms) (u : Shape) → k ≡ takes.Fallback → Suits types s c →
     Lawfully (context_for (standing_of k) c done) t u → AreCalm (cons t ts) → IsFallback types s t
 fallback_part types s c k done t ts u p f h q = λ j cs. (
   u,
@@ -137,7 +137,7 @@ fallback_part types s c k done t ts u p f h q = λ j cs. (
 standing_there : (k j : Takes) (first common u : Shape) → k ≡ j → Stands k first common u → Stands j first common u
 standing_there k j first common u e h = subst (λ (z : Takes). Stands z first common u) e h
 
-conditions : (types : Types) (s : Held) (c : Context) (n m i : ℕ) (first common : Shape) → Suits types s c →
+conditions : (types : Types) (s : ScopeValues) (c : Context) (n m i : ℕ) (first common : Shape) → Suits types s c →
     (ts : List Term) (done us : List Shape) → (w : AreTyped c (form form.All) n done (all ts) us) → AreLawfulTypings c (form form.All) n done (all ts) us w →
     AllStand (form_row form.All) m i first common us → AreCalm (all ts) → AreConditions types s ts
 conditions types s c n m i first common f [] done us h l k q = tt
@@ -146,17 +146,17 @@ conditions types s c n m i first common f (t ∷ ts) done us h l k q =
     let is : h.0 ≡ booleans = standing_there (takes_at (form_row form.All) m i) Condition first common h.0 (condition_at m i) at.0 in
     let place = takes_at (form_row form.All) n (length done) in
     let plainly : IsPlain place = ap standing_of (condition_at n (length done)) in (
-      subst (IsReady types s t) is (plain_part types s c place done t (all ts) h.0 plainly f (h.3, l.0) q),
+      subst (IsTypedHere types s t) is (plain_part types s c place done t (all ts) h.0 plainly f (h.3, l.0) q),
       conditions types s c n m (suc i) first common f ts (done ++ h.0 ∷ []) h.1 h.4 l.1 at.1 (calm_rest t (all ts) q),
     )
 
-pub all_ready : (types : Types) (s : Held) (ts : List Term) → CanEvaluate types s (of (form form.All) (all ts)) → AreConditions types s ts
+pub all_ready : (types : Types) (s : ScopeValues) (ts : List Term) → CanEvaluate types s (of (form form.All) (all ts)) → AreConditions types s ts
 all_ready types s ts r =
     let h = r.1.typed in
     conditions types s r.1.context (parts_count (all ts)) (length h.0) 0 (first_type h.0) h.2.1 r.1.suits ts [] h.0 h.1 r.1.lawful.1 h.2.2
     (calm_parts types s (form form.All) (all ts) r.0 r.1)
 
-any_conditions : (types : Types) (s : Held) (c : Context) (n m i : ℕ) (first common : Shape) → Suits types s c →
+any_conditions : (types : Types) (s : ScopeValues) (c : Context) (n m i : ℕ) (first common : Shape) → Suits types s c →
     (ts : List Term) (done us : List Shape) → (w : AreTyped c (form form.Any) n done (all ts) us) → AreLawfulTypings c (form form.Any) n done (all ts) us w →
     AllStand (form_row form.Any) m i first common us → AreCalm (all ts) → AreConditions types s ts
 any_conditions types s c n m i first common f [] done us h l k q = tt
@@ -165,11 +165,11 @@ any_conditions types s c n m i first common f (t ∷ ts) done us h l k q =
     let is : h.0 ≡ booleans = standing_there (takes_at (form_row form.Any) m i) Condition first common h.0 (any_condition_at m i) at.0 in
     let place = takes_at (form_row form.Any) n (length done) in
     let plainly : IsPlain place = ap standing_of (any_condition_at n (length done)) in (
-      subst (IsReady types s t) is (plain_part types s c place done t (all ts) h.0 plainly f (h.3, l.0) q),
+      subst (IsTypedHere types s t) is (plain_part types s c place done t (all ts) h.0 plainly f (h.3, l.0) q),
       any_conditions types s c n m (suc i) first common f ts (done ++ h.0 ∷ []) h.1 h.4 l.1 at.1 (calm_rest t (all ts) q),
     )
 
-pub any_ready : (types : Types) (s : Held) (ts : List Term) → CanEvaluate types s (of (form form.Any) (all ts)) → AreConditions types s ts
+pub any_ready : (types : Types) (s : ScopeValues) (ts : List Term) → CanEvaluate types s (of (form form.Any) (all ts)) → AreConditions types s ts
 any_ready types s ts r =
     let h = r.1.typed in
     any_conditions types s r.1.context (parts_count (all ts)) (length h.0) 0 (first_type h.0) h.2.1 r.1.suits ts [] h.0 h.1 r.1.lawful.1 h.2.2
@@ -177,7 +177,7 @@ any_ready types s ts r =
 
 -- ---- If
 
-branches : (types : Types) (s : Held) (c : Context) (n m i : ℕ) (first common : Shape) → Suits types s c →
+branches : (types : Types) (s : ScopeValues) (c : Context) (n m i : ℕ) (first common : Shape) → Suits types s c →
     (ts : List Term) (done us : List Shape) → i % 2 ≡ 0 → m ≡ i + length us → (w : AreTyped c (form form.If) n done (all ts) us) → AreLawfulTypings c (form form.If) n done (all ts) us w →
     AllStand (form_row form.If) m i first common us → AreCalm (all ts) → AreBranches types s ts
 branches types s c n m i first common f [] done us p w h l k q = tt
@@ -192,12 +192,12 @@ branches types s c n m i first common f (t ∷ b ∷ ts) done us p w h l k q =
     let more : suc i ≢ m = λ z. omega arith in
     let is : h.0 ≡ booleans = standing_there (takes_at (form_row form.If) m i) Condition first common h.0 (if_condition m i p more) at.0 in
     let calm = calm_rest t (cons b (all ts)) q in (
-      subst (IsReady types s t) is (plain_part types s c (takes_at (form_row form.If) n (length done)) done t (cons b (all ts)) h.0 (if_plain n (length done)) f (h.3, l.0) q),
+      subst (IsTypedHere types s t) is (plain_part types s c (takes_at (form_row form.If) n (length done)) done t (cons b (all ts)) h.0 (if_plain n (length done)) f (h.3, l.0) q),
       (next.0, plain_part types s c (takes_at (form_row form.If) n (length before)) before b (all ts) next.0 (if_plain n (length before)) f (next.3, l.1.0) calm),
       branches types s c n m (suc (suc i)) first common f ts (before ++ next.0 ∷ []) next.1 (omega arith) (omega arith) next.4 l.1.1 at.1.1 (calm_rest b (all ts) calm),
     )
 
-pub if_ready : (types : Types) (s : Held) (ts : List Term) → CanEvaluate types s (of (form form.If) (all ts)) → AreBranches types s ts
+pub if_ready : (types : Types) (s : ScopeValues) (ts : List Term) → CanEvaluate types s (of (form form.If) (all ts)) → AreBranches types s ts
 if_ready types s ts r =
     let h = r.1.typed in
     branches types s r.1.context (parts_count (all ts)) (length h.0) 0 (first_type h.0) h.2.1 r.1.suits ts [] h.0 (omega arith) (omega arith) h.1 r.1.lawful.1 h.2.2
@@ -205,7 +205,7 @@ if_ready types s ts r =
 
 -- ---- Switch
 
-matches : (types : Types) (s : Held) (c : Context) (n m i : ℕ) (first common : Shape) → Suits types s c →
+matches : (types : Types) (s : ScopeValues) (c : Context) (n m i : ℕ) (first common : Shape) → Suits types s c →
     (ts : List Term) (done us : List Shape) → i % 2 ≡ 1 → m ≡ i + length us → (w : AreTyped c (form form.Switch) n done (all ts) us) → AreLawfulTypings c (form form.Switch) n done (all ts) us w →
     AllStand (form_row form.Switch) m i first common us → AreCalm (all ts) → AreMatches types s first ts
 matches types s c n m i first common f [] done us p w h l k q = tt
@@ -225,7 +225,7 @@ matches types s c n m i first common f (t ∷ b ∷ ts) done us p w h l k q =
       matches types s c n m (suc (suc i)) first common f ts (before ++ next.0 ∷ []) next.1 (omega arith) (omega arith) next.4 l.1.1 at.1.1 (calm_rest b (all ts) calm),
     )
 
-pub switch_ready : (types : Types) (s : Held) (ts : List Term) → CanEvaluate types s (of (form form.Switch) (all ts)) → IsSwitched types s ts
+pub switch_ready : (types : Types) (s : ScopeValues) (ts : List Term) → CanEvaluate types s (of (form form.Switch) (all ts)) → IsSwitched types s ts
 switch_ready types s [] r =
     let h = r.1.typed in
     let few : takes_count (form_row form.Switch) 0 ≡ true = subst (λ (us : List Shape). takes_count (form_row form.Switch) (length us) ≡ true) h.1 h.2.0 in
@@ -247,7 +247,7 @@ switch_ready types s (t ∷ ts) r =
 
 -- ---- IfError
 
-recoveries : (types : Types) (s : Held) (c : Context) (n : ℕ) → Suits types s c →
+recoveries : (types : Types) (s : ScopeValues) (c : Context) (n : ℕ) → Suits types s c →
     (ts : List Term) (done us : List Shape) → length done % 2 ≡ 0 → (w : AreTyped c (form form.IfError) n done (all ts) us) → AreLawfulTypings c (form form.IfError) n done (all ts) us w → AreCalm (all ts) → AreRecoveries types s ts
 recoveries types s c n f [] done us p h l q = tt
 recoveries types s c n f (t ∷ []) done us p h l q =
@@ -266,34 +266,34 @@ recoveries types s c n f (t ∷ b ∷ ts) done us p h l q =
       recoveries types s c n f ts (before ++ next.0 ∷ []) next.1 even next.4 l.1.1 (calm_rest b (all ts) calm),
     )
 
-pub recover_ready : (types : Types) (s : Held) (ts : List Term) → CanEvaluate types s (of (form form.IfError) (all ts)) → AreRecoveries types s ts
+pub recover_ready : (types : Types) (s : ScopeValues) (ts : List Term) → CanEvaluate types s (of (form form.IfError) (all ts)) → AreRecoveries types s ts
 recover_ready types s ts r =
     let h = r.1.typed in
     recoveries types s r.1.context (parts_count (all ts)) r.1.suits ts [] h.0 refl h.1 r.1.lawful.1 (calm_parts types s (form form.IfError) (all ts) r.0 r.1)
 
 -- ---- parts that all stand where the whole stands
 
-fine : (types : Types) (s : Held) (c : Context) (h : Top) (n : ℕ) → ((m i : ℕ) → standing_at h m i ≡ plain) → Suits types s c →
+fine : (types : Types) (s : ScopeValues) (c : Context) (h : Top) (n : ℕ) → ((m i : ℕ) → standing_at h m i ≡ plain) → Suits types s c →
     (ts : List Term) (done us : List Shape) → (w : AreTyped c h n done (all ts) us) → AreLawfulTypings c h n done (all ts) us w → AreCalm (all ts) → AreFine types s ts
 fine types s c h n p f [] done us k l q = tt
 fine types s c h n p f (t ∷ ts) done us k l q =
     let there : Lawfully (context_for (standing_at h n (length done)) c done) t k.0 = (k.3, l.0) in (
-      (k.0, part_ready types s c t (all ts) k.0 f (subst (λ (z : Standing). Lawfully (context_for z c done) t k.0) (p n (length done)) there) q),
+      (k.0, part_ready types s c t (all ts) k.0 f (subst (λ (z : PartScope). Lawfully (context_for z c done) t k.0) (p n (length done)) there) q),
       fine types s c h n p f ts (done ++ k.0 ∷ []) k.1 k.4 l.1 (calm_rest t (all ts) q),
     )
 
-pub parts_fine : (types : Types) (s : Held) (h : Top) (ts : List Term) → ((m i : ℕ) → standing_at h m i ≡ plain) → CanEvaluate types s (of h (all ts)) → AreFine types s ts
+pub parts_fine : (types : Types) (s : ScopeValues) (h : Top) (ts : List Term) → ((m i : ℕ) → standing_at h m i ≡ plain) → CanEvaluate types s (of h (all ts)) → AreFine types s ts
 parts_fine types s h ts p r =
     fine types s r.1.context h (parts_count (all ts)) p r.1.suits ts [] r.1.typed.0 r.1.typed.1 r.1.lawful.1 (calm_parts types s h (all ts) r.0 r.1)
 
-pub coalesce_ready : (types : Types) (s : Held) (ts : List Term) → CanEvaluate types s (of (call fun.Coalesce) (all ts)) → AreFine types s ts
+pub coalesce_ready : (types : Types) (s : ScopeValues) (ts : List Term) → CanEvaluate types s (of (call fun.Coalesce) (all ts)) → AreFine types s ts
 coalesce_ready types s ts r =
     parts_fine types s (call fun.Coalesce) ts (λ m i. ap standing_of (same_inner (nat_eq i 0) (nat_eq i 1) (nat_eq (i % 2) 0) takes.Choice)) r
 
-pub all_parts : (fs : List (List ℕ × Term)) → parts_of fs ≡ all (terms_of fs)
+pub all_parts : (fs : List (List ℕ × Term)) → field_terms fs ≡ all (terms_of fs)
 all_parts [] = refl
 all_parts (f ∷ fs) = ap (cons f.1) (all_parts fs)
 
-pub fields_ready : (types : Types) (s : Held) (fs : List (List ℕ × Term)) → CanEvaluate types s (of (rec (names_of fs)) (parts_of fs)) → AreFine types s (terms_of fs)
+pub fields_ready : (types : Types) (s : ScopeValues) (fs : List (List ℕ × Term)) → CanEvaluate types s (of (rec (term_field_names fs)) (field_terms fs)) → AreFine types s (terms_of fs)
 fields_ready types s fs r =
-    parts_fine types s (rec (names_of fs)) (terms_of fs) (λ m i. refl) (subst (λ (ts : Terms). CanEvaluate types s (of (rec (names_of fs)) ts)) (all_parts fs) r)
+    parts_fine types s (rec (term_field_names fs)) (terms_of fs) (λ m i. refl) (subst (λ (ts : Terms). CanEvaluate types s (of (rec (term_field_names fs)) ts)) (all_parts fs) r)

@@ -7,12 +7,12 @@ use Rattle.std.specs.List.{filter}
 use Rattle.std.proofs.lemmas.Bool.{eq-eqb}
 use Rattle.fx_types.specs.declared.comparisons.Cmp.{Cmp}
 use Rattle.fx_types.specs.Values.{Data, blank, fault, number, text, boolean, date, rec, tab}
-use Rattle.fx_eval.specs.Courses.{Going, Turning, answers, chooses, catches, goes, passes, coalesces, turned}
-use Rattle.fx_eval.specs.Visits.{AllVisit, AskedTables, Both, ConditionsVisit, ConstantsVisit, EachVisits, FormVisits, HeadVisits, InCondition, InQuery, IsUnasked, OnceOr, Part, PartVisits, PartsVisit, RowsVisit, TreeVisits, TurnVisits, UnlessError, Visiting, Visits, VisitsBy, VisitsByHead, begun, lies_in, part, parts, search_of}
+use Rattle.fx_eval.specs.Courses.{Going, Turning, answers, chooses, catches, goes, passes, coalesces, turned_by}
+use Rattle.fx_eval.specs.Visits.{AllVisit, AskedTables, Both, ConditionsVisit, ConstantsVisit, EachVisits, FormVisits, HeadVisits, InCondition, InQuery, IsUnasked, OnceOr, VisitPart, PartVisits, PartsVisit, RowsVisit, TreeVisits, TurnVisits, UnlessError, Visiting, Visits, VisitsBy, VisitsByHead, form_begun, lies_in, visit_part, parts, search_of}
 use Rattle.fx_plan.specs.declared.plans.Sketch.{Sketch}
-use Rattle.fx_plan.specs.Outlines.{Outline, always, flag, constant, compares, is_blank, starts, contains, all_of, any_of, opposite, outline_list, value_at}
-use Rattle.fx_plan.specs.QueryExpressions.{along, behind, beside, called, called_with_one, called_with_two, column_of, compared, compared_with, comparison_by, filtered, is_constant, is_falling, negated, pattern_by, pattern_of, patterns_of, plain_column, sketch_of, sorted, sorted_by, turned as changed_over, with_constant}
-use Rattle.fx_plan.specs.Settled.{as_value, by_head, condition_settled, conditions_settled, query_settled, under}
+use Rattle.fx_plan.specs.Outlines.{Outline, always, flag, constant, compares, is_blank, starts, contains, all_of, any_of, opposite, outline_list, constant_at}
+use Rattle.fx_plan.specs.QueryExpressions.{along, patterns_behind, beside, call_pattern, called_with_one, called_with_two, column_of, comparison_pattern, compared_with, comparison_by, filter_sketch, is_constant, is_falling, negated, pattern_by, pattern_of, patterns_of, plain_column, sketch_of, sorted, sorted_by, flipped as changed_over, with_constant}
+use Rattle.fx_plan.specs.Settled.{as_value, by_head, condition_settled, conditions_settled, query_settled, under_head}
 use Rattle.fx_plan.proofs.Placing.{column_typed, in_front, joined, plain_is, some_map, some_then}
 use Rattle.fx_semantics.specs.Around.{Around, record_of}
 use Rattle.fx_semantics.specs.Around.{catching as around_caught, inside as inside_of}
@@ -27,22 +27,22 @@ use Rattle.fx_core.specs.declared.schema.TableShape.{TableShape}
 use Rattle.fx_core.specs.declared.sources.Source.TheVariants as source
 use Rattle.fx_core.specs.Term.{Term, Terms, of, nil, cons, Top, all}
 use Rattle.fx_core.specs.Term as top
-use Rattle.fx_typing.specs.WellTyped.{Standing, inside, plain, bound, catching, standing_at}
+use Rattle.fx_typing.specs.WellTyped.{PartScope, inside, plain, bound, catching, standing_at}
 use Rattle.fx_value.specs.Columns.{Row as Fields}
 use Rattle.row_queries.specs.TableRows.{rows_at}
 
 -- ---- parts that visit nothing
 
 -- neither evaluating a part nor evaluating the constants in it visits any row
-pub record IsStill (P : Part) : Type 1 where
+pub record IsStill (P : VisitPart) : Type 1 where
   pub visits : (a : Around) (n : ℕ) → P.visits a n → n ≡ 0
   pub constants : (a : Around) (n : ℕ) → P.in_condition a n → n ≡ 0
 
-abbrev pub AllStill : List Part → Type 1
+abbrev pub AllStill : List VisitPart → Type 1
 AllStill [] = Unit {1}
 AllStill (P ∷ Ps) = IsStill P × AllStill Ps
 
-pub all_none : (Ps : List Part) → AllStill Ps → (a : Around) (n : ℕ) → AllVisit Ps a n → n ≡ 0
+pub all_none : (Ps : List VisitPart) → AllStill Ps → (a : Around) (n : ℕ) → AllVisit Ps a n → n ≡ 0
 all_none [] s a n h = h
 all_none (P ∷ Ps) s a n h =
     let p = s.0.visits a h.0 h.2 in
@@ -50,7 +50,7 @@ all_none (P ∷ Ps) s a n h =
     let e : n ≡ h.0 + h.1 = h.4 in
     omega (arith, p, q, e)
 
-pub conditions_none : (Ps : List Part) → AllStill Ps → (a : Around) (n : ℕ) → ConditionsVisit Ps a n → n ≡ 0
+pub conditions_none : (Ps : List VisitPart) → AllStill Ps → (a : Around) (n : ℕ) → ConditionsVisit Ps a n → n ≡ 0
 conditions_none [] s a n h = h
 conditions_none (P ∷ Ps) s a n h =
     let p = s.0.constants a h.0 h.2 in
@@ -66,13 +66,13 @@ each_none V v (r ∷ rows) a n h =
     let e : n ≡ h.0 + h.1 = h.4 in
     omega (arith, p, q, e)
 
-part_none : (x : Standing) (rows : List Fields) (P : Part) → IsStill P → (a : Around) (n : ℕ) → PartVisits x rows P a n → n ≡ 0
+part_none : (x : PartScope) (rows : List Fields) (P : VisitPart) → IsStill P → (a : Around) (n : ℕ) → PartVisits x rows P a n → n ≡ 0
 part_none inside rows P s a n h = each_none P.visits s.visits rows a n h
 part_none plain rows P s a n h = s.visits a n h
 part_none bound rows P s a n h = s.visits a n h
 part_none catching rows P s a n h = s.visits a n h
 
-pub parts_none : (f : Fun) (m i : ℕ) (rows : List Fields) (Ps : List Part) → AllStill Ps → (a : Around) (n : ℕ) → PartsVisit f m i rows Ps a n → n ≡ 0
+pub parts_none : (f : Fun) (m i : ℕ) (rows : List Fields) (Ps : List VisitPart) → AllStill Ps → (a : Around) (n : ℕ) → PartsVisit f m i rows Ps a n → n ≡ 0
 parts_none f m i rows [] s a n h = h
 parts_none f m i rows (P ∷ Ps) s a n h =
     let p = part_none (standing_at (top.over f) m i) rows P s.0 a h.0 h.2 in
@@ -90,14 +90,14 @@ unless_none (date z) P n f h = f n h
 unless_none (rec fs) P n f h = f n h
 unless_none (tab rs) P n f h = f n h
 
-turn_none : (x : Turning) (Ps : List Part) → AllStill Ps → (a : Around) (n : ℕ) → TurnVisits x Ps a n → n ≡ 0
+turn_none : (x : Turning) (Ps : List VisitPart) → AllStill Ps → (a : Around) (n : ℕ) → TurnVisits x Ps a n → n ≡ 0
 turn_none (answers d) Ps s a n h = h
 turn_none chooses (P ∷ Ps) s a n h = s.0.visits a n h
 turn_none (catches k cs) (P ∷ Ps) s a n h = s.0.visits (around_caught a k cs) n h
 turn_none (passes g) (P ∷ Ps) s a n h = turn_none (goes g) Ps s.1 a n h
 turn_none (goes g) (P ∷ Ps) s a n h =
     let p = s.0.visits a h.2.0 h.2.2 in
-    let q = turn_none (turned g h.0) Ps s.1 a h.2.1 h.2.3 in
+    let q = turn_none (turned_by g h.0) Ps s.1 a h.2.1 h.2.3 in
     let e : n ≡ h.2.0 + h.2.1 = h.2.4 in
     omega (arith, p, q, e)
 turn_none chooses [] s a n h = h
@@ -105,17 +105,17 @@ turn_none (catches k cs) [] s a n h = h
 turn_none (passes g) [] s a n h = h
 turn_none (goes g) [] s a n h = h
 
-form_none : (g : Going) (Ps : List Part) → AllStill Ps → (a : Around) (n : ℕ) → FormVisits g Ps a n → n ≡ 0
+form_none : (g : Going) (Ps : List VisitPart) → AllStill Ps → (a : Around) (n : ℕ) → FormVisits g Ps a n → n ≡ 0
 form_none g Ps s a n h = turn_none (goes g) Ps s a n h
 
 -- ---- trees that visit nothing
 
 -- a head whose parts visit nothing visits nothing, and makes no query expression
 pub record IsQuiet (w : AskedTables) (h : Top) : Type 1 where
-  pub visits : (Ps : List Part) → AllStill Ps → (a : Around) (n : ℕ) → HeadVisits w h Ps a n → n ≡ 0
+  pub visits : (Ps : List VisitPart) → AllStill Ps → (a : Around) (n : ℕ) → HeadVisits w h Ps a n → n ≡ 0
   pub unasked : (k : ℕ) (ts : Terms) → IsUnasked w.shapes k (of h ts)
 
-pub quiet_tree : (w : AskedTables) (h : Top) (ts : Terms) → IsQuiet w h → AllStill (parts w ts) → IsStill (part w (of h ts))
+pub quiet_tree : (w : AskedTables) (h : Top) (ts : Terms) → IsQuiet w h → AllStill (parts w ts) → IsStill (visit_part w (of h ts))
 quiet_tree w h ts q s = record { visits = visited; constants = λ a n c. once a n (is_constant (length a.rows) (of h ts)) c }
   where
     visited : (a : Around) (n : ℕ) → Visits w (of h ts) a n → n ≡ 0
@@ -130,15 +130,15 @@ quiet_tree w h ts q s = record { visits = visited; constants = λ a n c. once a 
     once a n false v = conditions_none (parts w ts) s a n v
 
 all_quiet : (w : AskedTables) → IsQuiet w (top.form form.All)
-all_quiet w = record { visits = λ Ps s a n h. form_none (begun form.All) Ps s a n h; unasked = λ k ts. (refl, refl) }
+all_quiet w = record { visits = λ Ps s a n h. form_none (form_begun form.All) Ps s a n h; unasked = λ k ts. (refl, refl) }
 
 any_quiet : (w : AskedTables) → IsQuiet w (top.form form.Any)
-any_quiet w = record { visits = λ Ps s a n h. form_none (begun form.Any) Ps s a n h; unasked = λ k ts. (refl, refl) }
+any_quiet w = record { visits = λ Ps s a n h. form_none (form_begun form.Any) Ps s a n h; unasked = λ k ts. (refl, refl) }
 
 call_quiet : (w : AskedTables) (f : Fun) → IsQuiet w (top.call f)
 call_quiet w f = record { visits = λ Ps s a n h. called_none f Ps s a n h; unasked = λ k ts. (refl, refl) }
   where
-    called_none : (g : Fun) (Ps : List Part) → AllStill Ps → (a : Around) (n : ℕ) → HeadVisits w (top.call g) Ps a n → n ≡ 0
+    called_none : (g : Fun) (Ps : List VisitPart) → AllStill Ps → (a : Around) (n : ℕ) → HeadVisits w (top.call g) Ps a n → n ≡ 0
     called_none fun.Coalesce Ps s a n h = form_none coalesces Ps s a n h
     called_none g Ps s a n h = all_none Ps s a n h
 
@@ -151,18 +151,18 @@ row_quiet w j = record { visits = λ Ps s a n h. all_none Ps s a n h; unasked = 
 const_quiet : (w : AskedTables) (d : Data) → IsQuiet w (top.const d)
 const_quiet w d = record { visits = λ Ps s a n h. all_none Ps s a n h; unasked = λ k ts. (refl, refl) }
 
-pub literal_still : (w : AskedTables) (d : Data) → IsStill (part w (as_value d))
+pub literal_still : (w : AskedTables) (d : Data) → IsStill (visit_part w (as_value d))
 literal_still w d = quiet_tree w (top.const d) nil (const_quiet w d) tt
 
 -- a column of a row
 abbrev column_by : ℕ → List ℕ → Term
 column_by k name = of (top.dot name) (cons (of (top.row k) nil) nil)
 
-pub column_still : (w : AskedTables) (t : TableShape) (k : ℕ) (x : Term) (i : ℕ) → plain_column t k x ≡ Some i → IsStill (part w x)
+pub column_still : (w : AskedTables) (t : TableShape) (k : ℕ) (x : Term) (i : ℕ) → plain_column t k x ≡ Some i → IsStill (visit_part w x)
 column_still w t k x i e =
     let c = plain_is t k x i e in
-    let row : IsStill (part w (of (top.row k) nil)) = quiet_tree w (top.row k) nil (row_quiet w k) tt in
-    subst (λ (z : Term). IsStill (part w z)) (sym c.is) (quiet_tree w (top.dot c.name) (cons (of (top.row k) nil) nil) (dot_quiet w c.name) (row, tt))
+    let row : IsStill (visit_part w (of (top.row k) nil)) = quiet_tree w (top.row k) nil (row_quiet w k) tt in
+    subst (λ (z : Term). IsStill (visit_part w z)) (sym c.is) (quiet_tree w (top.dot c.name) (cons (of (top.row k) nil) nil) (dot_quiet w c.name) (row, tt))
 
 -- evaluating it is no visit, wherever it stands
 pub column_visits : (w : AskedTables) (t : TableShape) (k : ℕ) (x : Term) (i : ℕ) → plain_column t k x ≡ Some i → (a : Around) → Visits w x a 0
@@ -216,7 +216,7 @@ module _ (w : AskedTables) (k : ℕ) where
     pub more : List Term
     pub is : ds ++ more ≡ es
     pub adds : (a : Around) (n : ℕ) → length a.rows ≡ k → AllVisit (parts w (all more)) (inside_of a blank) n → InCondition w x a n
-    pub still : (vs : List Data) (i : ℕ) → IsStill (part w ((condition_settled k vs x i).0))
+    pub still : (vs : List Data) (i : ℕ) → IsStill (visit_part w ((condition_settled k vs x i).0))
 
   pub record AreConditions (xs : Terms) (ds es : List Term) : Type 1 where
     pub more : List Term
@@ -236,13 +236,13 @@ module _ (w : AskedTables) (k : ℕ) where
         subst (λ (b : Bool). OnceOr b (TreeVisits w h cs (parts w cs) (inside_of a blank)) (ConditionsVisit (parts w cs) a) n) (sym once)
         (subst (λ (z : ℕ). TreeVisits w h cs (parts w cs) (inside_of a blank) z) same m.2);
     still = λ vs i.
-        subst (λ (p : Term × ℕ). IsStill (part w (p.0)))
-        (sym (if_true (is_constant k (of h cs)) (as_value (value_at vs i), suc i) (by_head h cs i (conditions_settled k vs cs i)) c))
-        (literal_still w (value_at vs i));
+        subst (λ (p : Term × ℕ). IsStill (visit_part w (p.0)))
+        (sym (if_true (is_constant k (of h cs)) (as_value (constant_at vs i), suc i) (by_head h cs i (conditions_settled k vs cs i)) c))
+        (literal_still w (constant_at vs i));
   }
 
   -- what isn't a constant, and stays as it is or settles its parts
-  other_is : (h : Top) (cs : Terms) (ds es : List Term) → is_constant k (of h cs) ≡ false → IsQuiet w h → ((i : ℕ) (p : Terms × ℕ) → by_head h cs i p ≡ under h p) → AreConditions cs ds es →
+  other_is : (h : Top) (cs : Terms) (ds es : List Term) → is_constant k (of h cs) ≡ false → IsQuiet w h → ((i : ℕ) (p : Terms × ℕ) → by_head h cs i p ≡ under_head h p) → AreConditions cs ds es →
       IsCondition (of h cs) ds es
   other_is h cs ds es c quiet heads parts_are = record {
     more = parts_are.more;
@@ -251,8 +251,8 @@ module _ (w : AskedTables) (k : ℕ) where
         let once : is_constant (length a.rows) (of h cs) ≡ false = ap (λ j. is_constant j (of h cs)) l ∙ c in
         subst (λ (b : Bool). OnceOr b (TreeVisits w h cs (parts w cs) (inside_of a blank)) (ConditionsVisit (parts w cs) a) n) (sym once) (parts_are.adds a n l m);
     still = λ vs i.
-        subst (λ (p : Term × ℕ). IsStill (part w (p.0)))
-        (sym (if_false (is_constant k (of h cs)) (as_value (value_at vs i), suc i) (by_head h cs i (conditions_settled k vs cs i)) c ∙ heads i (conditions_settled k vs cs i)))
+        subst (λ (p : Term × ℕ). IsStill (visit_part w (p.0)))
+        (sym (if_false (is_constant k (of h cs)) (as_value (constant_at vs i), suc i) (by_head h cs i (conditions_settled k vs cs i)) c ∙ heads i (conditions_settled k vs cs i)))
         (quiet_tree w h ((conditions_settled k vs cs i).0) quiet (parts_are.still vs i));
   }
 
@@ -272,14 +272,14 @@ module _ (w : AskedTables) (k : ℕ) where
   column_part t x i e vs j =
       let c = plain_is t k x i e in
       subst (λ (y : Term). condition_settled k vs y j ≡ (y, j)) (sym c.is)
-      (if_false (is_constant k (column_by k c.name)) (as_value (value_at vs j), suc j) (column_by k c.name, j) (column_is_none k c.name))
+      (if_false (is_constant k (column_by k c.name)) (as_value (constant_at vs j), suc j) (column_by k c.name, j) (column_is_none k c.name))
 
   pub column_is : (t : TableShape) (x : Term) (i : ℕ) (ds : List Term) → plain_column t k x ≡ Some i → IsCondition x ds ds
   column_is t x i ds e = record {
     more = [];
     is = nothing_behind ds;
     adds = λ a n l m. subst (λ (z : ℕ). InCondition w x a z) (sym m) (column_once t x i e a l);
-    still = λ vs j. subst (λ (p : Term × ℕ). IsStill (part w (p.0))) (sym (column_part t x i e vs j)) (column_still w t k x i e);
+    still = λ vs j. subst (λ (p : Term × ℕ). IsStill (visit_part w (p.0))) (sym (column_part t x i e vs j)) (column_still w t k x i e);
   }
 
   pub none_are : (ds : List Term) → AreConditions nil ds ds
@@ -322,7 +322,7 @@ module _ (w : AskedTables) (k : ℕ) where
       let q = beside_is t s y x m.0 m.1 in
       two_are x y ds es es (constant_is x ds es q.0 (ap (λ (p : Outline × List Term). p.1) m.2)) (column_is t y m.0 es q.1)
 
-  compared_are : (t : TableShape) (p : Option (Cmp × Scalar)) (x y : Term) (ds : List Term) (o : Outline) (es : List Term) → compared t k p x y ds ≡ Some (o, es) →
+  compared_are : (t : TableShape) (p : Option (Cmp × Scalar)) (x y : Term) (ds : List Term) (o : Outline) (es : List Term) → comparison_pattern t k p x y ds ≡ Some (o, es) →
       AreConditions (cons x (cons y nil)) ds es
   compared_are t None x y ds o es e = absurd cc
   compared_are t (Some p) x y ds o es e = by (is_constant k y) e
@@ -350,7 +350,7 @@ module _ (w : AskedTables) (k : ℕ) where
       subst (λ (zs : List Term). AreConditions (cons x nil) ds zs) m.2 (more_are x nil ds ds ds (column_is t x m.0 ds m.1) (none_are ds))
   single_are t f x ds o es e = absurd cc
 
-  call_are : (t : TableShape) (f : Fun) (cs : Terms) (ds : List Term) (o : Outline) (es : List Term) → called t k f cs ds ≡ Some (o, es) → AreConditions cs ds es
+  call_are : (t : TableShape) (f : Fun) (cs : Terms) (ds : List Term) (o : Outline) (es : List Term) → call_pattern t k f cs ds ≡ Some (o, es) → AreConditions cs ds es
   call_are t f nil ds o es e = absurd cc
   call_are t f (cons x nil) ds o es e = single_are t f x ds o es e
   call_are t f (cons x (cons y nil)) ds o es e = pair_are t f x y ds o es e
@@ -406,11 +406,11 @@ base (of (top.read (source.Table n)) nil) = Some n
 base (of (top.over f) (cons q cs)) = base q
 base t = None
 
-filtered_table : (ts : List TableShape) (k : ℕ) (cs : Terms) (s z : Sketch) → filtered ts k cs s ≡ Some z → s.table ≡ z.table
+filtered_table : (ts : List TableShape) (k : ℕ) (cs : Terms) (s z : Sketch) → filter_sketch ts k cs s ≡ Some z → s.table ≡ z.table
 filtered_table ts k cs s z e =
     let With : List Outline × List Term → Sketch = λ p. record s { test = all_of (outline_list p.0); constants = p.1 } in
-    let m = some_then (λ (t : TableShape). option_map With (behind (s.test ∷ []) (patterns_of t k cs s.constants))) (slice_get ts s.table) z e in
-    let p = some_map With (behind (s.test ∷ []) (patterns_of m.0 k cs s.constants)) z m.2 in
+    let m = some_then (λ (t : TableShape). option_map With (patterns_behind (s.test ∷ []) (patterns_of t k cs s.constants))) (slice_get ts s.table) z e in
+    let p = some_map With (patterns_behind (s.test ∷ []) (patterns_of m.0 k cs s.constants)) z m.2 in
     ap (λ (x : Sketch). x.table) p.2
 
 -- rows that are sorted are those of a table by a plain column of it
@@ -443,7 +443,7 @@ sketch_base ts k (of (top.read (source.Table t)) nil) s e =
     let m = some_map (λ (u : TableShape). record { table = t; test = always; order = None; constants = [] }) (slice_get ts t) s e in
     ap (λ (x : Sketch). Some x.table) m.2
 sketch_base ts k (of (top.over fun.Filter) (cons q cs)) s e =
-    let m = some_then (filtered ts k cs) (sketch_of ts k q) s e in
+    let m = some_then (filter_sketch ts k cs) (sketch_of ts k q) s e in
     sketch_base ts k q m.0 m.1 ∙ ap Some (filtered_table ts k cs m.0 s m.2)
 sketch_base ts k (of (top.over (fun.Sort o)) (cons q cs)) s e =
     let m = some_then (sorted ts k o cs) (sketch_of ts k q) s e in
@@ -487,14 +487,14 @@ module _ (w : AskedTables) where
   table_scan : (m : ℕ) → IsScanOf (of (top.read (source.Table m)) nil) m
   table_scan m = record { based = refl; unsought = λ k. refl; still = λ a n h. h; few = λ a n h. let same : n ≡ length (rows_at w.rows m) = h in omega (arith, same) }
 
-  pub rows_few : (f : Fun) (q : Term) (cs : Terms) (m : ℕ) → IsScanOf q m → AllStill (parts w cs) → (a : Around) (n : ℕ) → RowsVisit f (part w q ∷ parts w cs) a n → n ≤ length (rows_at w.rows m)
+  pub rows_few : (f : Fun) (q : Term) (cs : Terms) (m : ℕ) → IsScanOf q m → AllStill (parts w cs) → (a : Around) (n : ℕ) → RowsVisit f (visit_part w q ∷ parts w cs) a n → n ≤ length (rows_at w.rows m)
   rows_few f q cs m i s a n h =
       let few = scan_few q m i a h.2.0 h.2.2 in
       let none = unless_none h.0 (PartsVisit f (suc (length (parts w cs))) 1 (rows_in h.0) (parts w cs) a) h.2.1 (λ k x. parts_none f (suc (length (parts w cs))) 1 (rows_in h.0) (parts w cs) s a k x) h.2.3 in
       let e : n ≡ h.2.0 + h.2.1 = h.2.4 in
       omega (arith, few, none, e)
 
-  over_still : (q : Term) (cs : Terms) (m : ℕ) → IsScanOf q m → AllStill (parts w cs) → (a : Around) (n : ℕ) → ConstantsVisit (part w q ∷ parts w cs) a n → n ≡ 0
+  over_still : (q : Term) (cs : Terms) (m : ℕ) → IsScanOf q m → AllStill (parts w cs) → (a : Around) (n : ℕ) → ConstantsVisit (visit_part w q ∷ parts w cs) a n → n ≡ 0
   over_still q cs m i s a n h =
       let p = i.still a h.0 h.2 in
       let r = conditions_none (parts w cs) s a h.1 h.3 in
@@ -513,11 +513,11 @@ module _ (w : AskedTables) where
     pub adds : (a : Around) (n : ℕ) → length a.rows ≡ k → AllVisit (parts w (all s.constants)) (inside_of a blank) n → InQuery w q a n
     pub scan : (vs : List Data) → IsScanOf ((query_settled k vs q).0) s.table
 
-  filtered_query : (k : ℕ) (q : Term) (cs : Terms) (s z : Sketch) → IsQueryOf k q s → filtered w.shapes k cs s ≡ Some z → IsQueryOf k (of (top.over fun.Filter) (cons q cs)) z
+  filtered_query : (k : ℕ) (q : Term) (cs : Terms) (s z : Sketch) → IsQueryOf k q s → filter_sketch w.shapes k cs s ≡ Some z → IsQueryOf k (of (top.over fun.Filter) (cons q cs)) z
   filtered_query k q cs s z i e =
       let With : List Outline × List Term → Sketch = λ p. record s { test = all_of (outline_list p.0); constants = p.1 } in
-      let m = some_then (λ (t : TableShape). option_map With (behind (s.test ∷ []) (patterns_of t k cs s.constants))) (slice_get w.shapes s.table) z e in
-      let p = some_map With (behind (s.test ∷ []) (patterns_of m.0 k cs s.constants)) z m.2 in
+      let m = some_then (λ (t : TableShape). option_map With (patterns_behind (s.test ∷ []) (patterns_of t k cs s.constants))) (slice_get w.shapes s.table) z e in
+      let p = some_map With (patterns_behind (s.test ∷ []) (patterns_of m.0 k cs s.constants)) z m.2 in
       let b = some_map (in_front s.test) (patterns_of m.0 k cs s.constants) p.0 p.1 in
       let c = patterns_are w k m.0 cs s.constants b.0.0 b.0.1 b.1 in
       let same : s.constants ++ c.more ≡ z.constants = c.is ∙ ap (λ q. q.1) b.2 ∙ ap (λ (x : Sketch). x.constants) p.2 in
@@ -550,7 +550,7 @@ module _ (w : AskedTables) where
       let m = some_map (λ (u : TableShape). record { table = t; test = always; order = None; constants = [] }) (slice_get w.shapes t) s e in
       subst (λ (z : Sketch). IsQueryOf k (of (top.read (source.Table t)) nil) z) m.2 (record { adds = λ a n l h. h; scan = λ vs. table_scan t })
   query_is k (of (top.over fun.Filter) (cons q cs)) s e =
-      let m = some_then (filtered w.shapes k cs) (sketch_of w.shapes k q) s e in
+      let m = some_then (filter_sketch w.shapes k cs) (sketch_of w.shapes k q) s e in
       filtered_query k q cs m.0 s (query_is k q m.0 m.1) m.2
   query_is k (of (top.over (fun.Sort o)) (cons q cs)) s e =
       let m = some_then (sorted w.shapes k o cs) (sketch_of w.shapes k q) s e in
@@ -566,11 +566,11 @@ module _ (w : AskedTables) where
 
   pub filter_is : (k : ℕ) (q : Term) (cs : Terms) (z : Sketch) → sketch_of w.shapes k (of (top.over fun.Filter) (cons q cs)) ≡ Some z → IsFilterOf k q cs z
   filter_is k q cs z e =
-      let m = some_then (filtered w.shapes k cs) (sketch_of w.shapes k q) z e in
+      let m = some_then (filter_sketch w.shapes k cs) (sketch_of w.shapes k q) z e in
       let s = m.0 in
       let With : List Outline × List Term → Sketch = λ p. record s { test = all_of (outline_list p.0); constants = p.1 } in
-      let n = some_then (λ (t : TableShape). option_map With (behind (s.test ∷ []) (patterns_of t k cs s.constants))) (slice_get w.shapes s.table) z m.2 in
-      let p = some_map With (behind (s.test ∷ []) (patterns_of n.0 k cs s.constants)) z n.2 in
+      let n = some_then (λ (t : TableShape). option_map With (patterns_behind (s.test ∷ []) (patterns_of t k cs s.constants))) (slice_get w.shapes s.table) z m.2 in
+      let p = some_map With (patterns_behind (s.test ∷ []) (patterns_of n.0 k cs s.constants)) z n.2 in
       let b = some_map (in_front s.test) (patterns_of n.0 k cs s.constants) p.0 p.1 in
       record { inner = s; sketched = m.1; table = filtered_table w.shapes k cs s z m.2; still = (patterns_are w k n.0 cs s.constants b.0.0 b.0.1 b.1).still }
 
@@ -580,7 +580,7 @@ table_there ts k (of (top.read (source.Table t)) nil) s e =
     let m = some_map (λ (u : TableShape). record { table = t; test = always; order = None; constants = [] }) (slice_get ts t) s e in
     (m.0, subst (λ (x : Sketch). slice_get ts x.table ≡ Some m.0) m.2 m.1)
 table_there ts k (of (top.over fun.Filter) (cons q cs)) s e =
-    let m = some_then (filtered ts k cs) (sketch_of ts k q) s e in
+    let m = some_then (filter_sketch ts k cs) (sketch_of ts k q) s e in
     let t = table_there ts k q m.0 m.1 in
     (t.0, subst (λ (j : ℕ). slice_get ts j ≡ Some t.0) (filtered_table ts k cs m.0 s m.2) t.1)
 table_there ts k (of (top.over (fun.Sort o)) (cons q cs)) s e =

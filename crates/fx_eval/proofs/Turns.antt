@@ -8,7 +8,7 @@ use Rattle.fx_types.specs.ValueView.{view}
 use Rattle.fx_types.specs.declared.values.Value.{Value}
 use Rattle.fx_types.specs.declared.values.Value.TheVariants.{Boolean}
 use Rattle.fx_tables.proofs.FirstErrors.{found_passes}
-use Rattle.fx_eval.specs.Given.{Given, each, given}
+use Rattle.fx_eval.specs.Given.{ArgumentValues, each, argument_values}
 use Rattle.fx_eval.specs.TableCalls.{AreFor, AreFormulas, verdicts_behind, with_condition}
 use Rattle.fx_eval.specs.declared.answers.Answers.{Answers}
 use Rattle.fx_value.specs.Columns.{Row}
@@ -16,7 +16,7 @@ use Rattle.fx_tables.specs.Unions.{fault_or, is_fault}
 use Rattle.fx_value.proofs.JoinSteps.{left}
 
 -- ---- names
-some_is : (g h : Given) → Some g ≡ Some h → g ≡ h
+some_is : (g h : ArgumentValues) → Some g ≡ Some h → g ≡ h
 some_is g h e = cc
 
 -- ---- conditions
@@ -30,21 +30,21 @@ condition_many (v ∷ vs) (c ∷ cs) e = let q : length cs ≡ length vs = omega
 condition_many [] (c ∷ cs) e = absurd cc
 condition_many (v ∷ vs) [] e = absurd cc
 
-pub next_formula : (n : ℕ) (left rest : List Answers) (x : Answers) → left ≡ x ∷ rest → AreFormulas n (map given left) → AreFormulas n (given x ∷ map given rest)
-next_formula n left rest x e h = let P : List Answers → Type 0 = λ zs. AreFormulas n (map given zs) in subst P e h
+pub next_formula : (n : ℕ) (left rest : List Answers) (x : Answers) → left ≡ x ∷ rest → AreFormulas n (map argument_values left) → AreFormulas n (argument_values x ∷ map argument_values rest)
+next_formula n left rest x e h = let P : List Answers → Type 0 = λ zs. AreFormulas n (map argument_values zs) in subst P e h
 
-pub for_many : (n : ℕ) (g : Given) (vs : List Value) → Some g ≡ Some (each (map view vs)) → AreFor n g → length vs ≡ n
+pub for_many : (n : ℕ) (g : ArgumentValues) (vs : List Value) → Some g ≡ Some (each (map view vs)) → AreFor n g → length vs ≡ n
 for_many n g vs e h =
-    let P : Given → Type 0 = λ z. AreFor n z in
+    let P : ArgumentValues → Type 0 = λ z. AreFor n z in
     sym (length-map vs view) ∙ subst P (some_is g (each (map view vs)) e) h
 
-pub verdict_step : (all vs : List Data) (left rest : List Answers) (x : Answers) (ds ws : List Data) → left ≡ x ∷ rest → Some (given x) ≡ Some (each ds) → ws ≡ with_condition vs ds →
-    verdicts_behind vs (map given left) ≡ all → verdicts_behind ws (map given rest) ≡ all
+pub verdict_step : (all vs : List Data) (left rest : List Answers) (x : Answers) (ds ws : List Data) → left ≡ x ∷ rest → Some (argument_values x) ≡ Some (each ds) → ws ≡ with_condition vs ds →
+    verdicts_behind vs (map argument_values left) ≡ all → verdicts_behind ws (map argument_values rest) ≡ all
 verdict_step all vs left rest x ds ws e g m h =
-    let P : List Answers → Type 0 = λ zs. verdicts_behind vs (map given zs) ≡ all in
-    let Q : Given → Type 0 = λ z. verdicts_behind vs (z ∷ map given rest) ≡ all in
-    let R : List Data → Type 0 = λ z. verdicts_behind z (map given rest) ≡ all in
-    subst R (sym m) (subst Q (some_is (given x) (each ds) g) (subst P e h))
+    let P : List Answers → Type 0 = λ zs. verdicts_behind vs (map argument_values zs) ≡ all in
+    let Q : ArgumentValues → Type 0 = λ z. verdicts_behind vs (z ∷ map argument_values rest) ≡ all in
+    let R : List Data → Type 0 = λ z. verdicts_behind z (map argument_values rest) ≡ all in
+    subst R (sym m) (subst Q (some_is (argument_values x) (each ds) g) (subst P e h))
 
 -- ---- what is found
 pub no_error_found : (ds : List Data) (b : Bool) (v d : Data) → v ≡ fault_or ds (boolean b) → is_fault v ≡ false → d ≡ fault_or ds d

@@ -7,7 +7,7 @@ use Rattle.fx_types.specs.Values.{Data}
 use Rattle.fx_types.specs.ValueView.{fields_view, view}
 use Rattle.fx_eval.proofs.Fields.{filled_more}
 use Rattle.fx_eval.specs.Parts.{AreFilled, AreFine, terms_of}
-use Rattle.fx_env.specs.Scopes.{CanEvaluate, Held}
+use Rattle.fx_env.specs.Scopes.{CanEvaluate, ScopeValues}
 use Rattle.fx_core.specs.declared.sources.Source.{Source}
 use Rattle.fx_semantics.specs.Around.{Around, AreValues}
 use Rattle.fx_semantics.specs.Fresh.{IsValue, meanings}
@@ -40,12 +40,12 @@ filled_step a fs i f xs ys n v l e h g m k =
     (subst (λ ds. AreFilled (take i fs ++ f ∷ []) a ds) (sym all_of) (filled_more a (take i fs) f (fields_view xs) (n, view v) h m k))
 
 -- each part is ready
-pub part_fine : (types : Source → Option Shape) (s : Held) (ts : List Term) (i : ℕ) (t : Term) → AreFine types s ts → i < length ts → t ≡ get_or ts i t → CanEvaluate types s t
+pub part_fine : (types : Source → Option Shape) (s : ScopeValues) (ts : List Term) (i : ℕ) (t : Term) → AreFine types s ts → i < length ts → t ≡ get_or ts i t → CanEvaluate types s t
 part_fine types s [] i t h l e = absurd (omega arith)
 part_fine types s (u ∷ ts) zero t h l e = subst (CanEvaluate types s) (sym e) h.0
 part_fine types s (u ∷ ts) (suc i) t h l e = part_fine types s ts i t h.1 (omega arith) e
 
-pub field_fine : (types : Source → Option Shape) (s : Held) (fs : List (List ℕ × Term)) (i : ℕ) (f : List ℕ × Term) → AreFine types s (terms_of fs) → i < length fs → f ≡ get_or fs i f →
+pub field_fine : (types : Source → Option Shape) (s : ScopeValues) (fs : List (List ℕ × Term)) (i : ℕ) (f : List ℕ × Term) → AreFine types s (terms_of fs) → i < length fs → f ≡ get_or fs i f →
     CanEvaluate types s f.1
 field_fine types s [] i f h l e = absurd (omega arith)
 field_fine types s (g ∷ fs) zero f h l e = subst (λ (z : List ℕ × Term). CanEvaluate types s z.1) (sym e) h.0

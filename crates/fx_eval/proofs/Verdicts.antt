@@ -2,9 +2,9 @@
 use Rattle.std.proofs.Common.{◌≡◌, ℕ, List, [], ◌∷◌, map, true, false, refl, sym, ap, ◌∙◌}
 use Rattle.fx_types.specs.Values.{Data, boolean, fault}
 use Rattle.fx_semantics.specs.Around.{Around, Meaning, AreEach, AreValues, inside, record_of}
-use Rattle.fx_semantics.specs.Rows.{IsVerdict}
+use Rattle.fx_semantics.specs.Rows.{IsConjunction}
 use Rattle.fx_tables.specs.RowCalls.{verdict_of}
-use Rattle.fx_eval.specs.Given.{Given, once, each}
+use Rattle.fx_eval.specs.Given.{ArgumentValues, once, each}
 use Rattle.fx_eval.specs.TableCalls.{AreFormulas, verdicts, verdicts_behind, with_condition}
 use Rattle.fx_eval.proofs.Parts.{AreOf}
 use Rattle.fx_value.specs.Columns.{Row}
@@ -34,7 +34,7 @@ both_are Q C a [] [] (d ∷ ds) h k = absurd k
 both_are Q C a (r ∷ rows) [] ds h k = absurd h
 both_are Q C a (r ∷ rows) (v ∷ vs) [] h k = absurd k
 
-all_are : (n : ℕ) (Q : Meaning) (Cs : List Meaning) (a : Around) (rows : List Row) (vs : List Data) (gs : List Given) → AreEach Q a rows vs → AreOf Cs a rows gs → AreFormulas n gs →
+all_are : (n : ℕ) (Q : Meaning) (Cs : List Meaning) (a : Around) (rows : List Row) (vs : List Data) (gs : List ArgumentValues) → AreEach Q a rows vs → AreOf Cs a rows gs → AreFormulas n gs →
     AreEach (AllJoined Q Cs) a rows (verdicts_behind vs gs)
 all_are n Q [] a rows vs [] h k f = h
 all_are n Q (C ∷ Cs) a rows vs (each ds ∷ gs) h k f = all_are n (Both Q C) Cs a rows (with_condition vs ds) gs (both_are Q C a rows vs ds h k.0) k.1 f.1
@@ -58,17 +58,17 @@ truths_are : (a : Around) (rows : List Row) → AreEach IsTruth a rows (map (λ 
 truths_are a [] = tt
 truths_are a (r ∷ rows) = (refl, truths_are a rows)
 
-one_verdict : (Cs : List Meaning) (a : Around) (v : Data) → AllJoined IsTruth Cs a v → IsVerdict Cs a v
+one_verdict : (Cs : List Meaning) (a : Around) (v : Data) → AllJoined IsTruth Cs a v → IsConjunction Cs a v
 one_verdict Cs a v h =
     let k = joined IsTruth Cs a v (λ q p. ap (λ z. verdict_of (z ∷ [])) p ∙ sym p) h in
     (k.2, k.3, k.4 ∙ ap (λ z. verdict_of (z ∷ k.2)) k.1)
 
-each_verdict : (Cs : List Meaning) (a : Around) (rows : List Row) (vs : List Data) → AreEach (AllJoined IsTruth Cs) a rows vs → AreEach (IsVerdict Cs) a rows vs
+each_verdict : (Cs : List Meaning) (a : Around) (rows : List Row) (vs : List Data) → AreEach (AllJoined IsTruth Cs) a rows vs → AreEach (IsConjunction Cs) a rows vs
 each_verdict Cs a [] [] h = tt
 each_verdict Cs a (r ∷ rows) (v ∷ vs) h = (one_verdict Cs (inside a (record_of r)) v h.0, each_verdict Cs a rows vs h.1)
 each_verdict Cs a [] (v ∷ vs) h = absurd h
 each_verdict Cs a (r ∷ rows) [] h = absurd h
 
-pub verdicts_are : (n : ℕ) (Cs : List Meaning) (a : Around) (rows : List Row) (gs : List Given) → AreOf Cs a rows gs → AreFormulas n gs → AreEach (IsVerdict Cs) a rows (verdicts rows gs)
+pub verdicts_are : (n : ℕ) (Cs : List Meaning) (a : Around) (rows : List Row) (gs : List ArgumentValues) → AreOf Cs a rows gs → AreFormulas n gs → AreEach (IsConjunction Cs) a rows (verdicts rows gs)
 verdicts_are n Cs a rows gs k f =
     each_verdict Cs a rows (verdicts rows gs) (all_are n IsTruth Cs a rows (map (λ (r : Row). boolean true) rows) gs (truths_are a rows) k f)

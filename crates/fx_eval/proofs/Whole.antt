@@ -15,12 +15,12 @@ use Rattle.fx_core.specs.Rows.{row_of, takes_at, takes_count}
 use Rattle.fx_core.specs.declared.functions.Fun.{Fun}
 use Rattle.fx_core.specs.declared.functions.Fun.TheVariants as fun
 use Rattle.fx_core.specs.declared.sources.Source.{Source}
-use Rattle.fx_eval.specs.Given.{Given, AreGiven}
+use Rattle.fx_eval.specs.Given.{ArgumentValues, AreGiven}
 use Rattle.fx_eval.specs.TableCalls.{CanMake}
 use Rattle.fx_eval.proofs.Places.{table_plain}
 use Rattle.fx_eval.proofs.ReadyCalls.{can_make}
 use Rattle.fx_core.specs.Term.{Term, Terms, of, cons, over}
-use Rattle.fx_typing.specs.WellTyped.{AllStand, Context, IsRuled, IsTyped, Standing, Stands, answered, context_for, head_of, paired, parts_count}
+use Rattle.fx_typing.specs.WellTyped.{AllStand, Context, IsRuled, IsTyped, PartScope, Stands, answered_type, context_for, head_of, typed_pairs, parts_count}
 use Rattle.fx_value.proofs.Unions.{Rises}
 
 -- a call over a table has a table first
@@ -51,20 +51,20 @@ first_table f e m common u h = absurd cc
 -- a call whose table has this type takes what its parts give
 abbrev Takes : Giving → Context → List Data → Option Data → Option Fault → Fun → Shape → Type 0
 Takes g c rows item caught f u =
-    (n m : ℕ) (t0 : Term) (ts : Terms) (us : List Shape) (common t : Shape) (d : Data) (gs : List Given) →
+    (n m : ℕ) (t0 : Term) (ts : Terms) (us : List Shape) (common t : Shape) (d : Data) (gs : List ArgumentValues) →
     AllHold g c (over f) n [] (meaning t0 ∷ meanings ts) (u ∷ us) → takes_count (row_of f) (length (u ∷ us)) ≡ true → AllStand (row_of f) (length (u ∷ us)) 1 u common us →
-    answered (row_of f).answer common (paired (cons t0 ts) (u ∷ us)) ≡ Ok t → head_of f ≡ over f → meaning t0 (stands g rows item caught) d →
+    answered_type (row_of f).answer common (typed_pairs (cons t0 ts) (u ∷ us)) ≡ Ok t → head_of f ≡ over f → meaning t0 (stands g rows item caught) d →
     AreGiven (over f) m 1 (meanings ts) (stands g rows item caught) (rows_in d) gs → CanMake f (rows_in d) gs
 
 over_table : (g : Giving) (c : Context) (rows : List Data) (item : Option Data) (caught : Option Fault) → Suits g c rows item →
     (cs : ColumnList) → Rises cs → (f : Fun) → Takes g c rows item caught f (tables cs)
 over_table g c rows item caught s cs rising f n m t0 ts us common t d gs k l w e h p q =
-    let H : Standing → Type 0 = λ st. Holds g (context_for st c []) (meaning t0) (tables cs) in
+    let H : PartScope → Type 0 = λ st. Holds g (context_for st c []) (meaning t0) (tables cs) in
     let first : Holds g c (meaning t0) (tables cs) = subst H (table_plain f n h) k.0 in
     can_make g c rows item caught s cs rising (rows_in d) (rows_in_fit d cs (first rows item caught d s p)) f n m t0 ts us common t gs k.1 l w e h q
 
 over_there : (g : Giving) (c : Context) (rows : List Data) (item : Option Data) (caught : Option Fault) → Suits g c rows item →
-    (f : Fun) (n m : ℕ) (t0 : Term) (ts : Terms) (us : List Shape) (t : Shape) (d : Data) (gs : List Given) → AreLawfulTypes us →
+    (f : Fun) (n m : ℕ) (t0 : Term) (ts : Terms) (us : List Shape) (t : Shape) (d : Data) (gs : List ArgumentValues) → AreLawfulTypes us →
     AllHold g c (over f) n [] (meaning t0 ∷ meanings ts) us → IsRuled c (over f) (cons t0 ts) us t → meaning t0 (stands g rows item caught) d →
     AreGiven (over f) m 1 (meanings ts) (stands g rows item caught) (rows_in d) gs → CanMake f (rows_in d) gs
 over_there g c rows item caught s f n m t0 ts [] t d gs l k r p q = absurd k
@@ -82,7 +82,7 @@ suits_there c told rows item f i = record { of_sources = λ x u y e h. given_by_
 -- a call that is well typed takes what its parts give, where what stands around fits
 pub can_over : (c : Context) (told : Option (Source → Data)) (rows : List Data) (item : Option Data) (caught : Option Fault) → AreFit rows c.rows → IsItemFit item c.item →
     (f : Fun) (t0 : Term) (ts : Terms) (u : Shape) (w : IsTyped c (of (over f) (cons t0 ts)) u) → IsLawfulTyping c (of (over f) (cons t0 ts)) u w →
-    (m : ℕ) (d : Data) (gs : List Given) → meaning t0 (stands (Gives c.sources told) rows item caught) d →
+    (m : ℕ) (d : Data) (gs : List ArgumentValues) → meaning t0 (stands (Gives c.sources told) rows item caught) d →
     AreGiven (over f) m 1 (meanings ts) (stands (Gives c.sources told) rows item caught) (rows_in d) gs → CanMake f (rows_in d) gs
 can_over c told rows item caught fit i f t0 ts u w l m d gs p q =
     let n = parts_count (cons t0 ts) in

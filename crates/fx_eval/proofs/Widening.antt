@@ -1,8 +1,8 @@
 -- What is visited over sources is visited over sources that may give more.
 use Rattle.std.proofs.Common.{ℕ, suc, List, [], ◌∷◌, length, Bool, true, false, Option, Some, None}
 use Rattle.fx_types.specs.Values.{Data, blank, number, text, boolean, date, rec, tab, fault}
-use Rattle.fx_eval.specs.Courses.{Going, Turning, answers, chooses, catches, goes, passes, coalesces, turned}
-use Rattle.fx_eval.specs.Visits.{AllVisit, AskedTables, ConditionsVisit, ConstantsVisit, EachVisits, FormVisits, FoundVisits, HeadVisits, InFound, OnceOr, OverVisits, Part, PartVisits, PartsVisit, RangesVisit, RowsVisit, SearchVisits, TreeVisits, TurnVisits, UnlessError, Visiting, Visits, VisitsBy, WithinVisits, begun, part, parts, search_of}
+use Rattle.fx_eval.specs.Courses.{Going, Turning, answers, chooses, catches, goes, passes, coalesces, turned_by}
+use Rattle.fx_eval.specs.Visits.{AllVisit, AskedTables, ConditionsVisit, ConstantsVisit, EachVisits, FormVisits, FoundVisits, HeadVisits, InFound, OnceOr, OverVisits, VisitPart, PartVisits, PartsVisit, RangesVisit, RowsVisit, SearchVisits, TreeVisits, TurnVisits, UnlessError, Visiting, Visits, VisitsBy, WithinVisits, form_begun, visit_part, parts, search_of}
 use Rattle.fx_plan.specs.Consumers.{over_query}
 use Rattle.fx_plan.specs.QueryExpressions.{is_constant, sketch_of}
 use Rattle.fx_plan.specs.declared.plans.Sketch.{Sketch}
@@ -17,32 +17,32 @@ use Rattle.fx_core.specs.declared.sources.Source.{Source}
 use Rattle.fx_core.specs.declared.sources.Source.TheVariants as source
 use Rattle.fx_core.specs.Term.{Term, Terms, of, nil, cons, Top, all}
 use Rattle.fx_core.specs.Term as top
-use Rattle.fx_typing.specs.WellTyped.{Standing, inside, plain, bound, catching, standing_at}
+use Rattle.fx_typing.specs.WellTyped.{PartScope, inside, plain, bound, catching, standing_at}
 use Rattle.fx_value.specs.Columns.{Row as Fields}
 
 module _ (w : AskedTables) (g : Source → Data → Type 0) where
   abbrev Stays : Visiting → Type 1
   Stays V = (a : Around) (n : ℕ) → GivesMore g a → V a n → V (giving g a) n
 
-  record PartStays (P : Part) : Type 1 where
+  record PartStays (P : VisitPart) : Type 1 where
     pub worth : (a : Around) (v : Data) → GivesMore g a → P.worth a v → P.worth (giving g a) v
     pub visits : Stays P.visits
     pub in_query : Stays P.in_query
     pub in_condition : Stays P.in_condition
 
-  abbrev AllStay : List Part → Type 1
+  abbrev AllStay : List VisitPart → Type 1
   AllStay [] = Unit {1}
   AllStay (P ∷ Ps) = PartStays P × AllStay Ps
 
-  all_stay : (Ps : List Part) → AllStay Ps → Stays (AllVisit Ps)
+  all_stay : (Ps : List VisitPart) → AllStay Ps → Stays (AllVisit Ps)
   all_stay [] s a n m h = h
   all_stay (P ∷ Ps) s a n m h = (h.0, h.1, s.0.visits a h.0 m h.2, all_stay Ps s.1 a h.1 m h.3, h.4)
 
-  conditions_stay : (Ps : List Part) → AllStay Ps → Stays (ConditionsVisit Ps)
+  conditions_stay : (Ps : List VisitPart) → AllStay Ps → Stays (ConditionsVisit Ps)
   conditions_stay [] s a n m h = h
   conditions_stay (P ∷ Ps) s a n m h = (h.0, h.1, s.0.in_condition a h.0 m h.2, conditions_stay Ps s.1 a h.1 m h.3, h.4)
 
-  constants_stay : (Ps : List Part) → AllStay Ps → Stays (ConstantsVisit Ps)
+  constants_stay : (Ps : List VisitPart) → AllStay Ps → Stays (ConstantsVisit Ps)
   constants_stay [] s a n m h = h
   constants_stay (P ∷ Ps) s a n m h = (h.0, h.1, s.0.in_query a h.0 m h.2, conditions_stay Ps s.1 a h.1 m h.3, h.4)
 
@@ -60,22 +60,22 @@ module _ (w : AskedTables) (g : Source → Data → Type 0) where
   unless_stays (rec fs) P Q n f h = f h
   unless_stays (tab rs) P Q n f h = f h
 
-  turn_stays : (x : Turning) (Ps : List Part) → AllStay Ps → Stays (TurnVisits x Ps)
+  turn_stays : (x : Turning) (Ps : List VisitPart) → AllStay Ps → Stays (TurnVisits x Ps)
   turn_stays (answers d) Ps s a n m h = h
   turn_stays chooses (P ∷ Ps) s a n m h = s.0.visits a n m h
   turn_stays (catches k cs) (P ∷ Ps) s a n m h = s.0.visits (around_caught a k cs) n m h
   turn_stays (passes x) (P ∷ Ps) s a n m h = turn_stays (goes x) Ps s.1 a n m h
   turn_stays (goes x) (P ∷ Ps) s a n m h =
-      (h.0, s.0.worth a h.0 m h.1, (h.2.0, h.2.1, s.0.visits a h.2.0 m h.2.2, turn_stays (turned x h.0) Ps s.1 a h.2.1 m h.2.3, h.2.4))
+      (h.0, s.0.worth a h.0 m h.1, (h.2.0, h.2.1, s.0.visits a h.2.0 m h.2.2, turn_stays (turned_by x h.0) Ps s.1 a h.2.1 m h.2.3, h.2.4))
   turn_stays chooses [] s a n m h = h
   turn_stays (catches k cs) [] s a n m h = h
   turn_stays (passes x) [] s a n m h = h
   turn_stays (goes x) [] s a n m h = h
 
-  form_stays : (x : Going) (Ps : List Part) → AllStay Ps → Stays (FormVisits x Ps)
+  form_stays : (x : Going) (Ps : List VisitPart) → AllStay Ps → Stays (FormVisits x Ps)
   form_stays x Ps s a n m h = turn_stays (goes x) Ps s a n m h
 
-  within_stays : (Ps : List Part) → AllStay Ps → Stays (WithinVisits Ps)
+  within_stays : (Ps : List VisitPart) → AllStay Ps → Stays (WithinVisits Ps)
   within_stays [] s a n m h = h
   within_stays (P ∷ []) s a n m h = h
   within_stays (P ∷ F ∷ []) s a n m h =
@@ -83,18 +83,18 @@ module _ (w : AskedTables) (g : Source → Data → Type 0) where
       (h.0, s.0.worth a h.0 m h.1, (h.2.0, h.2.1, s.0.visits a h.2.0 m h.2.2, next, h.2.4))
   within_stays (P ∷ F ∷ Q ∷ Ps) s a n m h = h
 
-  part_stays_at : (x : Standing) (rows : List Fields) (P : Part) → PartStays P → Stays (PartVisits x rows P)
+  part_stays_at : (x : PartScope) (rows : List Fields) (P : VisitPart) → PartStays P → Stays (PartVisits x rows P)
   part_stays_at inside rows P s a n m h = each_stays P.visits s.visits rows a n m h
   part_stays_at plain rows P s a n m h = s.visits a n m h
   part_stays_at bound rows P s a n m h = s.visits a n m h
   part_stays_at catching rows P s a n m h = s.visits a n m h
 
-  parts_stay_from : (f : Fun) (c i : ℕ) (rows : List Fields) (Ps : List Part) → AllStay Ps → Stays (PartsVisit f c i rows Ps)
+  parts_stay_from : (f : Fun) (c i : ℕ) (rows : List Fields) (Ps : List VisitPart) → AllStay Ps → Stays (PartsVisit f c i rows Ps)
   parts_stay_from f c i rows [] s a n m h = h
   parts_stay_from f c i rows (P ∷ Ps) s a n m h =
       (h.0, h.1, part_stays_at (standing_at (top.over f) c i) rows P s.0 a h.0 m h.2, parts_stay_from f c (suc i) rows Ps s.1 a h.1 m h.3, h.4)
 
-  rows_stay : (f : Fun) (Ps : List Part) → AllStay Ps → Stays (RowsVisit f Ps)
+  rows_stay : (f : Fun) (Ps : List VisitPart) → AllStay Ps → Stays (RowsVisit f Ps)
   rows_stay f [] s a n m h = h
   rows_stay f (P ∷ Ps) s a n m h =
       let next = unless_stays h.0 (PartsVisit f (suc (length Ps)) 1 (rows_in h.0) Ps a) (PartsVisit f (suc (length Ps)) 1 (rows_in h.0) Ps (giving g a)) h.2.1
@@ -111,12 +111,12 @@ module _ (w : AskedTables) (g : Source → Data → Type 0) where
   in_found_stays (date z) V s a n m h = h
   in_found_stays (tab rs) V s a n m h = h
 
-  found_stays : (q c f : Term) → PartStays (part w f) → Stays (FoundVisits (part w q) (part w c) (part w f))
+  found_stays : (q c f : Term) → PartStays (visit_part w f) → Stays (FoundVisits (visit_part w q) (visit_part w c) (visit_part w f))
   found_stays q c f s a n m h = (h.0, stays g (over_query fun.LookUp q (cons c nil)) a h.0 m h.1, in_found_stays h.0 (Visits w f) s.visits a n m h.2)
 
   over_stays : (f : Fun) (ts : Terms) → AllStay (parts w ts) → Stays (OverVisits f (parts w ts))
   over_stays fun.LookUp (cons q (cons c (cons f nil))) s a n m h =
-      (h.0, h.1, rows_stay fun.LookUp (part w q ∷ part w c ∷ []) (s.0, (s.1.0, tt)) a h.0 m h.2, found_stays q c f s.1.1.0 a h.1 m h.3, h.4)
+      (h.0, h.1, rows_stay fun.LookUp (visit_part w q ∷ visit_part w c ∷ []) (s.0, (s.1.0, tt)) a h.0 m h.2, found_stays q c f s.1.1.0 a h.1 m h.3, h.4)
   over_stays fun.LookUp nil s a n m h = rows_stay fun.LookUp [] s a n m h
   over_stays fun.LookUp (cons q nil) s a n m h = rows_stay fun.LookUp (parts w (cons q nil)) s a n m h
   over_stays fun.LookUp (cons q (cons c nil)) s a n m h = rows_stay fun.LookUp (parts w (cons q (cons c nil))) s a n m h
@@ -125,7 +125,7 @@ module _ (w : AskedTables) (g : Source → Data → Type 0) where
 
   head_stays : (x : Top) (ts : Terms) → AllStay (parts w ts) → Stays (HeadVisits w x (parts w ts))
   head_stays (top.read (source.Table k)) ts s a n m h = h
-  head_stays (top.form f) ts s a n m h = form_stays (begun f) (parts w ts) s a n m h
+  head_stays (top.form f) ts s a n m h = form_stays (form_begun f) (parts w ts) s a n m h
   head_stays (top.call fun.Coalesce) ts s a n m h = form_stays coalesces (parts w ts) s a n m h
   head_stays (top.over f) ts s a n m h = over_stays f ts s a n m h
   head_stays top.within ts s a n m h = within_stays (parts w ts) s a n m h
@@ -167,7 +167,7 @@ module _ (w : AskedTables) (g : Source → Data → Type 0) where
   once_stays false h ts k a n m v = conditions_stay (parts w ts) k a n m v
 
   mutual
-    part_stays : (t : Term) → PartStays (part w t)
+    part_stays : (t : Term) → PartStays (visit_part w t)
     part_stays (of h ts) =
         let k = parts_stay ts in
         record {

@@ -11,8 +11,8 @@ use Rattle.fx_eval.specs.declared.demands.Fold.{Fold}
 use Rattle.fx_eval.specs.declared.demands.Fold.TheVariants as fold
 use Rattle.fx_eval.specs.Parts.{AreFine, inner}
 use Rattle.fx_env.specs.Queries.{AreRead, AreTold, KeepsTables}
-use Rattle.fx_env.specs.Scopes.{CanEvaluate, Fixed, Held, around}
-use Rattle.fx_env.specs.Telling.{Told}
+use Rattle.fx_env.specs.Scopes.{CanEvaluate, Fixed, ScopeValues, around}
+use Rattle.fx_env.specs.Telling.{EnvState}
 use Rattle.fx_plan.specs.declared.plans.Sketch.{Sketch}
 use Rattle.fx_plan.specs.Plans.{CanPlan, IsPlan, is_fault}
 use Rattle.fx_plan.specs.QueryExpressions.{column_of, sketch_of}
@@ -22,7 +22,7 @@ use Rattle.fx_semantics.specs.Rows.{IsOfFound}
 use Rattle.fx_tables.specs.AggregateCalls.{IsNumberOrBlank, IsSumValue, number_or_blank}
 use Rattle.fx_value.specs.Aggregates.{SumsUp}
 use Rattle.fx_tables.specs.RowCalls.{IsCountValue}
-use Rattle.fx_tables.specs.RowCalls.{first_of as first_row}
+use Rattle.fx_tables.specs.RowCalls.{first_row_record as first_row}
 use Rattle.fx_core.specs.declared.functions.Fun.{Fun}
 use Rattle.fx_core.specs.declared.functions.Fun.TheVariants as fun
 use Rattle.fx_core.specs.declared.rows.Scalar.TheVariants.{Number}
@@ -31,14 +31,14 @@ use Rattle.fx_core.specs.declared.sources.Source.{Source}
 use Rattle.fx_core.specs.Lawful.{IsLawfulTable}
 use Rattle.fx_core.specs.Term.{Term, all, nil, cons, term_size}
 use Rattle.fx_plan.specs.Consumers.{over_query}
-use Rattle.fx_plan.specs.Limited.{first_rows}
+use Rattle.fx_plan.specs.Limited.{first_rows_of}
 use Rattle.fx_plan.specs.Settled.{call_settled, query_settled, search_settled}
 use Rattle.row_queries.specs.Answers.{IsCountAnswer, IsScanValue, IsTotalAnswer, OfRows}
 use Rattle.row_queries.specs.declared.queries.Query.{Query}
 use Rattle.row_queries.specs.declared.rows.Row.{Row}
 use Rattle.row_queries.specs.declared.rows.RowList.{RowList}
 use Rattle.row_queries.specs.Queries.{CanTotal, IsOfNumbers, IsQuery, IsScanned}
-use Rattle.row_queries.specs.TableRows.{record_of}
+use Rattle.row_queries.specs.TableRows.{record_of_row}
 
 -- ---- what is taken
 
@@ -63,7 +63,7 @@ IsSearch t = (f : Term) × IsSearchBy t f
 -- rows with its condition as one more filter.
 abbrev pub IsDemand : List TableShape → ℕ → Demand → Sketch → Term → Type 0
 IsDemand shapes k demand.Rows s t = sketch_of shapes k t ≡ Some s
-IsDemand shapes k (demand.FirstRows n) s t = (q : Term) × (t ≡ first_rows n q) × (sketch_of shapes k q ≡ Some s)
+IsDemand shapes k (demand.FirstRows n) s t = (q : Term) × (t ≡ first_rows_of n q) × (sketch_of shapes k q ≡ Some s)
 IsDemand shapes k demand.Count s t = (q : Term) × (t ≡ over_query fun.CountRows q nil) × (sketch_of shapes k q ≡ Some s)
 IsDemand shapes k demand.First s t = (q : Term) × (t ≡ over_query fun.First q nil) × (sketch_of shapes k q ≡ Some s)
 IsDemand shapes k demand.Found s t =
@@ -74,17 +74,17 @@ IsDemand shapes k (demand.Total f i) s t =
     (q : Term) × (x : Term) × (t ≡ over_query (fun_of f) q (cons x nil)) × (sketch_of shapes k q ≡ Some s) × IsNumberColumn shapes k s x i
 
 -- how many rows it takes at most
-abbrev pub most_of : Demand → Option ℕ
-most_of (demand.FirstRows n) = Some n
-most_of demand.First = Some 1
-most_of demand.Found = Some 1
-most_of demand.FoundIn = Some 1
-most_of d = None
+abbrev pub most_rows_taken : Demand → Option ℕ
+most_rows_taken (demand.FirstRows n) = Some n
+most_rows_taken demand.First = Some 1
+most_rows_taken demand.Found = Some 1
+most_rows_taken demand.FoundIn = Some 1
+most_rows_taken d = None
 
 -- a column that is added up is one of numbers, of a sketch's table and of a query's
-abbrev pub CanTake : List TableShape → Demand → Sketch → Type 0
-CanTake shapes (demand.Total f i) s = (shape : TableShape) × (slice_get shapes s.table ≡ Some shape) × IsOfNumbers shape i
-CanTake shapes d s = Unit {0}
+abbrev pub CanAddUp : List TableShape → Demand → Sketch → Type 0
+CanAddUp shapes (demand.Total f i) s = (shape : TableShape) × (slice_get shapes s.table ≡ Some shape) × IsOfNumbers shape i
+CanAddUp shapes d s = Unit {0}
 
 abbrev pub CanMeet : List TableShape → Demand → Query → Type 0
 CanMeet shapes (demand.Total f i) q = CanTotal shapes q i
@@ -107,25 +107,25 @@ IsFolded fold.Greatest zs v = IsNumberOrBlank (IsGreatest zs) v
 IsFolded fold.Average zs v = v ≡ number_or_blank (average_of zs)
 
 -- the first row that a query gives, or blank where it gives none
-abbrev pub IsFirstOf : List TableShape → Option (List (List Row)) → Query → Data → Type 0
-IsFirstOf shapes told q v = OfRows shapes told q (λ t rows. (a : RowList) × IsScanned q rows a × (v ≡ first_row (map (record_of t) a.rows)))
+abbrev pub IsFirstGiven : List TableShape → Option (List (List Row)) → Query → Data → Type 0
+IsFirstGiven shapes told q v = OfRows shapes told q (λ t rows. (a : RowList) × IsScanned q rows a × (v ≡ first_row (map (record_of_row t) a.rows)))
 
 -- what the answer of a query makes of it
 abbrev pub IsMet : List TableShape → Option (List (List Row)) → Demand → Query → Data → Type 0
 IsMet shapes told demand.Rows q v = IsScanValue shapes told q v
 IsMet shapes told (demand.FirstRows n) q v = IsScanValue shapes told q v
 IsMet shapes told demand.Count q v = (n : ℕ) × IsCountAnswer shapes told q n × IsCountValue n v
-IsMet shapes told demand.First q v = IsFirstOf shapes told q v
-IsMet shapes told demand.Found q v = IsFirstOf shapes told q v
-IsMet shapes told demand.FoundIn q v = IsFirstOf shapes told q v
+IsMet shapes told demand.First q v = IsFirstGiven shapes told q v
+IsMet shapes told demand.Found q v = IsFirstGiven shapes told q v
+IsMet shapes told demand.FoundIn q v = IsFirstGiven shapes told q v
 IsMet shapes told (demand.Total f i) q v = (t : Totals) × IsTotalAnswer shapes told q i t × ((zs : List ℤ) → SumsUp zs t → IsFolded f zs v)
 
 -- a query of the sketch with these constants answers it
 abbrev pub IsAnswered : List TableShape → Option (List (List Row)) → Demand → Sketch → List Data → Data → Type 0
-IsAnswered shapes told d k ds v = (q : Query) × IsPlan shapes k ds (most_of d) q × IsQuery shapes q × IsMet shapes told d q v
+IsAnswered shapes told d k ds v = (q : Query) × IsPlan shapes k ds (most_rows_taken d) q × IsQuery shapes q × IsMet shapes told d q v
 
 -- a tree that takes this of a query expression where it stands, over tables that are asked
-pub record IsAskedFor {B : Type 0} (f : Fixed) (told : Option (Told B)) (s : Held) (t : Term) (d : Demand) (k : Sketch) : Type 0 where
+pub record IsAskedFor {B : Type 0} (f : Fixed) (told : Option (EnvState B)) (s : ScopeValues) (t : Term) (d : Demand) (k : Sketch) : Type 0 where
   pub keeps : KeepsTables f told
   pub demand : IsDemand f.schema.tables (length s.rows) d k t
 
@@ -135,7 +135,7 @@ pub record IsAskedFor {B : Type 0} (f : Fixed) (told : Option (Told B)) (s : Hel
 -- with their values its sketch can be planned
 unfoldable pub ConstantsAreReady : Type 0
 ConstantsAreReady =
-    (types : Source → Option Shape) (shapes : List TableShape) (s : Held) (t : Term) (d : Demand) (k : Sketch) → All IsLawfulTable shapes → AreRead types shapes →
+    (types : Source → Option Shape) (shapes : List TableShape) (s : ScopeValues) (t : Term) (d : Demand) (k : Sketch) → All IsLawfulTable shapes → AreRead types shapes →
     CanEvaluate types s t → IsDemand shapes (length s.rows) d k t →
     AreFine types (inner s blank) k.constants
     × ((ds : List Data) → AreValues (meanings (all k.constants)) (around types None (inner s blank)) ds → CanPlan shapes k ds)
@@ -150,14 +150,14 @@ IsWorthBy demand.FoundIn a t v = IsFoundFor a t v
 IsWorthBy d a t v = IsValue a t v
 
 -- the formula is ready in the scope of a found row
-abbrev pub CanStand : (Source → Option Shape) → Held → Term → Data → Type 0
+abbrev pub CanStand : (Source → Option Shape) → ScopeValues → Term → Data → Type 0
 CanStand types s f (rec fs) = CanEvaluate types (inner s (rec fs)) f
 CanStand types s f v = Unit {0}
 
 -- what is answered is the value of the tree, or the row that makes it, where no constant is an error
 unfoldable pub AnswersAreValues : Type 0
 AnswersAreValues =
-    (types : Source → Option Shape) (shapes : List TableShape) (told : Option (Source → Data)) (rows : Option (List (List Row))) (s : Held) (t : Term) (d : Demand) (k : Sketch)
+    (types : Source → Option Shape) (shapes : List TableShape) (told : Option (Source → Data)) (rows : Option (List (List Row))) (s : ScopeValues) (t : Term) (d : Demand) (k : Sketch)
     (ds : List Data) (v : Data) → All IsLawfulTable shapes → AreRead types shapes → AreTold shapes told rows → IsDemand shapes (length s.rows) d k t →
     AreValues (meanings (all k.constants)) (around types told (inner s blank)) ds → list_any is_fault ds ≡ false → IsAnswered shapes rows d k ds v →
     IsWorthBy d (around types told s) t v
@@ -165,21 +165,21 @@ AnswersAreValues =
 -- the formula of a tree that is ready is ready in the scope of the row that is answered
 unfoldable pub FoundAreReady : Type 0
 FoundAreReady =
-    (types : Source → Option Shape) (shapes : List TableShape) (rows : Option (List (List Row))) (s : Held) (t : Term) (k : Sketch) (ds : List Data) (v : Data) → All IsLawfulTable shapes → AreRead types shapes →
+    (types : Source → Option Shape) (shapes : List TableShape) (rows : Option (List (List Row))) (s : ScopeValues) (t : Term) (k : Sketch) (ds : List Data) (v : Data) → All IsLawfulTable shapes → AreRead types shapes →
     CanEvaluate types s t → IsDemand shapes (length s.rows) demand.FoundIn k t → AreValues (meanings (all k.constants)) (around types None (inner s blank)) ds → list_any is_fault ds ≡ false →
     IsAnswered shapes rows demand.FoundIn k ds v → (f : Term) → IsSearchBy t f → CanStand types s f v
 
 -- with the values of its constants in their places, errors included, the tree is ready
 unfoldable pub SettledAreReady : Type 0
 SettledAreReady =
-    (types : Source → Option Shape) (shapes : List TableShape) (s : Held) (t : Term) (d : Demand) (k : Sketch) (ds : List Data) → AreRead types shapes →
+    (types : Source → Option Shape) (shapes : List TableShape) (s : ScopeValues) (t : Term) (d : Demand) (k : Sketch) (ds : List Data) → AreRead types shapes →
     CanEvaluate types s t → IsDemand shapes (length s.rows) d k t → AreValues (meanings (all k.constants)) (around types None (inner s blank)) ds →
     CanEvaluate types s (settled_in d (length s.rows) ds t)
 
 -- and what it is worth so, the tree is worth
 unfoldable pub SettledAreValues : Type 0
 SettledAreValues =
-    (types : Source → Option Shape) (shapes : List TableShape) (told : Option (Source → Data)) (s : Held) (t : Term) (d : Demand) (k : Sketch) (ds : List Data) (v : Data) →
+    (types : Source → Option Shape) (shapes : List TableShape) (told : Option (Source → Data)) (s : ScopeValues) (t : Term) (d : Demand) (k : Sketch) (ds : List Data) (v : Data) →
     IsDemand shapes (length s.rows) d k t → AreValues (meanings (all k.constants)) (around types told (inner s blank)) ds →
     IsValue (around types told s) (settled_in d (length s.rows) ds t) v → IsValue (around types told s) t v
 

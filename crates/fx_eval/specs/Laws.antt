@@ -12,8 +12,8 @@ use Rattle.fx_semantics.specs.Sound.{AreFit, IsItemFit, IsLawfulTyping}
 use Rattle.fx_semantics.specs.Sources.{Gives}
 use Rattle.fx_core.specs.declared.functions.Fun.{Fun}
 use Rattle.fx_core.specs.declared.sources.Source.{Source}
-use Rattle.fx_env.specs.Scopes.{Held, around}
-use Rattle.fx_eval.specs.Given.{Given, AreGiven}
+use Rattle.fx_env.specs.Scopes.{ScopeValues, around}
+use Rattle.fx_eval.specs.Given.{ArgumentValues, AreGiven}
 use Rattle.fx_eval.specs.TableCalls.{CanMake, IsMadeOf}
 use Rattle.fx_eval.specs.Visits.{AskedTables, Visits}
 use Rattle.fx_tables.specs.Unions.{is_fault}
@@ -30,7 +30,7 @@ standing_in types told rows item caught = record { gives = Gives types told; row
 abbrev pub MadeIsWorth : Type 0
 MadeIsWorth =
     (types : Source → Option Shape) (told : Option (Source → Data)) (rows : List Data) (item : Option Data) (caught : Option Fault)
-    (f : Fun) (t : Term) (ts : Terms) (n : ℕ) (d : Data) (gs : List Given) (v : Data) →
+    (f : Fun) (t : Term) (ts : Terms) (n : ℕ) (d : Data) (gs : List ArgumentValues) (v : Data) →
     IsValue (standing_in types told rows item caught) t d → is_fault d ≡ false →
     AreGiven (over f) n 1 (meanings ts) (standing_in types told rows item caught) (rows_in d) gs →
     CanMake f (rows_in d) gs → IsMadeOf f (rows_in d) gs v →
@@ -48,7 +48,7 @@ ErrorIsWorth =
 abbrev pub TypedCanMake : Type 0
 TypedCanMake =
     (c : Context) (told : Option (Source → Data)) (rows : List Data) (item : Option Data) (caught : Option Fault)
-    (f : Fun) (t : Term) (ts : Terms) (u : Shape) (w : IsTyped c (of (over f) (cons t ts)) u) (n : ℕ) (d : Data) (gs : List Given) →
+    (f : Fun) (t : Term) (ts : Terms) (u : Shape) (w : IsTyped c (of (over f) (cons t ts)) u) (n : ℕ) (d : Data) (gs : List ArgumentValues) →
     AreFit rows c.rows → IsItemFit item c.item → IsLawfulTyping c (of (over f) (cons t ts)) u w →
     IsValue (standing_in c.sources told rows item caught) t d →
     AreGiven (over f) n 1 (meanings ts) (standing_in c.sources told rows item caught) (rows_in d) gs → CanMake f (rows_in d) gs
@@ -60,5 +60,5 @@ AreHeld w = (n : ℕ) (t : TableShape) → slice_get w.shapes n ≡ Some t → A
 -- a tree visits one number of rows at most, where the values of its sources are told
 abbrev pub OneVisits : Type 0
 OneVisits =
-    (w : AskedTables) (types : Source → Option Shape) (values : Source → Data) (s : Held) (t : Term) (m n : ℕ) → AreHeld w →
+    (w : AskedTables) (types : Source → Option Shape) (values : Source → Data) (s : ScopeValues) (t : Term) (m n : ℕ) → AreHeld w →
     Visits w t (around types (Some values) s) m → Visits w t (around types (Some values) s) n → m ≡ n

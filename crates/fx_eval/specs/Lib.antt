@@ -6,7 +6,7 @@ pub mod Visits
 pub mod Courses
 pub mod Demands
 pub mod Kinds
-pub mod Moments
+pub mod EvalSteps
 pub mod MomentsOver
 pub mod Parts
 pub use Rattle.fx_plan.specs as fx_plan

@@ -6,12 +6,12 @@ use Rattle.fx_semantics.specs.Rows.{is_falling, table_of}
 use Rattle.fx_core.specs.declared.functions.Fun.{Fun}
 use Rattle.fx_core.specs.declared.functions.Fun.TheVariants as fun
 use Rattle.fx_tables.specs.AggregateCalls.{IsSumOf, IsLeastOf, IsGreatestOf, averaged, concatenated_by}
-use Rattle.fx_tables.specs.ColumnCalls.{CanAdd, CanRename, renamed_columns, with_columns, without_columns}
+use Rattle.fx_tables.specs.ColumnCalls.{CanAddColumns, CanRename, renamed_columns, with_columns, without_columns}
 use Rattle.fx_tables.specs.Ends.{emptiness_of, first_rows, last_of, last_rows}
-use Rattle.fx_tables.specs.RowCalls.{AreKeysOrErrors, IsCountIfOf, IsCountValue, IsSortOf, distinct_or, filtered, first_of, for_all_of, holds, looked_up, verdict_of}
-use Rattle.fx_value.specs.Columns.{Row, only}
+use Rattle.fx_tables.specs.RowCalls.{AreKeysOrErrors, IsCountIfOf, IsCountValue, IsSortOf, distinct_or, filtered, first_row_record, for_all_of, holds, looked_up, verdict_of}
+use Rattle.fx_value.specs.Columns.{Row, fields_only}
 use Rattle.fx_tables.specs.Unions.{fault_or}
-use Rattle.fx_eval.specs.Given.{Given, once, each, columns_in, count_in, names_in, pairs_in, separator_in, values_in}
+use Rattle.fx_eval.specs.Given.{ArgumentValues, once, each, new_columns, count_argument, column_names_in, pairs_in, separator_in, values_in}
 
 -- ---- conditions
 -- one more condition of each row
@@ -19,13 +19,13 @@ abbrev pub with_condition : List Data → List Data → List Data
 with_condition vs ds = map (λ (p : Data × Data). verdict_of (p.0 ∷ p.1 ∷ [])) (zip vs ds)
 
 -- what conditions come to for each row, each given by its values for the rows, behind earlier ones
-abbrev pub verdicts_behind : List Data → List Given → List Data
+abbrev pub verdicts_behind : List Data → List ArgumentValues → List Data
 verdicts_behind vs [] = vs
 verdicts_behind vs (each ds ∷ gs) = verdicts_behind (with_condition vs ds) gs
 verdicts_behind vs gs = []
 
 -- what they come to, from the first on
-abbrev pub verdicts : List Row → List Given → List Data
+abbrev pub verdicts : List Row → List ArgumentValues → List Data
 verdicts rows gs = verdicts_behind (map (λ (r : Row). boolean true) rows) gs
 
 -- the value that stands where the first condition holds, and blank where none does
@@ -35,19 +35,19 @@ value_found cs ds = blank
 
 -- `LookUp`: the first error of a condition, else the first row whose condition holds, or the formula's
 -- value for that row
-abbrev pub found_in : List Row → List Given → Data
-found_in rows (each cs ∷ each ds ∷ gs) = fault_or cs (value_found cs ds)
-found_in rows gs = looked_up rows (values_in gs)
+abbrev pub look_up_answer : List Row → List ArgumentValues → Data
+look_up_answer rows (each cs ∷ each ds ∷ gs) = fault_or cs (value_found cs ds)
+look_up_answer rows gs = looked_up rows (values_in gs)
 
 -- ---- the table: what each function makes
-abbrev pub IsMadeOf : Fun → List Row → List Given → Data → Type 0
+abbrev pub IsMadeOf : Fun → List Row → List ArgumentValues → Data → Type 0
 IsMadeOf fun.Filter rows gs v = v ≡ filtered rows (verdicts rows gs)
-IsMadeOf fun.LookUp rows gs v = v ≡ found_in rows gs
+IsMadeOf fun.LookUp rows gs v = v ≡ look_up_answer rows gs
 IsMadeOf (fun.Sort o) rows gs v = IsSortOf (is_falling o) rows (values_in gs) v
-IsMadeOf fun.First rows gs v = v ≡ first_of rows
+IsMadeOf fun.First rows gs v = v ≡ first_row_record rows
 IsMadeOf fun.Last rows gs v = v ≡ last_of rows
-IsMadeOf fun.FirstN rows gs v = v ≡ first_rows rows (count_in gs)
-IsMadeOf fun.LastN rows gs v = v ≡ last_rows rows (count_in gs)
+IsMadeOf fun.FirstN rows gs v = v ≡ first_rows rows (count_argument gs)
+IsMadeOf fun.LastN rows gs v = v ≡ last_rows rows (count_argument gs)
 IsMadeOf fun.CountRows rows gs v = IsCountValue (length rows) v
 IsMadeOf fun.CountIf rows gs v = IsCountIfOf (verdicts rows gs) v
 IsMadeOf fun.IsEmpty rows gs v = v ≡ emptiness_of rows
@@ -55,9 +55,9 @@ IsMadeOf fun.SumRows rows gs v = IsSumOf (values_in gs) v
 IsMadeOf fun.MinRows rows gs v = IsLeastOf (values_in gs) v
 IsMadeOf fun.MaxRows rows gs v = IsGreatestOf (values_in gs) v
 IsMadeOf fun.AverageRows rows gs v = v ≡ averaged (values_in gs)
-IsMadeOf fun.AddColumns rows gs v = v ≡ table_of (with_columns (columns_in gs) rows)
-IsMadeOf fun.DropColumns rows gs v = v ≡ table_of (without_columns (names_in gs) rows)
-IsMadeOf fun.ShowColumns rows gs v = v ≡ table_of (map (only (names_in gs)) rows)
+IsMadeOf fun.AddColumns rows gs v = v ≡ table_of (with_columns (new_columns gs) rows)
+IsMadeOf fun.DropColumns rows gs v = v ≡ table_of (without_columns (column_names_in gs) rows)
+IsMadeOf fun.ShowColumns rows gs v = v ≡ table_of (map (fields_only (column_names_in gs)) rows)
 IsMadeOf fun.RenameColumns rows gs v = v ≡ table_of (renamed_columns (pairs_in gs) rows)
 IsMadeOf fun.Distinct rows gs v = v ≡ distinct_or (values_in gs)
 IsMadeOf fun.ForAll rows gs v = v ≡ for_all_of (values_in gs)
@@ -66,77 +66,77 @@ IsMadeOf f rows gs v = ⊥
 
 -- ---- what each function takes
 -- values for so many rows
-abbrev pub AreFor : ℕ → Given → Type 0
+abbrev pub AreFor : ℕ → ArgumentValues → Type 0
 AreFor n (each ds) = length ds ≡ n
 AreFor n g = ⊥
 
 -- one formula
-abbrev pub IsFormula : List Given → Type 0
-IsFormula (each ds ∷ []) = Unit {0}
-IsFormula gs = ⊥
+abbrev pub IsOneFormula : List ArgumentValues → Type 0
+IsOneFormula (each ds ∷ []) = Unit {0}
+IsOneFormula gs = ⊥
 
 -- formulas
-abbrev pub AreFormulas : ℕ → List Given → Type 0
+abbrev pub AreFormulas : ℕ → List ArgumentValues → Type 0
 AreFormulas n [] = Unit {0}
 AreFormulas n (g ∷ gs) = AreFor n g × AreFormulas n gs
 
 -- a condition, and a formula or none
-abbrev pub IsSearch : ℕ → List Given → Type 0
-IsSearch n (g ∷ []) = AreFor n g
-IsSearch n (g ∷ h ∷ []) = AreFor n g × AreFor n h
-IsSearch n gs = ⊥
+abbrev pub IsConditionAndFormula : ℕ → List ArgumentValues → Type 0
+IsConditionAndFormula n (g ∷ []) = AreFor n g
+IsConditionAndFormula n (g ∷ h ∷ []) = AreFor n g × AreFor n h
+IsConditionAndFormula n gs = ⊥
 
 -- a value or none
-abbrev pub IsCount : List Given → Type 0
-IsCount [] = Unit {0}
-IsCount (once d ∷ []) = Unit {0}
-IsCount gs = ⊥
+abbrev pub IsOneOrNone : List ArgumentValues → Type 0
+IsOneOrNone [] = Unit {0}
+IsOneOrNone (once d ∷ []) = Unit {0}
+IsOneOrNone gs = ⊥
 
 -- a formula, and a value or none
-abbrev pub IsJoining : List Given → Type 0
+abbrev pub IsJoining : List ArgumentValues → Type 0
 IsJoining (each ds ∷ []) = Unit {0}
 IsJoining (each ds ∷ once d ∷ []) = Unit {0}
 IsJoining gs = ⊥
 
 -- names of columns
-abbrev pub AreNames : List Given → Type 0
-AreNames [] = Unit {0}
-AreNames (once (text n) ∷ gs) = AreNames gs
-AreNames gs = ⊥
+abbrev pub AreColumnNames : List ArgumentValues → Type 0
+AreColumnNames [] = Unit {0}
+AreColumnNames (once (text n) ∷ gs) = AreColumnNames gs
+AreColumnNames gs = ⊥
 
 -- names, each before a formula
-abbrev pub AreColumns : List Given → Type 0
-AreColumns [] = Unit {0}
-AreColumns (once (text n) ∷ each ds ∷ gs) = AreColumns gs
-AreColumns gs = ⊥
+abbrev pub AreNewColumns : List ArgumentValues → Type 0
+AreNewColumns [] = Unit {0}
+AreNewColumns (once (text n) ∷ each ds ∷ gs) = AreNewColumns gs
+AreNewColumns gs = ⊥
 
 -- names of columns in pairs
-abbrev pub ArePairs : List Given → Type 0
-ArePairs [] = Unit {0}
-ArePairs (once (text n) ∷ once (text m) ∷ gs) = ArePairs gs
-ArePairs gs = ⊥
+abbrev pub AreNamePairs : List ArgumentValues → Type 0
+AreNamePairs [] = Unit {0}
+AreNamePairs (once (text n) ∷ once (text m) ∷ gs) = AreNamePairs gs
+AreNamePairs gs = ⊥
 
 -- what a function can make something of
-abbrev pub CanMake : Fun → List Row → List Given → Type 0
+abbrev pub CanMake : Fun → List Row → List ArgumentValues → Type 0
 CanMake fun.Filter rows gs = AreFormulas (length rows) gs
-CanMake fun.LookUp rows gs = IsSearch (length rows) gs
-CanMake (fun.Sort o) rows gs = IsFormula gs × (length (values_in gs) ≡ length rows)
+CanMake fun.LookUp rows gs = IsConditionAndFormula (length rows) gs
+CanMake (fun.Sort o) rows gs = IsOneFormula gs × (length (values_in gs) ≡ length rows)
 CanMake fun.First rows gs = Unit {0}
 CanMake fun.Last rows gs = Unit {0}
-CanMake fun.FirstN rows gs = IsCount gs
-CanMake fun.LastN rows gs = IsCount gs
+CanMake fun.FirstN rows gs = IsOneOrNone gs
+CanMake fun.LastN rows gs = IsOneOrNone gs
 CanMake fun.CountRows rows gs = Unit {0}
 CanMake fun.CountIf rows gs = AreFormulas (length rows) gs
 CanMake fun.IsEmpty rows gs = Unit {0}
-CanMake fun.SumRows rows gs = IsFormula gs
-CanMake fun.MinRows rows gs = IsFormula gs
-CanMake fun.MaxRows rows gs = IsFormula gs
-CanMake fun.AverageRows rows gs = IsFormula gs
-CanMake fun.AddColumns rows gs = AreColumns gs × CanAdd (columns_in gs) rows
-CanMake fun.DropColumns rows gs = AreNames gs
-CanMake fun.ShowColumns rows gs = AreNames gs
-CanMake fun.RenameColumns rows gs = ArePairs gs × CanRename (pairs_in gs) rows
-CanMake fun.Distinct rows gs = IsFormula gs × AreKeysOrErrors (values_in gs)
-CanMake fun.ForAll rows gs = IsFormula gs
+CanMake fun.SumRows rows gs = IsOneFormula gs
+CanMake fun.MinRows rows gs = IsOneFormula gs
+CanMake fun.MaxRows rows gs = IsOneFormula gs
+CanMake fun.AverageRows rows gs = IsOneFormula gs
+CanMake fun.AddColumns rows gs = AreNewColumns gs × CanAddColumns (new_columns gs) rows
+CanMake fun.DropColumns rows gs = AreColumnNames gs
+CanMake fun.ShowColumns rows gs = AreColumnNames gs
+CanMake fun.RenameColumns rows gs = AreNamePairs gs × CanRename (pairs_in gs) rows
+CanMake fun.Distinct rows gs = IsOneFormula gs × AreKeysOrErrors (values_in gs)
+CanMake fun.ForAll rows gs = IsOneFormula gs
 CanMake fun.Concat rows gs = IsJoining gs
 CanMake f rows gs = ⊥

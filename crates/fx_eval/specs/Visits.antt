@@ -4,8 +4,8 @@ use Rattle.std.specs.Prelude.{◌≡◌, ℕ, suc, ◌+◌, ◌≤◌, Bool, tru
 use Rattle.std.specs.List.{filter, list_any}
 use Rattle.fx_types.specs.Values.{Data, blank, rec, fault}
 use Rattle.fx_env.specs.Scopes.{Fixed}
-use Rattle.fx_env.specs.Telling.{Told}
-use Rattle.fx_eval.specs.Courses.{Going, all, any, branches, switch, recovers, coalesces, Turning, answers, chooses, catches, goes, passes, turned}
+use Rattle.fx_env.specs.Telling.{EnvState}
+use Rattle.fx_eval.specs.Courses.{Going, all, any, branches, switch, recovers, coalesces, Turning, answers, chooses, catches, goes, passes, turned_by}
 use Rattle.fx_plan.specs.declared.plans.Sketch.{Sketch}
 use Rattle.fx_plan.specs.declared.ranges.Reach.{Reach}
 use Rattle.fx_plan.specs.Consumers.{over_query}
@@ -16,7 +16,7 @@ use Rattle.fx_scalar.specs.LazyForms.{none_left}
 use Rattle.fx_semantics.specs.Around.{Around, Meaning, AreValues, catching, record_of}
 use Rattle.fx_semantics.specs.Around.{inside as inside_of}
 use Rattle.fx_semantics.specs.Fresh.{meaning, meanings}
-use Rattle.fx_semantics.specs.Rows.{IsOver, rows_in}
+use Rattle.fx_semantics.specs.Rows.{IsTableCall, rows_in}
 use Rattle.fx_core.specs.declared.functions.Form.{Form}
 use Rattle.fx_core.specs.declared.functions.Form.TheVariants as form
 use Rattle.fx_core.specs.declared.functions.Fun.{Fun}
@@ -25,7 +25,7 @@ use Rattle.fx_core.specs.declared.schema.TableShape.{TableShape}
 use Rattle.fx_core.specs.declared.sources.Source.TheVariants as source
 use Rattle.fx_core.specs.Term.{Term, Terms, of, nil, cons, Top}
 use Rattle.fx_core.specs.Term as top
-use Rattle.fx_typing.specs.WellTyped.{Standing, inside, standing_at}
+use Rattle.fx_typing.specs.WellTyped.{PartScope, inside, standing_at}
 use Rattle.fx_value.specs.Columns.{Row as Fields}
 use Rattle.fx_value.specs.Keys.{key_bytes}
 use Rattle.row_queries.specs.declared.rows.Row.{Row}
@@ -40,7 +40,7 @@ pub record AskedTables : Type 0 where
   pub rows : List (List Row)
 
 -- those of an environment
-abbrev pub asked_tables : {B : Type 0} → Fixed → Told B → AskedTables
+abbrev pub asked_tables : {B : Type 0} → Fixed → EnvState B → AskedTables
 asked_tables f w = record { shapes = f.schema.tables; rows = w.tables }
 
 -- a row lies in ranges
@@ -65,14 +65,14 @@ Both P Q n = (m : ℕ) × (l : ℕ) × P m × Q l × (n ≡ m + l)
 
 -- a part of a tree: what it is worth, how many rows evaluating it visits, and how many evaluating the constants in it does,
 -- where it is a part of a query expression and where it is one of a condition
-pub record Part : Type 1 where
+pub record VisitPart : Type 1 where
   pub worth : Meaning
   pub visits : Visiting
   pub in_query : Visiting
   pub in_condition : Visiting
 
 -- all parts are evaluated where the whole stands
-abbrev pub AllVisit : List Part → Visiting
+abbrev pub AllVisit : List VisitPart → Visiting
 AllVisit [] a n = n ≡ 0
 AllVisit (P ∷ Ps) a n = Both (P.visits a) (AllVisit Ps a) n
 
@@ -89,44 +89,44 @@ UnlessError w P n = P n
 -- ---- forms, from part to part
 
 -- what a form evaluates of these parts, of which the first is the next one, where the value of the one before has made this of it
-abbrev pub TurnVisits : Turning → List Part → Visiting
+abbrev pub TurnVisits : Turning → List VisitPart → Visiting
 TurnVisits (answers d) Ps a n = n ≡ 0
 TurnVisits chooses (P ∷ Ps) a n = P.visits a n
 TurnVisits (catches k cs) (P ∷ Ps) a n = P.visits (catching a k cs) n
 TurnVisits (passes g) (P ∷ Ps) a n = TurnVisits (goes g) Ps a n
-TurnVisits (goes g) (P ∷ Ps) a n = (w : Data) × P.worth a w × Both (P.visits a) (TurnVisits (turned g w) Ps a) n
+TurnVisits (goes g) (P ∷ Ps) a n = (w : Data) × P.worth a w × Both (P.visits a) (TurnVisits (turned_by g w) Ps a) n
 TurnVisits t [] a n = n ≡ 0
 
 -- a form that stands so before these parts
-abbrev pub FormVisits : Going → List Part → Visiting
+abbrev pub FormVisits : Going → List VisitPart → Visiting
 FormVisits g Ps a n = TurnVisits (goes g) Ps a n
 
-abbrev pub begun : Form → Going
-begun form.All = all
-begun form.Any = any
-begun form.If = branches
-begun form.Switch = switch
-begun form.IfError = recovers (none_left form.IfError)
+abbrev pub form_begun : Form → Going
+form_begun form.All = all
+form_begun form.Any = any
+form_begun form.If = branches
+form_begun form.Switch = switch
+form_begun form.IfError = recovers (none_left form.IfError)
 
 -- `With`: the formula in the scope of the record
-abbrev pub WithinVisits : List Part → Visiting
+abbrev pub WithinVisits : List VisitPart → Visiting
 WithinVisits (P ∷ F ∷ []) a n = (w : Data) × P.worth a w × Both (P.visits a) (UnlessError w (F.visits (inside_of a w))) n
 WithinVisits Ps a n = n ≡ 0
 
 -- ---- calls over tables
 
 -- a part for each of these rows, or once
-abbrev pub PartVisits : Standing → List Fields → Part → Visiting
+abbrev pub PartVisits : PartScope → List Fields → VisitPart → Visiting
 PartVisits inside rows P a n = EachVisits P.visits rows a n
 PartVisits s rows P a n = P.visits a n
 
 -- the parts from a place on, of so many
-abbrev pub PartsVisit : Fun → ℕ → ℕ → List Fields → List Part → Visiting
+abbrev pub PartsVisit : Fun → ℕ → ℕ → List Fields → List VisitPart → Visiting
 PartsVisit f m i rows [] a n = n ≡ 0
 PartsVisit f m i rows (P ∷ Ps) a n = Both (PartVisits (standing_at (top.over f) m i) rows P a) (PartsVisit f m (suc i) rows Ps a) n
 
 -- the table, and then the other parts
-abbrev pub RowsVisit : Fun → List Part → Visiting
+abbrev pub RowsVisit : Fun → List VisitPart → Visiting
 RowsVisit f [] a n = n ≡ 0
 RowsVisit f (P ∷ Ps) a n = (w : Data) × P.worth a w × Both (P.visits a) (UnlessError w (PartsVisit f (suc (length Ps)) 1 (rows_in w) Ps a)) n
 
@@ -136,19 +136,19 @@ InFound (rec fs) V a n = V (inside_of a (rec fs)) n
 InFound d V a n = n ≡ 0
 
 -- the formula of `LookUp`
-abbrev pub FoundVisits : Part → Part → Part → Visiting
-FoundVisits P C F a n = (v : Data) × IsOver fun.LookUp (P.worth ∷ C.worth ∷ []) a v × InFound v F.visits a n
+abbrev pub FoundVisits : VisitPart → VisitPart → VisitPart → Visiting
+FoundVisits P C F a n = (v : Data) × IsTableCall fun.LookUp (P.worth ∷ C.worth ∷ []) a v × InFound v F.visits a n
 
-abbrev pub OverVisits : Fun → List Part → Visiting
+abbrev pub OverVisits : Fun → List VisitPart → Visiting
 OverVisits fun.LookUp (P ∷ C ∷ F ∷ []) a n = Both (RowsVisit fun.LookUp (P ∷ C ∷ []) a) (FoundVisits P C F a) n
 OverVisits f Ps a n = RowsVisit f Ps a n
 
 -- ---- trees
 
 -- a tree by its head: a table has all of its rows
-abbrev pub HeadVisits : AskedTables → Top → List Part → Visiting
+abbrev pub HeadVisits : AskedTables → Top → List VisitPart → Visiting
 HeadVisits w (top.read (source.Table k)) Ps a n = n ≡ length (rows_at w.rows k)
-HeadVisits w (top.form f) Ps a n = FormVisits (begun f) Ps a n
+HeadVisits w (top.form f) Ps a n = FormVisits (form_begun f) Ps a n
 HeadVisits w (top.call fun.Coalesce) Ps a n = FormVisits coalesces Ps a n
 HeadVisits w (top.over f) Ps a n = OverVisits f Ps a n
 HeadVisits w top.within Ps a n = WithinVisits Ps a n
@@ -159,17 +159,17 @@ abbrev pub RangesVisit : AskedTables → Sketch → Visiting
 RangesVisit w s a n = (ds : List Data) × AreValues (meanings (top.all s.constants)) (inside_of a blank) ds × InRanges w s ds n
 
 -- the constants of conditions
-abbrev pub ConditionsVisit : List Part → Visiting
+abbrev pub ConditionsVisit : List VisitPart → Visiting
 ConditionsVisit [] a n = n ≡ 0
 ConditionsVisit (P ∷ Ps) a n = Both (P.in_condition a) (ConditionsVisit Ps a) n
 
 -- the constants of a query expression of these parts: those of the one that it is made of, and of its conditions
-abbrev pub ConstantsVisit : List Part → Visiting
+abbrev pub ConstantsVisit : List VisitPart → Visiting
 ConstantsVisit [] a n = n ≡ 0
 ConstantsVisit (P ∷ Ps) a n = Both (P.in_query a) (ConditionsVisit Ps a) n
 
 -- `LookUp` whose rows with its condition as one more filter are a query expression
-abbrev pub SearchVisits : AskedTables → Sketch → List Part → Visiting
+abbrev pub SearchVisits : AskedTables → Sketch → List VisitPart → Visiting
 SearchVisits w s (P ∷ C ∷ []) a n = Both (ConstantsVisit (P ∷ C ∷ []) a) (RangesVisit w s a) n
 SearchVisits w s (P ∷ C ∷ F ∷ []) a n = Both (Both (ConstantsVisit (P ∷ C ∷ []) a) (RangesVisit w s a)) (FoundVisits P C F a) n
 SearchVisits w s Ps a n = n ≡ 0
@@ -181,12 +181,12 @@ search_of ts k (of (top.over fun.LookUp) (cons q (cons c (cons f nil)))) = sketc
 search_of ts k t = None
 
 -- a tree by its sketch if it is a query expression, by that of its search, and else by its head
-abbrev pub VisitsBy : AskedTables → Option Sketch → Option Sketch → Top → List Part → Visiting
+abbrev pub VisitsBy : AskedTables → Option Sketch → Option Sketch → Top → List VisitPart → Visiting
 VisitsBy w (Some s) x h Ps a n = Both (ConstantsVisit Ps a) (RangesVisit w s a) n
 VisitsBy w None (Some s) h Ps a n = SearchVisits w s Ps a n
 VisitsBy w None None h Ps a n = HeadVisits w h Ps a n
 
-abbrev pub TreeVisits : AskedTables → Top → Terms → List Part → Visiting
+abbrev pub TreeVisits : AskedTables → Top → Terms → List VisitPart → Visiting
 TreeVisits w h ts Ps a n = VisitsBy w (sketch_of w.shapes (length a.rows) (of h ts)) (search_of w.shapes (length a.rows) (of h ts)) h Ps a n
 
 -- a constant once, in the place of what it is a constant of, and else those of the parts
@@ -195,7 +195,7 @@ OnceOr true P Q n = P n
 OnceOr false P Q n = Q n
 
 -- the constants of a condition
-abbrev pub ConditionVisits : AskedTables → Top → Terms → List Part → Visiting
+abbrev pub ConditionVisits : AskedTables → Top → Terms → List VisitPart → Visiting
 ConditionVisits w h ts Ps a n = OnceOr (is_constant (length a.rows) (of h ts)) (TreeVisits w h ts Ps (inside_of a blank)) (ConditionsVisit Ps a) n
 
 abbrev mutual
@@ -210,12 +210,12 @@ abbrev mutual
   pub InCondition : AskedTables → Term → Visiting
   InCondition w (of h ts) = ConditionVisits w h ts (parts w ts)
 
-  pub parts : AskedTables → Terms → List Part
+  pub parts : AskedTables → Terms → List VisitPart
   parts w nil = []
   parts w (cons t ts) = record { worth = meaning t; visits = Visits w t; in_query = InQuery w t; in_condition = InCondition w t } ∷ parts w ts
 
-abbrev pub part : AskedTables → Term → Part
-part w t = record { worth = meaning t; visits = Visits w t; in_query = InQuery w t; in_condition = InCondition w t }
+abbrev pub visit_part : AskedTables → Term → VisitPart
+visit_part w t = record { worth = meaning t; visits = Visits w t; in_query = InQuery w t; in_condition = InCondition w t }
 
 -- a tree by its head alone
 abbrev pub VisitsByHead : AskedTables → Term → Visiting

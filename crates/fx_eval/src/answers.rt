@@ -2,8 +2,8 @@
 ghost use Rattle.std.specs.Prelude.{◌≡◌, false, length, map, option_map, Some, if◌then◌else◌};
 ghost use Rattle.fx_types.specs.ValueView.{view};
 ghost use Rattle.fx_types.specs.Values.{text};
-ghost use Rattle.fx_eval.specs.Given.{is_inner as is_inner_place, IsEach, IsName, IsOnce, count_in, each, given, once, value_in, values_in};
-ghost use Rattle.fx_eval.specs.TableCalls.{IsCount, IsFormula};
+ghost use Rattle.fx_eval.specs.Given.{is_inner as is_inner_place, IsEach, IsName, IsOnce, count_argument, each, argument_values, once, argument_value, values_in};
+ghost use Rattle.fx_eval.specs.TableCalls.{IsOneOrNone, IsOneFormula};
 ghost use Rattle.fx_core.specs.Term.{over};
 ghost use Rattle.fx_typing.specs.WellTyped.{inside, plain, standing_at};
 
@@ -40,25 +40,25 @@ fn is_inner(takes: Takes) -> bool
 
 // The values of the one formula.
 pub(crate) fn only(answers: Vec<Answers>) -> Vec<Value>
-    requires { IsFormula (map given answers.items) }
-    ensures values { map view result.items ≡ values_in (map given answers.items) }
-    ensures long { length result.items ≡ length (values_in (map given answers.items)) }
+    requires { IsOneFormula (map argument_values answers.items) }
+    ensures values { map view result.items ≡ values_in (map argument_values answers.items) }
+    ensures long { length result.items ≡ length (values_in (map argument_values answers.items)) }
 {
     values_of(answers.into_iter().next())
 }
 
 // The one value, where it is not left out.
 pub(crate) fn count(answers: Vec<Answers>) -> Option<Value>
-    requires { IsCount (map given answers.items) }
-    ensures { option_map view result ≡ count_in (map given answers.items) }
+    requires { IsOneOrNone (map argument_values answers.items) }
+    ensures { option_map view result ≡ count_argument (map argument_values answers.items) }
 {
     value(answers.into_iter().next())
 }
 
 // The values of a formula.
 pub(crate) fn values_of(answers: Option<Answers>) -> Vec<Value>
-    requires { IsEach (option_map given answers) }
-    ensures { option_map given answers ≡ Some (each (map view result.items)) }
+    requires { IsEach (option_map argument_values answers) }
+    ensures { option_map argument_values answers ≡ Some (each (map view result.items)) }
 {
     match answers {
         Some(Answers::Each(values)) => values,
@@ -68,8 +68,8 @@ pub(crate) fn values_of(answers: Option<Answers>) -> Vec<Value>
 
 // The name of a column.
 pub(crate) fn name_of(answers: Option<Answers>) -> Words
-    requires { IsName (option_map given answers) }
-    ensures { option_map given answers ≡ Some (once (text result)) }
+    requires { IsName (option_map argument_values answers) }
+    ensures { option_map argument_values answers ≡ Some (once (text result)) }
 {
     match answers {
         Some(Answers::Once(Value::Text(name))) => name,
@@ -79,8 +79,8 @@ pub(crate) fn name_of(answers: Option<Answers>) -> Words
 
 // A value that may be left out.
 pub(crate) fn value(answers: Option<Answers>) -> Option<Value>
-    requires { IsOnce (option_map given answers) }
-    ensures { option_map view result ≡ value_in (option_map given answers) }
+    requires { IsOnce (option_map argument_values answers) }
+    ensures { option_map view result ≡ argument_value (option_map argument_values answers) }
 {
     match answers {
         None => None,

@@ -3,7 +3,7 @@ ghost use Rattle.std.specs.Prelude.{◌≡◌, IfOk, length, map};
 ghost use Rattle.fx_types.specs.ValueView.{view};
 ghost use Rattle.fx_semantics.specs.Rows.{is_falling as is_falling_in};
 ghost use Rattle.fx_tables.specs.AggregateCalls.{concatenated_by};
-ghost use Rattle.fx_eval.specs.Given.{given, separator_in, values_in};
+ghost use Rattle.fx_eval.specs.Given.{argument_values, separator_in, values_in};
 ghost use Rattle.fx_eval.specs.TableCalls.{CanMake, IsJoining, IsMadeOf};
 
 use crate::answers::{Answers, count, only, value, values_of};
@@ -18,8 +18,8 @@ use std::alloc::Global;
 
 /// What a function makes of the rows of a table, and of what its other parts came to.
 pub fn over(alloc: Global, fun: Fun, rows: Rows, answers: Vec<Answers>) -> Result<Value, Memory>
-    requires { CanMake fun rows (map given answers.items) }
-    ensures { IfOk result (λ v. IsMadeOf fun rows (map given answers.items) (view v)) }
+    requires { CanMake fun rows (map argument_values answers.items) }
+    ensures { IfOk result (λ v. IsMadeOf fun rows (map argument_values answers.items) (view v)) }
 {
     match fun {
         Fun::Filter => {
@@ -63,8 +63,8 @@ fn is_falling(order: SortOrder) -> bool
 
 // The texts of the formula joined, with the separator between each two.
 fn concatenate(alloc: Global, answers: Vec<Answers>) -> Result<Value, Memory>
-    requires { IsJoining (map given answers.items) }
-    ensures { IfOk result (λ v. view v ≡ concatenated_by (separator_in (map given answers.items)) (values_in (map given answers.items))) }
+    requires { IsJoining (map argument_values answers.items) }
+    ensures { IfOk result (λ v. view v ≡ concatenated_by (separator_in (map argument_values answers.items)) (values_in (map argument_values answers.items))) }
 {
     let mut left = answers.into_iter();
     let values = values_of(left.next());

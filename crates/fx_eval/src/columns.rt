@@ -1,8 +1,8 @@
 // The names of columns, and what stands beside them.
 ghost use Rattle.std.specs.Prelude.{◌≡◌, IfOk, map};
 ghost use Rattle.fx_tables.specs.NewColumn.{column_seen, renaming_seen};
-ghost use Rattle.fx_eval.specs.Given.{columns_in, given, names_in, pairs_in};
-ghost use Rattle.fx_eval.specs.TableCalls.{AreColumns, AreNames, ArePairs};
+ghost use Rattle.fx_eval.specs.Given.{new_columns, argument_values, column_names_in, pairs_in};
+ghost use Rattle.fx_eval.specs.TableCalls.{AreNewColumns, AreColumnNames, AreNamePairs};
 
 use crate::answers::{Answers, name_of, values_of};
 use fx_base::Memory;
@@ -11,8 +11,8 @@ use fx_types::words::Words;
 use std::alloc::Global;
 
 pub(crate) fn names(alloc: Global, answers: Vec<Answers>) -> Result<Vec<Words>, Memory>
-    requires { AreNames (map given answers.items) }
-    ensures { IfOk result (λ ns. ns.items ≡ names_in (map given answers.items)) }
+    requires { AreColumnNames (map argument_values answers.items) }
+    ensures { IfOk result (λ ns. ns.items ≡ column_names_in (map argument_values answers.items)) }
 {
     let mut names = Vec::with_capacity(alloc, answers.len())?;
     for answer in answers {
@@ -23,8 +23,8 @@ pub(crate) fn names(alloc: Global, answers: Vec<Answers>) -> Result<Vec<Words>, 
 
 // Each name with the values of the formula behind it.
 pub(crate) fn new_columns(alloc: Global, answers: Vec<Answers>) -> Result<Vec<NewColumn>, Memory>
-    requires { AreColumns (map given answers.items) }
-    ensures { IfOk result (λ cs. map column_seen cs.items ≡ columns_in (map given answers.items)) }
+    requires { AreNewColumns (map argument_values answers.items) }
+    ensures { IfOk result (λ cs. map column_seen cs.items ≡ new_columns (map argument_values answers.items)) }
 {
     let mut columns = Vec::new(alloc);
     let mut left = answers.into_iter();
@@ -42,8 +42,8 @@ pub(crate) fn new_columns(alloc: Global, answers: Vec<Answers>) -> Result<Vec<Ne
 
 // Each name with the one behind it.
 pub(crate) fn renamings(alloc: Global, answers: Vec<Answers>) -> Result<Vec<Renaming>, Memory>
-    requires { ArePairs (map given answers.items) }
-    ensures { IfOk result (λ rs. map renaming_seen rs.items ≡ pairs_in (map given answers.items)) }
+    requires { AreNamePairs (map argument_values answers.items) }
+    ensures { IfOk result (λ rs. map renaming_seen rs.items ≡ pairs_in (map argument_values answers.items)) }
 {
     let mut renamings = Vec::new(alloc);
     let mut left = answers.into_iter();

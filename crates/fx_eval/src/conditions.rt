@@ -4,8 +4,8 @@ ghost use Rattle.fx_types.specs.ValueView.{view};
 ghost use Rattle.fx_types.specs.Values.{boolean};
 ghost use Rattle.fx_types.specs.declared.values.Value.TheVariants.{Boolean};
 ghost use Rattle.fx_tables.specs.RowCalls.{holds as holds_in, verdict_of};
-ghost use Rattle.fx_eval.specs.Given.{given};
-ghost use Rattle.fx_eval.specs.TableCalls.{AreFormulas, found_in, IsSearch, value_found, verdicts as verdicts_of, with_condition};
+ghost use Rattle.fx_eval.specs.Given.{argument_values};
+ghost use Rattle.fx_eval.specs.TableCalls.{AreFormulas, look_up_answer, IsConditionAndFormula, value_found, verdicts as verdicts_of, with_condition};
 ghost use Rattle.fx_value.specs.Columns.{Row};
 ghost use Rattle.fx_tables.specs.Unions.{fault_or, is_fault};
 
@@ -21,8 +21,8 @@ pub(crate) fn verdicts(
     rows: &Rows,
     conditions: Vec<Answers>,
 ) -> Result<Vec<Value>, Memory>
-    requires { AreFormulas (length rows.now) (map given conditions.items) }
-    ensures value { IfOk result (λ vs. map view vs.items ≡ verdicts_of rows.now (map given conditions.items)) }
+    requires { AreFormulas (length rows.now) (map argument_values conditions.items) }
+    ensures value { IfOk result (λ vs. map view vs.items ≡ verdicts_of rows.now (map argument_values conditions.items)) }
     ensures each { IfOk result (λ vs. length vs.items ≡ length rows.now) }
 {
     let mut verdicts = truths(alloc, rows)?;
@@ -89,8 +89,8 @@ fn holds(condition: &Value) -> bool
 
 // The first row whose condition holds, or what the formula gave for it.
 pub(crate) fn find(alloc: Global, rows: Rows, answers: Vec<Answers>) -> Result<Value, Memory>
-    requires { IsSearch (length rows) (map given answers.items) }
-    ensures { IfOk result (λ v. view v ≡ found_in rows (map given answers.items)) }
+    requires { IsConditionAndFormula (length rows) (map argument_values answers.items) }
+    ensures { IfOk result (λ v. view v ≡ look_up_answer rows (map argument_values answers.items)) }
 {
     let mut left = answers.into_iter();
     let conditions = values_of(left.next());

@@ -1,7 +1,7 @@
 //! The forms, part by part: what each makes of the value of a part.
 ghost use Rattle.std.specs.Prelude.{◌≡◌};
 ghost use Rattle.fx_types.specs.ValueView.{view};
-ghost use Rattle.fx_eval.specs.Courses.{by_decision, coalesces, end_of, ends_in_branch, going, turned, turning};
+ghost use Rattle.fx_eval.specs.Courses.{by_decision, coalesces, form_end, ends_in_branch, course_going, turned_by, turning};
 ghost use Rattle.fx_eval.specs.Kinds.{CanTurn};
 
 use fx_core::Form;
@@ -59,14 +59,14 @@ pub enum Turn {
 impl Course {
     /// Whether a part that stands alone at the end is the form's value.
     pub fn ends_in_branch(&self) -> bool
-        ensures { result ≡ ends_in_branch (going self.now) }
+        ensures { result ≡ ends_in_branch (course_going self.now) }
     {
         matches!(self, Course::If | Course::Match(_) | Course::Recover(_))
     }
 
     /// What the form is worth where no part is left.
     pub fn end(self) -> Value
-        ensures { view result ≡ end_of (going self) }
+        ensures { view result ≡ form_end (course_going self) }
     {
         match self {
             Course::All => exhausted_value(Form::All),
@@ -78,8 +78,8 @@ impl Course {
 
     /// What the value of a part makes of the form.
     pub fn turn(self, value: Value) -> Turn
-        requires { CanTurn (going self) (view value) }
-        ensures { turning result ≡ turned (going self) (view value) }
+        requires { CanTurn (course_going self) (view value) }
+        ensures { turning result ≡ turned_by (course_going self) (view value) }
     {
         match self {
             Course::All => by_decision(
@@ -123,7 +123,7 @@ fn by_decision(decision: Decision, met: Turn, unmet: Turn) -> Turn
 
 // What `Coalesce` makes of a value: a blank one and an empty text are passed over.
 fn coalesce(value: Value) -> Turn
-    ensures { turning result ≡ turned coalesces (view value) }
+    ensures { turning result ≡ turned_by coalesces (view value) }
 {
     if is_blank(&value) {
         Turn::Further(Course::Coalesce)

@@ -3,13 +3,13 @@ ghost use Rattle.std.specs.Prelude.{◌≡◌, ◌*◌, ℤ, List, length, map, 
 ghost use Rattle.fx_types.specs.ValueView.{view};
 ghost use Rattle.fx_types.specs.Values.{number};
 ghost use Rattle.fx_primitives.specs.Folds.{average_of};
-ghost use Rattle.fx_eval.specs.Demands.{IsDemand, IsFolded, IsNumberColumn, IsSearch, IsSearchBy, fun_of, most_of, settled_in};
+ghost use Rattle.fx_eval.specs.Demands.{IsDemand, IsFolded, IsNumberColumn, IsSearch, IsSearchBy, fun_of, most_rows_taken, settled_in};
 ghost use Rattle.fx_number.specs.Decimal.{IsInRange};
 ghost use Rattle.fx_plan.specs.QueryExpressions.{sketch_of};
 ghost use Rattle.fx_semantics.specs.Rows.{rows_in};
 ghost use Rattle.fx_tables.specs.AggregateCalls.{IsSumValue, number_or_blank as number_or_blank_of};
 ghost use Rattle.fx_value.specs.Aggregates.{SumsUp};
-ghost use Rattle.fx_tables.specs.RowCalls.{IsCountValue, first_of};
+ghost use Rattle.fx_tables.specs.RowCalls.{IsCountValue, first_row_record};
 ghost use Rattle.fx_core.specs.declared.functions.Fun.TheVariants as fun;
 ghost use Rattle.fx_core.specs.Lawful.{IsLawfulSchema};
 ghost use Rattle.fx_core.specs.Term.{all, cons, const, nil, of};
@@ -66,7 +66,7 @@ pub struct Asked {
 impl Demand {
     /// How many rows are taken at most; else all.
     pub fn most(self) -> Option<u32>
-        ensures { result ≡ most_of self }
+        ensures { result ≡ most_rows_taken self }
     {
         match self {
             Demand::FirstRows(most) => Some(most),
@@ -357,7 +357,7 @@ pub(crate) fn count_value(count: u32) -> Value
 
 /// The first row of a table, or blank where there is none.
 pub(crate) fn first_in(table: Value) -> Value
-    ensures { view result ≡ first_of (rows_in (view table)) }
+    ensures { view result ≡ first_row_record (rows_in (view table)) }
 {
     match table {
         Value::Tab(rows) => first(rows),

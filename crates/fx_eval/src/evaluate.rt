@@ -1,23 +1,23 @@
 //! The evaluator.
 ghost use Rattle.std.specs.Prelude.{◌≡◌, ◌+◌, ◌≤◌, ◌∷◌, [], Some, true, false, length, map, IfOk, IsErrOf, MatchOption, if◌then◌else◌};
 ghost use Rattle.fx_base.specs.Faults.{Rose};
-ghost use Rattle.fx_base.specs.Silence.{Goes, IsLater, IsLost};
+ghost use Rattle.fx_base.specs.Silence.{MayFallSilent, IsLater, SilenceCause};
 ghost use Rattle.fx_base.specs.Telling.{Stays};
 ghost use Rattle.fx_types.specs.Types.{Shape};
 ghost use Rattle.fx_types.specs.ValueView.{fields_view, view};
 ghost use Rattle.fx_types.specs.Values.{blank};
-ghost use Rattle.fx_eval.specs.Courses.{IsWorth, ends_in_branch, going};
-ghost use Rattle.fx_eval.specs.Moments.{HasVisited, Went};
+ghost use Rattle.fx_eval.specs.Courses.{FormIsWorth, ends_in_branch, course_going};
+ghost use Rattle.fx_eval.specs.EvalSteps.{HasVisited, Went};
 ghost use Rattle.fx_eval.specs.MomentsOver.{moment_of};
-ghost use Rattle.fx_eval.specs.Parts.{AreAsked, AreFilled, AreFine, AreInside, AreSet, AreSome, HasNext, IsAsked, caught_in, inner, terms_of};
+ghost use Rattle.fx_eval.specs.Parts.{ArePartsReady, AreFilled, AreFine, AreInside, AreSet, AreSome, HasNext, IsPartReady, caught_in, inner, terms_of};
 ghost use Rattle.fx_eval.specs.Demands.{CanStand, IsAskedFor};
-ghost use Rattle.fx_eval.specs.Visits.{AllVisit, AtMost, EachVisits, FormVisits, InFound, OverVisits, PartVisits, PartsVisit, RowsVisit, Visits, VisitsByHead, WithinVisits, asked_tables, part as part_of, parts as parts_of};
-ghost use Rattle.fx_env.specs.Scopes.{CanEvaluate, IsReady, around};
-ghost use Rattle.fx_env.specs.Telling.{Heard, Told, values_told};
+ghost use Rattle.fx_eval.specs.Visits.{AllVisit, AtMost, EachVisits, FormVisits, InFound, OverVisits, PartVisits, PartsVisit, RowsVisit, Visits, VisitsByHead, WithinVisits, asked_tables, visit_part as part_of, parts as parts_of};
+ghost use Rattle.fx_env.specs.Scopes.{CanEvaluate, IsTypedHere, around};
+ghost use Rattle.fx_env.specs.Telling.{Heard, EnvState, values_told};
 ghost use Rattle.fx_semantics.specs.Around.{AreEach, AreValues, catching, inside as inside_of};
 ghost use Rattle.fx_semantics.specs.Fresh.{IsValue, IsWithin, field_of, meaning, meanings};
-ghost use Rattle.fx_semantics.specs.Rows.{IsOfFound, IsOver};
-ghost use Rattle.fx_eval.specs.Given.{AreGiven, IsGiven, given};
+ghost use Rattle.fx_semantics.specs.Rows.{IsOfFound, IsTableCall};
+ghost use Rattle.fx_eval.specs.Given.{AreGiven, PartGives, argument_values};
 ghost use Rattle.fx_core.specs.declared.functions.Fun.TheVariants.{LookUp};
 ghost use Rattle.fx_core.specs.Term.{all, cons, nil, of};
 ghost use Rattle.fx_core.specs.Term.{over as over_head, within as scoped};
@@ -55,14 +55,14 @@ pub fn eval<E: Env, L: Ledger>(
     requires { CanEvaluate (E.fixed env.old).types scope.old core.now }
     ensures fixed { E.fixed env.new ≡ E.fixed env.old }
     ensures scope { scope.new ≡ scope.old }
-    ensures told { Goes (IsLost (E.marks env.old) (E.marks env.new)) Stays (E.told env.old) (E.told env.new) }
+    ensures told { MayFallSilent (SilenceCause (E.marks env.old) (E.marks env.new)) Stays (E.told env.old) (E.told env.new) }
     ensures value { IfOk result (λ v. IsValue (around (E.fixed env.old).types (values_told (E.told env.new)) scope.old) core.now (view v)) }
-    ensures fits { (u : Shape) → IsReady (E.fixed env.old).types scope.old core.now u → IfOk result (λ v. fits_in (view v) u ≡ true) }
+    ensures fits { (u : Shape) → IsTypedHere (E.fixed env.old).types scope.old core.now u → IfOk result (λ v. fits_in (view v) u ≡ true) }
     ensures marks { IsLater (E.marks env.old) (E.marks env.new) }
     ensures keeper { IsErrOf result Stop.Keeper → Rose (E.marks env.old).faults (E.marks env.new).faults }
     ensures ticks { steps.new + E.ticked env.old ≡ steps.old + 1 + E.ticked env.new }
     ensures visited { E.visited env.old ≤ E.visited env.new }
-    ensures visits { IfOk result (λ _. (w : Told E.Beside) → E.told env.new ≡ Some w →
+    ensures visits { IfOk result (λ _. (w : EnvState E.Beside) → E.told env.new ≡ Some w →
         AtMost (Visits (asked_tables (E.fixed env.old) w) core.now (around (E.fixed env.old).types (Some w.values) scope.old)) (E.visited env.old) (E.visited env.new)) }
 {
     steps.tick();
@@ -88,7 +88,7 @@ fn tree<E: Env, L: Ledger>(
     ensures visits { IfOk result (λ _. HasVisited (λ w. Visits w core.now)
         (moment_of E.Env env.old scope.old steps.old)
         (moment_of E.Env env.new scope.new steps.new)) }
-    ensures fits { (u : Shape) → IsReady (E.fixed env.old).types scope.old core.now u → IfOk result (λ v. fits_in (view v) u ≡ true) }
+    ensures fits { (u : Shape) → IsTypedHere (E.fixed env.old).types scope.old core.now u → IfOk result (λ v. fits_in (view v) u ≡ true) }
 {
     values_fit();
     value_here(alloc, env, scope, core, steps)
@@ -377,8 +377,8 @@ fn catch_error<E: Env, L: Ledger>(
 
 // Whether the value of a part, behind which these stand, is the form's.
 fn ends_here(course: &Course, others: &[Core]) -> bool
-    ensures last { result ≡ true → (others.now ≡ []) × (ends_in_branch (going course.now) ≡ true) }
-    ensures next { result ≡ false → HasNext (going course.now) others.now }
+    ensures last { result ≡ true → (others.now ≡ []) × (ends_in_branch (course_going course.now) ≡ true) }
+    ensures next { result ≡ false → HasNext (course_going course.now) others.now }
 {
     others.is_empty() && course.ends_in_branch()
 }
@@ -405,13 +405,13 @@ fn go_through<E: Env, L: Ledger>(
     parts: &[Core],
     steps: &mut Steps<L>,
 ) -> Result<Value, Stop>
-    requires { AreSet (E.fixed env.old).types scope.old (going course) parts.now }
+    requires { AreSet (E.fixed env.old).types scope.old (course_going course) parts.now }
     ensures went { Went
         (moment_of E.Env env.old scope.old steps.old)
         (moment_of E.Env env.new scope.new steps.new) }
     ensures keeper { IsErrOf result Stop.Keeper → Rose (E.marks env.old).faults (E.marks env.new).faults }
-    ensures value { IfOk result (λ v. Heard (values_told (E.told env.new)) (λ told. IsWorth (going course) (meanings (all parts.now)) (around (E.fixed env.old).types told scope.old) (view v))) }
-    ensures visits { IfOk result (λ _. HasVisited (λ w. FormVisits (going course) (parts_of w (all parts.now)))
+    ensures value { IfOk result (λ v. Heard (values_told (E.told env.new)) (λ told. FormIsWorth (course_going course) (meanings (all parts.now)) (around (E.fixed env.old).types told scope.old) (view v))) }
+    ensures visits { IfOk result (λ _. HasVisited (λ w. FormVisits (course_going course) (parts_of w (all parts.now)))
         (moment_of E.Env env.old scope.old steps.old)
         (moment_of E.Env env.new scope.new steps.new)) }
 {
@@ -516,7 +516,7 @@ fn over_table<E: Env, L: Ledger>(
         (moment_of E.Env env.old scope.old steps.old)
         (moment_of E.Env env.new scope.new steps.new) }
     ensures keeper { IsErrOf result Stop.Keeper → Rose (E.marks env.old).faults (E.marks env.new).faults }
-    ensures value { IfOk result (λ v. Heard (values_told (E.told env.new)) (λ told. IsOver fun (meaning table.now ∷ meanings (all parts.now)) (around (E.fixed env.old).types told scope.old) (view v))) }
+    ensures value { IfOk result (λ v. Heard (values_told (E.told env.new)) (λ told. IsTableCall fun (meaning table.now ∷ meanings (all parts.now)) (around (E.fixed env.old).types told scope.old) (view v))) }
     ensures visits { IfOk result (λ _. HasVisited (λ w. OverVisits fun (part_of w table.now ∷ parts_of w (all parts.now)))
         (moment_of E.Env env.old scope.old steps.old)
         (moment_of E.Env env.new scope.new steps.new)) }
@@ -570,7 +570,7 @@ fn call_over<E: Env, L: Ledger>(
         (moment_of E.Env env.old scope.old steps.old)
         (moment_of E.Env env.new scope.new steps.new) }
     ensures keeper { IsErrOf result Stop.Keeper → Rose (E.marks env.old).faults (E.marks env.new).faults }
-    ensures value { IfOk result (λ v. Heard (values_told (E.told env.new)) (λ told. IsOver fun (meaning table.now ∷ meanings (all parts.now)) (around (E.fixed env.old).types told scope.old) (view v))) }
+    ensures value { IfOk result (λ v. Heard (values_told (E.told env.new)) (λ told. IsTableCall fun (meaning table.now ∷ meanings (all parts.now)) (around (E.fixed env.old).types told scope.old) (view v))) }
     ensures visits { IfOk result (λ _. HasVisited (λ w. RowsVisit fun (part_of w table.now ∷ parts_of w (all parts.now)))
         (moment_of E.Env env.old scope.old steps.old)
         (moment_of E.Env env.new scope.new steps.new)) }
@@ -597,12 +597,12 @@ fn part_answers<E: Env, L: Ledger>(
     parts: &[Core],
     steps: &mut Steps<L>,
 ) -> Result<Vec<Answers>, Stop>
-    requires { AreAsked fun (length parts.now + 1) 1 (E.fixed env.old).types scope.old rows.now parts.now }
+    requires { ArePartsReady fun (length parts.now + 1) 1 (E.fixed env.old).types scope.old rows.now parts.now }
     ensures went { Went
         (moment_of E.Env env.old scope.old steps.old)
         (moment_of E.Env env.new scope.new steps.new) }
     ensures keeper { IsErrOf result Stop.Keeper → Rose (E.marks env.old).faults (E.marks env.new).faults }
-    ensures value { IfOk result (λ gs. Heard (values_told (E.told env.new)) (λ told. AreGiven (over_head fun) (length parts.now + 1) 1 (meanings (all parts.now)) (around (E.fixed env.old).types told scope.old) rows.now (map given gs.items))) }
+    ensures value { IfOk result (λ gs. Heard (values_told (E.told env.new)) (λ told. AreGiven (over_head fun) (length parts.now + 1) 1 (meanings (all parts.now)) (around (E.fixed env.old).types told scope.old) rows.now (map argument_values gs.items))) }
     ensures visits { IfOk result (λ _. HasVisited (λ w. PartsVisit fun (length parts.now + 1) 1 rows.now (parts_of w (all parts.now)))
         (moment_of E.Env env.old scope.old steps.old)
         (moment_of E.Env env.new scope.new steps.new)) }
@@ -628,12 +628,12 @@ fn answer<E: Env, L: Ledger>(
     part: &Core,
     steps: &mut Steps<L>,
 ) -> Result<Answers, Stop>
-    requires { IsAsked (if in_rows then inside else plain) (E.fixed env.old).types scope.old rows.now part.now }
+    requires { IsPartReady (if in_rows then inside else plain) (E.fixed env.old).types scope.old rows.now part.now }
     ensures went { Went
         (moment_of E.Env env.old scope.old steps.old)
         (moment_of E.Env env.new scope.new steps.new) }
     ensures keeper { IsErrOf result Stop.Keeper → Rose (E.marks env.old).faults (E.marks env.new).faults }
-    ensures value { IfOk result (λ g. Heard (values_told (E.told env.new)) (λ told. IsGiven (if in_rows then inside else plain) (meaning part.now) (around (E.fixed env.old).types told scope.old) rows.now (given g))) }
+    ensures value { IfOk result (λ g. Heard (values_told (E.told env.new)) (λ told. PartGives (if in_rows then inside else plain) (meaning part.now) (around (E.fixed env.old).types told scope.old) rows.now (argument_values g))) }
     ensures visits { IfOk result (λ _. HasVisited (λ w. PartVisits (if in_rows then inside else plain) rows.now (part_of w part.now))
         (moment_of E.Env env.old scope.old steps.old)
         (moment_of E.Env env.new scope.new steps.new)) }

@@ -2,12 +2,12 @@
 ghost use Rattle.std.specs.Prelude.{◌≡◌, ◌≤◌, false, length, map, IfOk, IsErrOf, MatchOption, Some};
 ghost use Rattle.std.specs.List.{list_any};
 ghost use Rattle.fx_base.specs.Faults.{Rose};
-ghost use Rattle.fx_base.specs.Silence.{Goes, IsLater, IsLost};
+ghost use Rattle.fx_base.specs.Silence.{MayFallSilent, IsLater, SilenceCause};
 ghost use Rattle.fx_base.specs.Telling.{Stays};
 ghost use Rattle.fx_types.specs.ValueView.{view};
-ghost use Rattle.fx_eval.specs.Demands.{CanMeet, CanTake, IsAnswered, IsAskedFor, IsMet, most_of, settled_in};
+ghost use Rattle.fx_eval.specs.Demands.{CanMeet, CanAddUp, IsAnswered, IsAskedFor, IsMet, most_rows_taken, settled_in};
 ghost use Rattle.fx_eval.specs.Visits.{AtMost, InRanges, IsUnasked, asked_tables};
-ghost use Rattle.fx_env.specs.Telling.{Told, tables_told};
+ghost use Rattle.fx_env.specs.Telling.{EnvState, tables_told};
 ghost use Rattle.fx_plan.specs.Plans.{CanPlan, IsPlan, is_fault};
 ghost use Rattle.row_queries.specs.Queries.{IsQuery};
 ghost use Rattle.row_queries.specs.RowTests.{HasNoFaults};
@@ -65,16 +65,16 @@ pub fn answer<E: Env>(
     constants: &[Value],
 ) -> Result<Value, Stop>
     requires plan { CanPlan (E.fixed env.old).schema.tables asked.now.sketch (map view constants.now) }
-    requires take { CanTake (E.fixed env.old).schema.tables asked.now.demand asked.now.sketch }
+    requires take { CanAddUp (E.fixed env.old).schema.tables asked.now.demand asked.now.sketch }
     requires faultless { list_any is_fault (map view constants.now) ≡ false }
     ensures fixed { E.fixed env.new ≡ E.fixed env.old }
-    ensures told { Goes (IsLost (E.marks env.old) (E.marks env.new)) Stays (E.told env.old) (E.told env.new) }
+    ensures told { MayFallSilent (SilenceCause (E.marks env.old) (E.marks env.new)) Stays (E.told env.old) (E.told env.new) }
     ensures value { IfOk result (λ v. IsAnswered (E.fixed env.old).schema.tables (tables_told (E.told env.new)) asked.now.demand asked.now.sketch (map view constants.now) (view v)) }
     ensures marks { IsLater (E.marks env.old) (E.marks env.new) }
     ensures keeper { IsErrOf result Stop.Keeper → Rose (E.marks env.old).faults (E.marks env.new).faults }
     ensures ticked { E.ticked env.new ≡ E.ticked env.old }
     ensures visited { E.visited env.old ≤ E.visited env.new }
-    ensures visits { IfOk result (λ _. (w : Told E.Beside) → E.told env.new ≡ Some w →
+    ensures visits { IfOk result (λ _. (w : EnvState E.Beside) → E.told env.new ≡ Some w →
         AtMost (InRanges (asked_tables (E.fixed env.old) w) asked.now.sketch (map view constants.now)) (E.visited env.old) (E.visited env.new)) }
 {
     let query = plan_query(alloc, env, asked, constants)?;
@@ -89,7 +89,7 @@ fn plan_query<E: Env>(
     constants: &[Value],
 ) -> Result<Query, Memory>
     requires plan { CanPlan (E.fixed env.now).schema.tables asked.now.sketch (map view constants.now) }
-    ensures plan { IfOk result (λ q. IsPlan (E.fixed env.now).schema.tables asked.now.sketch (map view constants.now) (most_of asked.now.demand) q) }
+    ensures plan { IfOk result (λ q. IsPlan (E.fixed env.now).schema.tables asked.now.sketch (map view constants.now) (most_rows_taken asked.now.demand) q) }
     ensures query { IfOk result (λ q. IsQuery (E.fixed env.now).schema.tables q) }
 {
     let most = asked.demand.most();
@@ -107,7 +107,7 @@ fn by_query<E: Env>(
     requires sound { HasNoFaults query.now.test }
     requires take { CanMeet (E.fixed env.old).schema.tables demand query.now }
     ensures fixed { E.fixed env.new ≡ E.fixed env.old }
-    ensures told { Goes (IsLost (E.marks env.old) (E.marks env.new)) Stays (E.told env.old) (E.told env.new) }
+    ensures told { MayFallSilent (SilenceCause (E.marks env.old) (E.marks env.new)) Stays (E.told env.old) (E.told env.new) }
     ensures value { IfOk result (λ v. IsMet (E.fixed env.old).schema.tables (tables_told (E.told env.new)) demand query.now (view v)) }
     ensures marks { IsLater (E.marks env.old) (E.marks env.new) }
     ensures keeper { IsErrOf result Stop.Keeper → Rose (E.marks env.old).faults (E.marks env.new).faults }

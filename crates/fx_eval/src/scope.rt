@@ -21,15 +21,15 @@ pub struct Scope {
 impl Model for Scope {
     ghost use Rattle.std.specs.Coded.{codes};
     ghost use Rattle.fx_types.specs.ValueCode.{data_code};
-    ghost use Rattle.fx_env.specs.Scopes.{Held};
+    ghost use Rattle.fx_env.specs.Scopes.{ScopeValues};
 
-    ghost Value = { Held };
+    ghost Value = { ScopeValues };
 
     ghost coded = { Prim.hlevel (codes, data_code) };
 
-    ghost use Rattle.fx_env.specs.Scopes.{held};
+    ghost use Rattle.fx_env.specs.Scopes.{scope_values};
 
-    ghost view = { λ s. held s.rows.items s.item s.caught };
+    ghost view = { λ s. scope_values s.rows.items s.item s.caught };
 }
 
 impl Scope {

@@ -7,16 +7,16 @@ use Rattle.std.specs.Borrow.{Bor}
 use Rattle.std.proofs.Common.{append_assoc}
 use Rattle.fx_lexer.specs.Spelling.{doubled, is_quote}
 use Rattle.fx_grammar.specs.Means.{between_quotes}
-use Rattle.fx_grammar.specs.Undoubling.{put, undoubled, step_at, step_seen}
+use Rattle.fx_grammar.specs.Undoubling.{put_char, undoubled, step_at, step_seen}
 
 same : (c : ℕ) → eqb c c ≡ true
 same c = grind (arith, nat_tests)
 
-plain : (p : ℕ → Bool) (c : ℕ) (xs : List ℕ) → p c ≡ false → undoubled p (c ∷ xs) ≡ put c (undoubled p xs)
+plain : (p : ℕ → Bool) (c : ℕ) (xs : List ℕ) → p c ≡ false → undoubled p (c ∷ xs) ≡ put_char c (undoubled p xs)
 plain p c [] e = rw e refl
 plain p c (d ∷ ds) e = rw e refl
 
-marked : (p : ℕ → Bool) (c : ℕ) (ds : List ℕ) → p c ≡ true → undoubled p (c ∷ c ∷ ds) ≡ put c (undoubled p ds)
+marked : (p : ℕ → Bool) (c : ℕ) (ds : List ℕ) → p c ≡ true → undoubled p (c ∷ c ∷ ds) ≡ put_char c (undoubled p ds)
 marked p c ds e = let f = same c in rw (e, f) refl
 
 pub undoubled-doubled : (p : ℕ → Bool) (cs : List ℕ) → undoubled p (doubled p cs) ≡ Some cs
@@ -24,8 +24,8 @@ undoubled-doubled p [] = refl
 undoubled-doubled p (c ∷ cs) = by (undoubled-doubled p cs) (p c) refl
   where
     by : undoubled p (doubled p cs) ≡ Some cs → (b : Bool) → p c ≡ b → undoubled p (cond b (c ∷ c ∷ doubled p cs) (c ∷ doubled p cs)) ≡ Some (c ∷ cs)
-    by h true e = marked p c (doubled p cs) e ∙ ap (put c) h
-    by h false e = plain p c (doubled p cs) e ∙ ap (put c) h
+    by h true e = marked p c (doubled p cs) e ∙ ap (put_char c) h
+    by h false e = plain p c (doubled p cs) e ∙ ap (put_char c) h
 
 -- texts are told apart by their doublings
 pub one_doubled : (p : ℕ → Bool) (cs ds : List ℕ) → doubled p cs ≡ doubled p ds → cs ≡ ds
@@ -43,24 +43,24 @@ abbrev went : ℕ → List ℕ → Option (Option (ℕ × List ℕ))
 went c us = Some (Some (c, us))
 
 -- a step takes a character
-pub step_on : (p : ℕ → Bool) (xs : List ℕ) (c : ℕ) (us : List ℕ) → step_at p xs ≡ went c us → undoubled p xs ≡ put c (undoubled p us)
+pub step_on : (p : ℕ → Bool) (xs : List ℕ) (c : ℕ) (us : List ℕ) → step_at p xs ≡ went c us → undoubled p xs ≡ put_char c (undoubled p us)
 step_on p [] c us e = cc
 step_on p (d ∷ []) c us e = by (p d) e
   where
-    by : (b : Bool) → cond b stuck (went d []) ≡ went c us → cond b None (Some (d ∷ [])) ≡ put c (undoubled p us)
+    by : (b : Bool) → cond b stuck (went d []) ≡ went c us → cond b None (Some (d ∷ [])) ≡ put_char c (undoubled p us)
     by true f = cc
-    by false f = let g : ◌≡◌ {A = ℕ × List ℕ} (d, []) (c, us) = cc in λ i. put (g i).0 (undoubled p (g i).1)
+    by false f = let g : ◌≡◌ {A = ℕ × List ℕ} (d, []) (c, us) = cc in λ i. put_char (g i).0 (undoubled p (g i).1)
 step_on p (d ∷ x ∷ ds) c us e = by (p d) e
   where
-    by_pair : (b : Bool) → cond b (went d ds) stuck ≡ went c us → cond b (put d (undoubled p ds)) None ≡ put c (undoubled p us)
-    by_pair true f = let g : ◌≡◌ {A = ℕ × List ℕ} (d, ds) (c, us) = cc in λ i. put (g i).0 (undoubled p (g i).1)
+    by_pair : (b : Bool) → cond b (went d ds) stuck ≡ went c us → cond b (put_char d (undoubled p ds)) None ≡ put_char c (undoubled p us)
+    by_pair true f = let g : ◌≡◌ {A = ℕ × List ℕ} (d, ds) (c, us) = cc in λ i. put_char (g i).0 (undoubled p (g i).1)
     by_pair false f = cc
 
-    by : (b : Bool) → cond b (cond (eqb x d) (went d ds) stuck) (went d (x ∷ ds)) ≡ went c us → cond b (cond (eqb x d) (put d (undoubled p ds)) None) (put d (undoubled p (x ∷ ds))) ≡ put c (undoubled p us)
+    by : (b : Bool) → cond b (cond (eqb x d) (went d ds) stuck) (went d (x ∷ ds)) ≡ went c us → cond b (cond (eqb x d) (put_char d (undoubled p ds)) None) (put_char d (undoubled p (x ∷ ds))) ≡ put_char c (undoubled p us)
     by true f = by_pair (eqb x d) f
-    by false f = let g : ◌≡◌ {A = ℕ × List ℕ} (d, x ∷ ds) (c, us) = cc in λ i. put (g i).0 (undoubled p (g i).1)
+    by false f = let g : ◌≡◌ {A = ℕ × List ℕ} (d, x ∷ ds) (c, us) = cc in λ i. put_char (g i).0 (undoubled p (g i).1)
 
-joined : (out : List ℕ) (c : ℕ) (o : Option (List ℕ)) → option_map (λ cs. out ++ cs) (put c o) ≡ option_map (λ cs. (out ++ c ∷ []) ++ cs) o
+joined : (out : List ℕ) (c : ℕ) (o : Option (List ℕ)) → option_map (λ cs. out ++ cs) (put_char c o) ≡ option_map (λ cs. (out ++ c ∷ []) ++ cs) o
 joined out c None = refl
 joined out c (Some cs) = ap (λ xs. Some xs) (sym (append_assoc out (c ∷ []) cs))
 

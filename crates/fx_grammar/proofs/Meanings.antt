@@ -6,13 +6,13 @@ use Rattle.std.proofs.lemmas.Bool.Decides.{nat_tests}
 use Rattle.fx_number.specs.Spelling.{IsDecimal, decimal_units}
 use Rattle.fx_number.proofs.LeftToRight.{spelled-Spells}
 use Rattle.fx_number.proofs.Written.{Spells-decimal}
-use Rattle.fx_lexer.specs.Spelling.{doubled, is_mark, begins}
+use Rattle.fx_lexer.specs.Spelling.{doubled, is_mark, begins_with}
 use Rattle.fx_lexer.specs.Lexed.{Lexeme}
 use Rattle.fx_lexer.specs.declared.token.TokenKind.{TokenKind}
 use Rattle.fx_lexer.specs.declared.token.TokenKind.TheVariants as kind
 use Rattle.fx_grammar.specs.declared.item.Item.{Item}
 use Rattle.fx_grammar.specs.declared.item.Meaning.TheVariants as m
-use Rattle.fx_grammar.specs.Means.{between_quotes, item, Means, number, text, plain_name, quoted_name, word, symbol, opening, closing, piece, AllMean, no_more, one_more}
+use Rattle.fx_grammar.specs.Means.{between_quotes, item, TokenMeans, number, text, plain_name, quoted_name, word, symbol, opening, closing, piece, AllMean, no_more, one_more}
 use Rattle.fx_core.specs.Tree.{Tree}
 use Rattle.fx_lexer.proofs.Readings.{lexemes_one}
 use Rattle.fx_grammar.specs.Grammar.{IsFormula}
@@ -24,7 +24,7 @@ use Rattle.fx_grammar.proofs.Doubling.{one_doubled, one_quoted}
 abbrev MeansAs : TokenKind → Lexeme → Item → Type 0
 MeansAs kind.Number l x = (ds es : List ℕ) × IsDecimal l.text ds es × (x ≡ item l (m.Number (pos (decimal_units ds es))))
 MeansAs kind.Text l x = (cs : List ℕ) × (l.text ≡ between_quotes 34 cs) × (x ≡ item l (m.Text cs))
-MeansAs kind.Name l x = ((begins 39 l.text ≡ false) × (x ≡ item l (m.Name l.text))) ⊎ ((cs : List ℕ) × (l.text ≡ between_quotes 39 cs) × (x ≡ item l (m.Name cs)))
+MeansAs kind.Name l x = ((begins_with 39 l.text ≡ false) × (x ≡ item l (m.Name l.text))) ⊎ ((cs : List ℕ) × (l.text ≡ between_quotes 39 cs) × (x ≡ item l (m.Name cs)))
 MeansAs (kind.Word w) l x = x ≡ item l (m.Word w)
 MeansAs (kind.Symbol s) l x = x ≡ item l (m.Symbol s)
 MeansAs kind.Opening l x = x ≡ item l m.Opening
@@ -34,7 +34,7 @@ MeansAs kind.Piece l x = (cs : List ℕ) × (l.text ≡ doubled is_mark cs) × (
 as_kind : (l : Lexeme) (x : Item) (k j : TokenKind) → l.kind ≡ k → l.kind ≡ j → MeansAs k l x → MeansAs j l x
 as_kind l x k j e f h = subst (λ (i : TokenKind). MeansAs i l x) (sym e ∙ f) h
 
-means_as : {l : Lexeme} {x : Item} → Means l x → (k : TokenKind) → l.kind ≡ k → MeansAs k l x
+means_as : {l : Lexeme} {x : Item} → TokenMeans l x → (k : TokenKind) → l.kind ≡ k → MeansAs k l x
 means_as (number l ds es e f b) k g = as_kind l _ _ k e g (ds, es, f, refl)
 means_as (text l cs e f) k g = as_kind l _ _ k e g (cs, f, refl)
 means_as (plain_name l e f) k g = as_kind l _ _ k e g (inl (f, refl))
@@ -49,11 +49,11 @@ one_number : (cs ds es fs gs : List ℕ) → IsDecimal cs ds es → IsDecimal cs
 one_number cs ds es fs gs p q =
     let f : ◌≡◌ {A = Option ℤ} (Some (pos (decimal_units ds es))) (Some (pos (decimal_units fs gs))) = sym (spelled-Spells cs _ (Spells-decimal cs ds es p)) ∙ spelled-Spells cs _ (Spells-decimal cs fs gs q) in cc
 
-quoted_begins : (cs : List ℕ) → begins 39 (between_quotes 39 cs) ≡ true
+quoted_begins : (cs : List ℕ) → begins_with 39 (between_quotes 39 cs) ≡ true
 quoted_begins cs = grind (arith, nat_tests)
 
-not_both : (xs cs : List ℕ) → begins 39 xs ≡ false → xs ≡ between_quotes 39 cs → ⊥
-not_both xs cs e f = true≢false (sym (ap (begins 39) f ∙ quoted_begins cs) ∙ e)
+not_both : (xs cs : List ℕ) → begins_with 39 xs ≡ false → xs ≡ between_quotes 39 cs → ⊥
+not_both xs cs e f = true≢false (sym (ap (begins_with 39) f ∙ quoted_begins cs) ∙ e)
 
 agree : (k : TokenKind) (l : Lexeme) (x y : Item) → MeansAs k l x → MeansAs k l y → x ≡ y
 agree kind.Number l x y p q = p.3 ∙ ap (λ z. item l (m.Number z)) (one_number l.text p.0 p.1 q.0 q.1 p.2 q.2) ∙ sym q.3
@@ -68,13 +68,13 @@ agree kind.Opening l x y p q = p ∙ sym q
 agree kind.Closing l x y p q = p ∙ sym q
 agree kind.Piece l x y p q = p.2 ∙ ap (λ cs. item l (m.Piece cs)) (one_doubled is_mark p.0 q.0 (sym p.1 ∙ q.1)) ∙ sym q.2
 
-pub one_meaning : (l : Lexeme) (x y : Item) → Means l x → Means l y → x ≡ y
+pub one_meaning : (l : Lexeme) (x y : Item) → TokenMeans l x → TokenMeans l y → x ≡ y
 one_meaning l x y p q = agree l.kind l x y (means_as p l.kind refl) (means_as q l.kind refl)
 
 -- the meanings of tokens in turn
 abbrev Firsts : List Lexeme → List Item → Type 0
 Firsts [] xs = xs ≡ []
-Firsts (l ∷ ls) xs = (y : Item) × (ys : List Item) × (xs ≡ y ∷ ys) × Means l y × AllMean ls ys
+Firsts (l ∷ ls) xs = (y : Item) × (ys : List Item) × (xs ≡ y ∷ ys) × TokenMeans l y × AllMean ls ys
 
 firsts : {ls : List Lexeme} {xs : List Item} → AllMean ls xs → Firsts ls xs
 firsts no_more = refl

@@ -10,8 +10,8 @@ use Rattle.fx_grammar.specs.declared.line.Separator.{Separator}
 use Rattle.fx_grammar.specs.declared.line.Line.{Line}
 use Rattle.fx_grammar.specs.declared.line.Line.TheVariants.{Power, Percent, Access, Atom}
 use Rattle.fx_grammar.specs.declared.line.Mark.TheVariants as mark
-use Rattle.fx_grammar.specs.Grammar.{sign, leaf_of, callee, Parses, plain, ended, one, many, first, next, no_alias, aliased, no_sign, signed, base, raised, no_percent, percent, no_dot, dotted, leaf, a_global, a_call, brackets, a_record, a_list, a_weave, Parts, alone, further, Args, no_args, some_args, Field, field, SomeFields, one_field, further_field, Fields, no_fields, some_fields, Strands, no_strands, piece, island}
-use Rattle.fx_grammar.specs.Reading.{is_mark, after, closing, closes, sign_at}
+use Rattle.fx_grammar.specs.Grammar.{sign, atom_head, callee, Parses, plain, ended, one, many, first, next, no_alias, aliased, no_sign, signed, base, raised, no_percent, percent, no_dot, dotted, leaf, a_global, a_call, brackets, a_record, a_list, a_weave, Parts, alone, further, Args, no_args, some_args, Field, field, SomeFields, one_field, further_field, Fields, no_fields, some_fields, Strands, no_strands, piece, island}
+use Rattle.fx_grammar.specs.Reading.{is_this_mark, after_mark, closing, closes, sign_at}
 
 mutual
   pub shorter : {l : Line} {d : ℕ} {ts : List Item} {t : Tree} {rest : List Item} → Parses l d ts t rest → length rest < length ts
@@ -102,7 +102,7 @@ abbrev blocked : List Item → Bool
 blocked [] = true
 blocked (x ∷ us) = blocks x.meaning
 
-leaf_opens : (x : Meaning) (h : Head) → leaf_of x ≡ Some h → blocks x ≡ false
+leaf_opens : (x : Meaning) (h : Head) → atom_head x ≡ Some h → blocks x ≡ false
 leaf_opens (m.Symbol symbol.CloseParen) h e = cc
 leaf_opens (m.Symbol symbol.CloseBracket) h e = cc
 leaf_opens (m.Symbol symbol.CloseBrace) h e = cc
@@ -126,7 +126,7 @@ sign_opens (m.Symbol symbol.Comma) h e = cc
 sign_opens (m.Symbol symbol.Equal) h e = cc
 sign_opens _ h e = refl
 
-leaf_unsigned : (x : Meaning) (h : Head) → leaf_of x ≡ Some h → sign x ≡ None
+leaf_unsigned : (x : Meaning) (h : Head) → atom_head x ≡ Some h → sign x ≡ None
 leaf_unsigned (m.Symbol symbol.Minus) h e = cc
 leaf_unsigned (m.Symbol symbol.Bang) h e = cc
 leaf_unsigned (m.Word word.Not) h e = cc
@@ -183,7 +183,7 @@ not_closing (m.Symbol symbol.CloseBrace) e = e
 not_closing (m.Symbol symbol.Comma) e = e
 not_closing _ e = refl
 
-not_equal : (x : Meaning) → blocks x ≡ false → is_mark mark.Equal x ≡ false
+not_equal : (x : Meaning) → blocks x ≡ false → is_this_mark mark.Equal x ≡ false
 not_equal (m.Symbol symbol.Equal) e = cc
 not_equal _ e = refl
 
@@ -191,7 +191,7 @@ unblocked_opens : (ts : List Item) → blocked ts ≡ false → closes ts ≡ fa
 unblocked_opens [] e = e
 unblocked_opens (x ∷ us) e = not_closing x.meaning e
 
-unblocked_unmarked : (ts : List Item) → blocked ts ≡ false → after mark.Equal ts ≡ None
+unblocked_unmarked : (ts : List Item) → blocked ts ≡ false → after_mark mark.Equal ts ≡ None
 unblocked_unmarked [] e = refl
 unblocked_unmarked (x ∷ us) e = let f = not_equal x.meaning e in rw f refl
 
@@ -205,7 +205,7 @@ pub opens_fields : {d : ℕ} {ts : List Item} {fs : List NamedTree} {rest : List
 opens_fields {ts = ts} p = unblocked_opens ts (unblocked_fields p)
 
 -- no formula begins with `=`
-pub unmarked : {l : Line} {d : ℕ} {ts : List Item} {t : Tree} {rest : List Item} → Parses l d ts t rest → after mark.Equal ts ≡ None
+pub unmarked : {l : Line} {d : ℕ} {ts : List Item} {t : Tree} {rest : List Item} → Parses l d ts t rest → after_mark mark.Equal ts ≡ None
 unmarked {ts = ts} p = unblocked_unmarked ts (unblocked p)
 
 -- lines that begin with no sign

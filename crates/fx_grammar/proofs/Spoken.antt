@@ -16,17 +16,17 @@ use Rattle.fx_lexer.specs.declared.element.Class.TheVariants.{Letter, Other}
 use Rattle.fx_lexer.specs.declared.element.Element.{Element}
 use Rattle.fx_lexer.specs.declared.element.Element.TheVariants.{Token}
 use Rattle.fx_lexer.specs.declared.element.Mode.{Mode}
-use Rattle.fx_lexer.specs.Spelling.{class_at, doubled, begins, Spelt, white, line_comment, block_comment, number, text, name, quoted_name, word, symbol, opening, closing, piece, island}
+use Rattle.fx_lexer.specs.Spelling.{class_at, doubled, begins_with, Spelt, white, line_comment, block_comment, number, text, name, quoted_name, word, symbol, opening, closing, piece, island}
 use Rattle.fx_lexer.specs.Slices.{IsSpeltAs}
 use Rattle.fx_lexer.proofs.Texts.{scalars_split, decimal_bytes, both}
 use Rattle.fx_grammar.specs.declared.marks.Marks.{Marks}
 use Rattle.fx_grammar.specs.declared.marks.Marks.TheVariants.{Quote, Apostrophe, Weave}
 use Rattle.fx_grammar.specs.Undoubling.{test_of, undoubled}
 use Rattle.fx_grammar.proofs.Doubling.{undoubled-doubled, one_doubled}
-use Rattle.fx_grammar.specs.Meant.{quote_of, in_quotes, IsQuoted, IsSomeDoubled, IsValueOf, IsValued}
+use Rattle.fx_grammar.specs.Meant.{quote_of, in_quotes, IsQuoted, IsSomeDoubled, IsNumberOf, IsValued}
 
 abbrev pub IsNamed : List ℕ → Type 0
-IsNamed xs = (begins 39 xs ≡ false) ⊎ IsQuoted Apostrophe xs
+IsNamed xs = (begins_with 39 xs ≡ false) ⊎ IsQuoted Apostrophe xs
 
 abbrev pub Spoken : Element → List ℕ → Type 0
 Spoken (Token kind.Number) xs = (ds : List ℕ) × (es : List ℕ) × IsDecimal xs ds es
@@ -67,7 +67,7 @@ as_text xs h = spoken h.0 (Token kind.Text) xs h.1
 pub as_piece : (xs : List ℕ) → IsSpeltAs kind.Piece xs → IsSomeDoubled Weave xs
 as_piece xs h = spoken h.0 (Token kind.Piece) xs h.1
 
-pub as_name : (xs : List ℕ) → IsSpeltAs kind.Name xs → true ≡ begins 39 xs → IsQuoted Apostrophe xs
+pub as_name : (xs : List ℕ) → IsSpeltAs kind.Name xs → true ≡ begins_with 39 xs → IsQuoted Apostrophe xs
 as_name xs h e = by (spoken h.0 (Token kind.Name) xs h.1)
   where
     by : IsNamed xs → IsQuoted Apostrophe xs
@@ -92,7 +92,7 @@ number_bytes bs u h = let d = as_number (chars bs) h in sym (encodes-chars bs u)
 in_range : (n : ℕ) → pos n ≤ℤ pos greatest → n ≤ greatest
 in_range n h = omega (arith, ints)
 
-pub value_is : (bs : List ℕ) (z : ℤ) → IsUtf8 bs → IsSpeltAs kind.Number (chars bs) → Spells bs z → IsInRange z → IsValueOf (chars bs) z
+pub value_is : (bs : List ℕ) (z : ℤ) → IsUtf8 bs → IsSpeltAs kind.Number (chars bs) → Spells bs z → IsInRange z → IsNumberOf (chars bs) z
 value_is bs z u h s r =
     let d = as_number (chars bs) h in
     let t : Spells (chars bs) z = subst (λ x. Spells x z) (number_bytes bs u h) s in
@@ -148,5 +148,5 @@ read_some bs r u h v f =
     let e : r ≡ Some v.0 = (f v.0).1 (subst (λ (x : List ℕ). Spells x v.0) (sym (number_bytes bs u h)) v.1, v.2) in
     subst (λ (o : Option ℤ). IsSome o) (sym e) refl
 
-pub read_value : (bs : List ℕ) (r : Option ℤ) → IsUtf8 bs → IsSpeltAs kind.Number (chars bs) → ((z : ℤ) → (r ≡ Some z) ↔ (Spells bs z × IsInRange z)) → (z : ℤ) → r ≡ Some z → IsValueOf (chars bs) z
+pub read_value : (bs : List ℕ) (r : Option ℤ) → IsUtf8 bs → IsSpeltAs kind.Number (chars bs) → ((z : ℤ) → (r ≡ Some z) ↔ (Spells bs z × IsInRange z)) → (z : ℤ) → r ≡ Some z → IsNumberOf (chars bs) z
 read_value bs r u h f z e = let k = (f z).0 e in value_is bs z u h k.0 k.1

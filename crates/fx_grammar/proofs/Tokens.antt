@@ -16,8 +16,8 @@ use Rattle.fx_grammar.specs.declared.line.Line.{Line}
 use Rattle.fx_grammar.specs.declared.line.Line.TheVariants.{Chain, Several, By, Alias, Prefix, Power, Percent, Access, Atom}
 use Rattle.fx_grammar.specs.declared.line.Mark.{Mark}
 use Rattle.fx_grammar.specs.declared.line.Mark.TheVariants as mark
-use Rattle.fx_grammar.specs.Grammar.{separates, part_of, operator, under}
-use Rattle.fx_grammar.specs.Reading.{is_mark, after, closing, closes, separated, between, operator_at}
+use Rattle.fx_grammar.specs.Grammar.{separates, part_of, operator, operand_line}
+use Rattle.fx_grammar.specs.Reading.{is_this_mark, after_mark, closing, closes, after_separator, between, operator_at}
 
 abbrev pub meaning_of : Mark → Meaning
 meaning_of mark.OpenParen = m.Symbol symbol.OpenParen
@@ -34,7 +34,7 @@ meaning_of mark.Caret = m.Symbol symbol.Caret
 meaning_of mark.Equal = m.Symbol symbol.Equal
 meaning_of mark.As = m.Word word.As
 
-pub is_itself : (k : Mark) (x : Meaning) → is_mark k x ≡ true → x ≡ meaning_of k
+pub is_itself : (k : Mark) (x : Meaning) → is_this_mark k x ≡ true → x ≡ meaning_of k
 is_itself mark.OpenParen (m.Symbol symbol.OpenParen) e = refl
 is_itself mark.CloseParen (m.Symbol symbol.CloseParen) e = refl
 is_itself mark.CloseBracket (m.Symbol symbol.CloseBracket) e = refl
@@ -50,7 +50,7 @@ is_itself mark.Equal (m.Symbol symbol.Equal) e = refl
 is_itself mark.As (m.Word word.As) e = refl
 is_itself _ _ e = cc
 
-itself : (k : Mark) → is_mark k (meaning_of k) ≡ true
+itself : (k : Mark) → is_this_mark k (meaning_of k) ≡ true
 itself mark.OpenParen = refl
 itself mark.CloseParen = refl
 itself mark.CloseBracket = refl
@@ -65,10 +65,10 @@ itself mark.Caret = refl
 itself mark.Equal = refl
 itself mark.As = refl
 
-pub is_there : (k : Mark) (x : Meaning) → x ≡ meaning_of k → is_mark k x ≡ true
-is_there k x e = ap (is_mark k) e ∙ itself k
+pub is_there : (k : Mark) (x : Meaning) → x ≡ meaning_of k → is_this_mark k x ≡ true
+is_there k x e = ap (is_this_mark k) e ∙ itself k
 
-pub after_it : (k : Mark) (x : Item) (us : List Item) → x.meaning ≡ meaning_of k → after k (x ∷ us) ≡ Some us
+pub after_it : (k : Mark) (x : Item) (us : List Item) → x.meaning ≡ meaning_of k → after_mark k (x ∷ us) ≡ Some us
 after_it k x us e = let f = is_there k x.meaning e in rw f refl
 
 -- how tightly a token holds what stands before it: 0 is tightest, 99 not at all
@@ -136,7 +136,7 @@ pub lower : (r s : ℕ) (rest : List Item) → r ≤ s → Below s rest → Belo
 lower r s [] h b = tt
 lower r s (x ∷ us) h b = omega arith
 
-pub stops_under : (l : Left) (rest : List Item) → Stops (By l) rest → Stops (under l) rest
+pub stops_under : (l : Left) (rest : List Item) → Stops (By l) rest → Stops (operand_line l) rest
 stops_under left.Member rest b = lower 8 9 rest (omega arith) b
 stops_under left.Comp rest b = lower 7 8 rest (omega arith) b
 stops_under left.Sum rest b = lower 5 6 rest (omega arith) b
@@ -164,7 +164,7 @@ operator_rank left.Prod (m.Symbol symbol.Star) o e = refl
 operator_rank left.Prod (m.Symbol symbol.Slash) o e = refl
 operator_rank _ _ o e = cc
 
-pub stops_operator : (l : Left) (x : Item) (us : List Item) (o : Op) → operator l x.meaning ≡ Some o → Stops (under l) (x ∷ us)
+pub stops_operator : (l : Left) (x : Item) (us : List Item) (o : Op) → operator l x.meaning ≡ Some o → Stops (operand_line l) (x ∷ us)
 stops_operator left.Member x us o e = omega (arith, operator_rank left.Member x.meaning o e)
 stops_operator left.Comp x us o e = omega (arith, operator_rank left.Comp x.meaning o e)
 stops_operator left.Sum x us o e = omega (arith, operator_rank left.Sum x.meaning o e)
@@ -179,14 +179,14 @@ no_operator l [] h = refl
 no_operator l (x ∷ us) h = let e = rank_none l x.meaning (operator l x.meaning) refl h in rw e refl
 
 -- marks
-pub not_mark : (k : Mark) (x : Meaning) → (rank x ≡ rank (meaning_of k) → ⊥) → is_mark k x ≡ false
-not_mark k x h = by (is_mark k x) refl
+pub not_mark : (k : Mark) (x : Meaning) → (rank x ≡ rank (meaning_of k) → ⊥) → is_this_mark k x ≡ false
+not_mark k x h = by (is_this_mark k x) refl
   where
-    by : (b : Bool) → is_mark k x ≡ b → b ≡ false
+    by : (b : Bool) → is_this_mark k x ≡ b → b ≡ false
     by true e = absurd (h (ap rank (is_itself k x e)))
     by false e = refl
 
-pub none_after : (k : Mark) (r : ℕ) (rest : List Item) → rank (meaning_of k) ≤ r → Below r rest → after k rest ≡ None
+pub none_after : (k : Mark) (r : ℕ) (rest : List Item) → rank (meaning_of k) ≤ r → Below r rest → after_mark k rest ≡ None
 none_after k r [] h b = refl
 none_after k r (x ∷ us) h b = let e = not_mark k x.meaning (λ f. omega arith) in rw e refl
 
@@ -217,7 +217,7 @@ not_separator j x h = by (separates (Between j) x) refl
     by true e = absurd (omega (arith, separates_rank j x e))
     by false e = refl
 
-none_separated : (j : Join) (rest : List Item) → Below (join_level j) rest → separated (Between j) rest ≡ None
+none_separated : (j : Join) (rest : List Item) → Below (join_level j) rest → after_separator (Between j) rest ≡ None
 none_separated j [] b = refl
 none_separated j (x ∷ us) b = let e = not_separator j x.meaning b in rw e refl
 
@@ -246,7 +246,7 @@ pub closes_below : (r : ℕ) (rest : List Item) → r < 99 → closes rest ≡ t
 closes_below r [] h e = tt
 closes_below r (x ∷ us) h e = omega (arith, closing_rank x.meaning e)
 
-pub closes_no_semicolon : (rest : List Item) → closes rest ≡ true → after mark.Semicolon rest ≡ None
+pub closes_no_semicolon : (rest : List Item) → closes rest ≡ true → after_mark mark.Semicolon rest ≡ None
 closes_no_semicolon [] e = refl
 closes_no_semicolon (x ∷ us) e = let f = not_mark mark.Semicolon x.meaning (λ g. omega (arith, closing_rank x.meaning e)) in rw f refl
 
@@ -261,11 +261,11 @@ step_ends x rest e f = let g : separates (Between join.Chain) x.meaning ≡ true
 abbrev pub IsClosing : Mark → Type 0
 IsClosing k = closing (meaning_of k) ≡ true
 
-pub not_closed : (k : Mark) (us : List Item) → IsClosing k → closes us ≡ false → after k us ≡ None
+pub not_closed : (k : Mark) (us : List Item) → IsClosing k → closes us ≡ false → after_mark k us ≡ None
 not_closed k [] c e = refl
-not_closed k (x ∷ us) c e = by (is_mark k x.meaning) refl
+not_closed k (x ∷ us) c e = by (is_this_mark k x.meaning) refl
   where
-    by : (b : Bool) → is_mark k x.meaning ≡ b → cond b (Some us) None ≡ None
+    by : (b : Bool) → is_this_mark k x.meaning ≡ b → cond b (Some us) None ≡ None
     by true f = let g : closing x.meaning ≡ true = ap closing (is_itself k x.meaning f) ∙ c in absurd (true≢false (sym g ∙ e))
     by false f = refl
 

@@ -5,7 +5,7 @@ use Rattle.fx_lexer.specs.declared.token.Word.TheVariants as word
 use Rattle.fx_core.specs.declared.expr.FieldName.{FieldName}
 use Rattle.fx_core.specs.declared.expr.Op.{Op}
 use Rattle.fx_core.specs.declared.expr.Op.TheVariants as op
-use Rattle.fx_core.specs.Tree.{Tree, NamedTree, node, Head, none, more, forest, names_of, places_of, parts_of}
+use Rattle.fx_core.specs.Tree.{Tree, NamedTree, node, Head, none, more, forest, tree_field_names, places_of, field_trees}
 use Rattle.fx_core.specs.Tree as tree
 use Rattle.fx_grammar.specs.declared.item.Item.{Item}
 use Rattle.fx_grammar.specs.declared.item.Meaning.{Meaning}
@@ -20,9 +20,9 @@ use Rattle.fx_grammar.specs.declared.line.Line.{Line}
 use Rattle.fx_grammar.specs.declared.line.Line.TheVariants.{Chain, Several, By, Alias, Prefix, Power, Percent, Access, Atom}
 
 -- where the first of these tokens begins
-abbrev pub place : List Item → ℕ
-place [] = 0
-place (x ∷ us) = x.at
+abbrev pub first_byte : List Item → ℕ
+first_byte [] = 0
+first_byte (x ∷ us) = x.at
 
 -- a field has this name, at this token
 abbrev pub field_name : Item → List ℕ → FieldName
@@ -48,11 +48,11 @@ part_of (Between join.Cat) = By left.Sum
 part_of Comma = Chain
 
 -- the node that two or more parts make
-abbrev pub head_of : Join → Head
-head_of join.Chain = tree.chain
-head_of join.Or = tree.any
-head_of join.And = tree.all
-head_of join.Cat = tree.joined
+abbrev pub join_head : Join → Head
+join_head join.Chain = tree.chain
+join_head join.Or = tree.any
+join_head join.And = tree.all
+join_head join.Cat = tree.joined
 
 -- the operators of a line that groups to the left
 abbrev pub operator : Left → Meaning → Option Op
@@ -71,11 +71,11 @@ operator left.Prod (m.Symbol symbol.Slash) = Some op.Div
 operator _ _ = None
 
 -- the line of their operands
-abbrev pub under : Left → Line
-under left.Member = By left.Comp
-under left.Comp = Several join.Cat
-under left.Sum = By left.Prod
-under left.Prod = Alias
+abbrev pub operand_line : Left → Line
+operand_line left.Member = By left.Comp
+operand_line left.Comp = Several join.Cat
+operand_line left.Sum = By left.Prod
+operand_line left.Prod = Alias
 
 -- what may stand before a prefix
 abbrev pub sign : Meaning → Option Head
@@ -85,13 +85,13 @@ sign (m.Word word.Not) = Some tree.opposite
 sign _ = None
 
 -- a token that is an atom by itself
-abbrev pub leaf_of : Meaning → Option Head
-leaf_of (m.Number z) = Some (tree.num z)
-leaf_of (m.Text cs) = Some (tree.text cs)
-leaf_of (m.Word word.True) = Some (tree.truth true)
-leaf_of (m.Word word.False) = Some (tree.truth false)
-leaf_of (m.Name cs) = Some (tree.name cs)
-leaf_of _ = None
+abbrev pub atom_head : Meaning → Option Head
+atom_head (m.Number z) = Some (tree.num z)
+atom_head (m.Text cs) = Some (tree.text cs)
+atom_head (m.Word word.True) = Some (tree.truth true)
+atom_head (m.Word word.False) = Some (tree.truth false)
+atom_head (m.Name cs) = Some (tree.name cs)
+atom_head _ = None
 
 -- what may be called
 abbrev pub callee : Meaning → Option Head
@@ -110,17 +110,17 @@ mutual
     -- or = and { ("||" | "Or") and }, and = member { ("&&" | "And") member }, cat = sum { "&" sum }, and a chain without a last `;`
     one : (j : Join) (d : ℕ) (ts : List Item) (t : Tree) (rest : List Item) → Parses (part_of (Between j)) d ts t rest → Parses (Several j) d ts t rest
     many : (j : Join) (d : ℕ) (ts : List Item) (p q : Tree) (ps : List Tree) (rest : List Item)
-        → Parts (Between j) d ts (p ∷ q ∷ ps) rest → Parses (Several j) (suc d) ts (node (place ts) (head_of j) (forest (p ∷ q ∷ ps))) rest
+        → Parts (Between j) d ts (p ∷ q ∷ ps) rest → Parses (Several j) (suc d) ts (node (first_byte ts) (join_head j) (forest (p ∷ q ∷ ps))) rest
     -- member = comp { ("in" | "exactin") comp }, comp = cat { ("=" | "<>" | "<" | "<=" | ">" | ">=") cat }, sum = prod { ("+" | "-") prod }, prod = alias { ("*" | "/") alias }
-    first : (l : Left) (d : ℕ) (ts : List Item) (t : Tree) (rest : List Item) → Parses (under l) d ts t rest → Parses (By l) d ts t rest
+    first : (l : Left) (d : ℕ) (ts : List Item) (t : Tree) (rest : List Item) → Parses (operand_line l) d ts t rest → Parses (By l) d ts t rest
     next : (l : Left) (d e : ℕ) (ts : List Item) (t : Tree) (x : Item) (us : List Item) (o : Op) (u : Tree) (rest : List Item)
-        → Parses (By l) d ts t (x ∷ us) → operator l x.meaning ≡ Some o → Parses (under l) e us u rest
-        → Parses (By l) (suc (max d e)) ts (node (place ts) (tree.pair o) (more t (more u none))) rest
+        → Parses (By l) d ts t (x ∷ us) → operator l x.meaning ≡ Some o → Parses (operand_line l) e us u rest
+        → Parses (By l) (suc (max d e)) ts (node (first_byte ts) (tree.pair o) (more t (more u none))) rest
     -- alias = prefix [ "As" Name ]
     no_alias : (d : ℕ) (ts : List Item) (t : Tree) (rest : List Item) → Parses Prefix d ts t rest → Parses Alias d ts t rest
     aliased : (d : ℕ) (ts : List Item) (t : Tree) (x y : Item) (cs : List ℕ) (rest : List Item)
         → Parses Prefix d ts t (x ∷ y ∷ rest) → x.meaning ≡ m.Word word.As → y.meaning ≡ m.Name cs
-        → Parses Alias (suc d) ts (node (place ts) (tree.alias cs) (more t none)) rest
+        → Parses Alias (suc d) ts (node (first_byte ts) (tree.alias cs) (more t none)) rest
     -- prefix = ("-" | "!" | "Not") prefix | power
     no_sign : (d : ℕ) (ts : List Item) (t : Tree) (rest : List Item) → Parses Power d ts t rest → Parses Prefix d ts t rest
     signed : (d : ℕ) (x : Item) (h : Head) (us : List Item) (t : Tree) (rest : List Item)
@@ -129,18 +129,18 @@ mutual
     base : (d : ℕ) (ts : List Item) (t : Tree) (rest : List Item) → Parses Percent d ts t rest → Parses Power d ts t rest
     raised : (d e : ℕ) (ts : List Item) (t : Tree) (x : Item) (us : List Item) (u : Tree) (rest : List Item)
         → Parses Percent d ts t (x ∷ us) → x.meaning ≡ m.Symbol symbol.Caret → Parses Prefix e us u rest
-        → Parses Power (suc (max d e)) ts (node (place ts) (tree.pair op.Pow) (more t (more u none))) rest
+        → Parses Power (suc (max d e)) ts (node (first_byte ts) (tree.pair op.Pow) (more t (more u none))) rest
     -- percent = access { "%" }
     no_percent : (d : ℕ) (ts : List Item) (t : Tree) (rest : List Item) → Parses Access d ts t rest → Parses Percent d ts t rest
     percent : (d : ℕ) (ts : List Item) (t : Tree) (x : Item) (rest : List Item)
-        → Parses Percent d ts t (x ∷ rest) → x.meaning ≡ m.Symbol symbol.Percent → Parses Percent (suc d) ts (node (place ts) tree.percent (more t none)) rest
+        → Parses Percent d ts t (x ∷ rest) → x.meaning ≡ m.Symbol symbol.Percent → Parses Percent (suc d) ts (node (first_byte ts) tree.percent (more t none)) rest
     -- access = atom { "." Name }
     no_dot : (d : ℕ) (ts : List Item) (t : Tree) (rest : List Item) → Parses Atom d ts t rest → Parses Access d ts t rest
     dotted : (d : ℕ) (ts : List Item) (t : Tree) (x y : Item) (cs : List ℕ) (rest : List Item)
         → Parses Access d ts t (x ∷ y ∷ rest) → x.meaning ≡ m.Symbol symbol.Dot → y.meaning ≡ m.Name cs
-        → Parses Access (suc d) ts (node (place ts) (tree.dot cs) (more t none)) rest
+        → Parses Access (suc d) ts (node (first_byte ts) (tree.dot cs) (more t none)) rest
     -- atom = Number | Text | "true" | "false" | Name
-    leaf : (x : Item) (h : Head) (rest : List Item) → leaf_of x.meaning ≡ Some h → Parses Atom 1 (x ∷ rest) (node x.at h none) rest
+    leaf : (x : Item) (h : Head) (rest : List Item) → atom_head x.meaning ≡ Some h → Parses Atom 1 (x ∷ rest) (node x.at h none) rest
     -- atom = "[@" Name "]"
     a_global : (x y z : Item) (cs : List ℕ) (rest : List Item)
         → x.meaning ≡ m.Symbol symbol.OpenBracketAt → y.meaning ≡ m.Name cs → z.meaning ≡ m.Symbol symbol.CloseBracket
@@ -156,7 +156,7 @@ mutual
     -- atom = "{" [ field { "," field } ] "}"
     a_record : (d : ℕ) (x : Item) (us : List Item) (fs : List NamedTree) (y : Item) (rest : List Item)
         → x.meaning ≡ m.Symbol symbol.OpenBrace → Fields d us fs (y ∷ rest) → y.meaning ≡ m.Symbol symbol.CloseBrace
-        → Parses Atom (suc d) (x ∷ us) (node x.at (tree.rec (names_of fs) (places_of fs)) (parts_of fs)) rest
+        → Parses Atom (suc d) (x ∷ us) (node x.at (tree.rec (tree_field_names fs) (places_of fs)) (field_trees fs)) rest
     -- atom = "[" [ args ] "]"
     a_list : (d : ℕ) (x : Item) (us : List Item) (ps : List Tree) (y : Item) (rest : List Item)
         → x.meaning ≡ m.Symbol symbol.OpenBracket → Args d us ps (y ∷ rest) → y.meaning ≡ m.Symbol symbol.CloseBracket

@@ -3,8 +3,8 @@ use Rattle.std.specs.Prelude.{◌≡◌, ℕ, ℤ, ◌≤◌, ◌⊎◌, pos, fa
 use Rattle.std.specs.Str.{chars}
 use Rattle.fx_number.specs.Decimal.{greatest}
 use Rattle.fx_number.specs.Spelling.{IsDecimal, decimal_units}
-use Rattle.fx_lexer.specs.Spelling.{doubled, is_mark, begins, HasValue}
-use Rattle.fx_lexer.specs.Slices.{text_in, IsSlice}
+use Rattle.fx_lexer.specs.Spelling.{doubled, is_mark, begins_with, SpellsNumber}
+use Rattle.fx_lexer.specs.Slices.{slice_chars, IsSlice}
 use Rattle.fx_lexer.specs.declared.element.Element.TheVariants as element
 use Rattle.fx_lexer.specs.declared.token.Token.{Token}
 use Rattle.fx_lexer.specs.declared.token.TokenKind.{TokenKind}
@@ -18,7 +18,7 @@ use Rattle.fx_grammar.specs.declared.marks.Marks.TheVariants.{Quote, Apostrophe,
 
 -- a number's text has a value that is in range
 abbrev pub IsValued : TokenKind → List ℕ → Type 0
-IsValued k xs = HasValue (element.Token k) xs
+IsValued k xs = SpellsNumber (element.Token k) xs
 
 -- the quote around a text
 abbrev pub quote_of : Marks → ℕ
@@ -38,16 +38,16 @@ abbrev pub IsSomeDoubled : Marks → List ℕ → Type 0
 IsSomeDoubled k xs = (cs : List ℕ) × (xs ≡ doubled (test_of k) cs)
 
 -- the number that the digits spell
-abbrev pub IsValueOf : List ℕ → ℤ → Type 0
-IsValueOf xs z = (ds : List ℕ) × (es : List ℕ) × IsDecimal xs ds es × (decimal_units ds es ≤ greatest) × (z ≡ pos (decimal_units ds es))
+abbrev pub IsNumberOf : List ℕ → ℤ → Type 0
+IsNumberOf xs z = (ds : List ℕ) × (es : List ℕ) × IsDecimal xs ds es × (decimal_units ds es ≤ greatest) × (z ≡ pos (decimal_units ds es))
 
 -- the name that a text is, plain or between quotes
 abbrev pub IsNameOf : List ℕ → List ℕ → Type 0
-IsNameOf xs cs = ((begins 39 xs ≡ false) × (cs ≡ xs)) ⊎ (xs ≡ between_quotes 39 cs)
+IsNameOf xs cs = ((begins_with 39 xs ≡ false) × (cs ≡ xs)) ⊎ (xs ≡ between_quotes 39 cs)
 
 -- what a text of this kind means
 abbrev pub IsMeaning : TokenKind → List ℕ → Meaning → Type 0
-IsMeaning kind.Number xs k = (z : ℤ) × IsValueOf xs z × (k ≡ m.Number z)
+IsMeaning kind.Number xs k = (z : ℤ) × IsNumberOf xs z × (k ≡ m.Number z)
 IsMeaning kind.Text xs k = (cs : List ℕ) × (xs ≡ between_quotes 34 cs) × (k ≡ m.Text cs)
 IsMeaning kind.Name xs k = (cs : List ℕ) × IsNameOf xs cs × (k ≡ m.Name cs)
 IsMeaning (kind.Word w) xs k = k ≡ m.Word w
@@ -57,6 +57,6 @@ IsMeaning kind.Closing xs k = k ≡ m.Closing
 IsMeaning kind.Piece xs k = (cs : List ℕ) × (xs ≡ doubled is_mark cs) × (k ≡ m.Piece cs)
 
 -- The token is a slice of the source, spelt as its kind, and a number is in range.
-pub record IsSound (source : List ℕ) (t : Token) : Type 0 where
+pub record IsSoundToken (source : List ℕ) (t : Token) : Type 0 where
   pub slice : IsSlice source t
-  pub value : IsValued t.kind (text_in source t)
+  pub value : IsValued t.kind (slice_chars source t)

@@ -5,14 +5,14 @@ use Rattle.fx_lexer.specs.Spelling.{is_quote, is_mark}
 use Rattle.fx_grammar.specs.declared.marks.Marks.{Marks}
 use Rattle.fx_grammar.specs.declared.marks.Marks.TheVariants.{Quote, Apostrophe, Weave}
 
-abbrev pub put : ℕ → Option (List ℕ) → Option (List ℕ)
-put c o = option_map (λ cs. c ∷ cs) o
+abbrev pub put_char : ℕ → Option (List ℕ) → Option (List ℕ)
+put_char c o = option_map (λ cs. c ∷ cs) o
 
 -- the text whose marks were doubled, or None where a mark stands alone
 abbrev pub undoubled : (ℕ → Bool) → List ℕ → Option (List ℕ)
 undoubled p [] = Some []
 undoubled p (c ∷ []) = if p c then None else Some (c ∷ [])
-undoubled p (c ∷ d ∷ ds) = if p c then (if d == c then put c (undoubled p ds) else None) else put c (undoubled p (d ∷ ds))
+undoubled p (c ∷ d ∷ ds) = if p c then (if d == c then put_char c (undoubled p ds) else None) else put_char c (undoubled p (d ∷ ds))
 
 -- what is doubled
 abbrev pub test_of : Marks → ℕ → Bool

@@ -3,11 +3,11 @@ ghost use Rattle.std.specs.Prelude.{◌≡◌, IfOk, true, encode_utf8_all, stri
 ghost use Rattle.std.specs.Str.{chars, all_scalars};
 ghost use Rattle.fx_lexer.specs.Lexed.{Lexed};
 ghost use Rattle.fx_lexer.specs.Slices.{IsSpeltAs, lexeme_in, lexemes};
-ghost use Rattle.fx_lexer.specs.Spelling.{begins, doubled};
+ghost use Rattle.fx_lexer.specs.Spelling.{begins_with, doubled};
 ghost use Rattle.fx_grammar.specs.Formulas.{HasItems};
-ghost use Rattle.fx_grammar.specs.Means.{between_quotes, Means, AllMean};
+ghost use Rattle.fx_grammar.specs.Means.{between_quotes, TokenMeans, AllMean};
 ghost use Rattle.fx_grammar.specs.Undoubling.{test_of};
-ghost use Rattle.fx_grammar.specs.Meant.{IsValued, in_quotes, IsQuoted, IsSomeDoubled, IsValueOf, IsNameOf, IsMeaning, IsSound};
+ghost use Rattle.fx_grammar.specs.Meant.{IsValued, in_quotes, IsQuoted, IsSomeDoubled, IsNumberOf, IsNameOf, IsMeaning, IsSoundToken};
 
 use crate::marks::{Marks, undouble};
 use crate::{Item, Meaning};
@@ -61,7 +61,7 @@ fn unquote(alloc: Global, marks: Marks, chars: &[char]) -> Result<Words, Memory>
 fn number(text: &str) -> Num
     requires spelt { IsSpeltAs TokenKind.Number (chars text.now) }
     requires value { IsValued TokenKind.Number (chars text.now) }
-    ensures { IsValueOf (chars text.now) result }
+    ensures { IsNumberOf (chars text.now) result }
 {
     // There is one: a token's number is in range.
     read(text).unwrap()
@@ -69,7 +69,7 @@ fn number(text: &str) -> Num
 
 /// Whether an apostrophe begins the text.
 fn is_quoted(chars: &[char]) -> bool
-    ensures { result ≡ begins 39 chars.now }
+    ensures { result ≡ begins_with 39 chars.now }
 {
     match chars {
         ['\'', ..] => true,
@@ -124,8 +124,8 @@ fn meaning_of(alloc: Global, kind: TokenKind, text: &str) -> Result<Meaning, Mem
 }
 
 fn item(alloc: Global, source: &str, token: Token) -> Result<Item, Memory>
-    requires { IsSound source.now token }
-    ensures { IfOk result (λ x. Means (lexeme_in source.now token) x) }
+    requires { IsSoundToken source.now token }
+    ensures { IfOk result (λ x. TokenMeans (lexeme_in source.now token) x) }
 {
     let text = &source[token.at as usize..token.upto as usize];
     let meaning = meaning_of(alloc, token.kind, text)?;

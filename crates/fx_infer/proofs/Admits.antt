@@ -3,7 +3,7 @@ use Rattle.std.proofs.Common.{◌≡◌, ℕ, List, [], ◌∷◌, Result, Ok, E
 use Rattle.fx_types.specs.Types.{Shape, numbers, texts, booleans}
 use Rattle.fx_types.specs.Values.{number, text, boolean}
 use Rattle.fx_typing.specs.Calls.{made_if}
-use Rattle.fx_typing.specs.Parts.{Part, piece, meant, target, assigned, Setting, put_value, values}
+use Rattle.fx_typing.specs.Parts.{JudgedPart, piece, meant, target, assigned, Setting, put_value, values}
 use Rattle.fx_typing.specs.Typing.{admit, constant, global_by, name_by, paired_by}
 use Rattle.fx_core.specs.declared.expr.Op.{Op}
 use Rattle.fx_core.specs.Tree as tree
@@ -14,24 +14,24 @@ use Rattle.fx_typing.specs.Meaning.{Place, in_globals, meaning_of}
 use Rattle.fx_infer.specs.Operands.{leaf_of, operator_of}
 
 -- heads without parts
-pub number_leaf : (p : Place) (s : Setting) (z : _) (qs : List Part) → leaf_of qs (constant (number z) numbers) ≡ admit p s (tree.num z) qs
+pub number_leaf : (p : Place) (s : Setting) (z : _) (qs : List JudgedPart) → leaf_of qs (constant (number z) numbers) ≡ admit p s (tree.num z) qs
 number_leaf p s z [] = refl
 number_leaf p s z (q ∷ qs) = refl
 
-pub text_leaf : (p : Place) (s : Setting) (x : List ℕ) (qs : List Part) → leaf_of qs (constant (text x) texts) ≡ admit p s (tree.text x) qs
+pub text_leaf : (p : Place) (s : Setting) (x : List ℕ) (qs : List JudgedPart) → leaf_of qs (constant (text x) texts) ≡ admit p s (tree.text x) qs
 text_leaf p s x [] = refl
 text_leaf p s x (q ∷ qs) = refl
 
-pub truth_leaf : (p : Place) (s : Setting) (b : _) (qs : List Part) → leaf_of qs (constant (boolean b) booleans) ≡ admit p s (tree.truth b) qs
+pub truth_leaf : (p : Place) (s : Setting) (b : _) (qs : List JudgedPart) → leaf_of qs (constant (boolean b) booleans) ≡ admit p s (tree.truth b) qs
 truth_leaf p s b [] = refl
 truth_leaf p s b (q ∷ qs) = refl
 
-pub name_leaf : (p : Place) (s : Setting) (x : List ℕ) (qs : List Part) →
+pub name_leaf : (p : Place) (s : Setting) (x : List ℕ) (qs : List JudgedPart) →
     leaf_of qs (name_by s.grant x (meaning_of p s.scopes s.catches x)) ≡ admit p s (tree.name x) qs
 name_leaf p s x [] = refl
 name_leaf p s x (q ∷ qs) = refl
 
-pub global_leaf : (p : Place) (s : Setting) (x : List ℕ) (qs : List Part) →
+pub global_leaf : (p : Place) (s : Setting) (x : List ℕ) (qs : List JudgedPart) →
     leaf_of qs (global_by s.grant x (in_globals p.names x)) ≡ admit p s (tree.global x) qs
 global_leaf p s x [] = refl
 global_leaf p s x (q ∷ qs) = refl
@@ -41,7 +41,7 @@ put_wrong : (x : Term × Shape) (r : Result (List (Term × Shape)) ℕ) (e : ℕ
 put_wrong x (Ok xs) e h = absurd cc
 put_wrong x (Err d) e h = let k : d ≡ e = cc in ap Err k
 
-values_wrong : (qs : List Part) (e : ℕ) → values qs ≡ Err e → 6 ≡ e
+values_wrong : (qs : List JudgedPart) (e : ℕ) → values qs ≡ Err e → 6 ≡ e
 values_wrong [] e h = absurd cc
 values_wrong (piece (value a c t) ∷ qs) e h = values_wrong qs e (put_wrong (c, t) (values qs) e h)
 values_wrong (piece (label x) ∷ qs) e h = cc
@@ -53,7 +53,7 @@ put_some : (x : Term × Shape) (r : Result (List (Term × Shape)) ℕ) → put_v
 put_some x (Ok xs) h = cc
 put_some x (Err e) h = cc
 
-values_some : (q : Part) (qs : List Part) → values (q ∷ qs) ≡ Ok [] → ⊥
+values_some : (q : JudgedPart) (qs : List JudgedPart) → values (q ∷ qs) ≡ Ok [] → ⊥
 values_some (piece (value a c t)) qs h = put_some (c, t) (values qs) h
 values_some (piece (label x)) qs h = cc
 values_some (meant m) qs h = cc
@@ -61,13 +61,13 @@ values_some (target a x) qs h = cc
 values_some (assigned ns xs) qs h = cc
 
 -- an operator of more or fewer than two operands
-more_operands : (o : Op) (x y : Term × Shape) (z : Part) (zs : List Part) (ps : List Piece) (r : Result (List (Term × Shape)) ℕ) → values (z ∷ zs) ≡ r →
+more_operands : (o : Op) (x y : Term × Shape) (z : JudgedPart) (zs : List JudgedPart) (ps : List Piece) (r : Result (List (Term × Shape)) ℕ) → values (z ∷ zs) ≡ r →
     and_then (put_value x (put_value y r)) (λ xs. paired_by o xs ps) ≡ Err 6
 more_operands o x y z zs ps (Ok []) h = absurd (values_some z zs h)
 more_operands o x y z zs ps (Ok (w ∷ ws)) h = refl
 more_operands o x y z zs ps (Err e) h = ap Err (sym (values_wrong (z ∷ zs) e h))
 
-pub paired_is : (o : Op) (qs : List Part) (ps : List Piece) → made_if (operator_of o qs) ps ≡ and_then (values qs) (λ xs. paired_by o xs ps)
+pub paired_is : (o : Op) (qs : List JudgedPart) (ps : List Piece) → made_if (operator_of o qs) ps ≡ and_then (values qs) (λ xs. paired_by o xs ps)
 paired_is o [] ps = refl
 paired_is o (piece (value a c t) ∷ []) ps = refl
 paired_is o (piece (label x) ∷ []) ps = refl

@@ -8,7 +8,7 @@ use Rattle.fx_types.specs.TypeView.{shape}
 use Rattle.fx_types.specs.Types.{Shape, blanks, numbers, texts, booleans, dates, records, tables, ColumnList, no_columns, column}
 use Rattle.fx_types.specs.declared.types.Ty.{Ty}
 use Rattle.fx_typing.specs.Rounds as rounds
-use Rattle.fx_typing.specs.Rounds.{Cell, AfterRounds, IsFinal, SameNames, first_types, next_types, types_in, items_type, items_types, formula_type, variable_join, collection_join, all_given}
+use Rattle.fx_typing.specs.Rounds.{Cell, AfterRounds, AreFinalTypes, SameNames, first_types, next_types, types_in, items_type, items_types, formula_type, variable_join, collection_join, all_given}
 use Rattle.fx_core.specs.declared.names.Collection.{Collection}
 use Rattle.fx_core.specs.declared.names.ControlName.{ControlName}
 use Rattle.fx_core.specs.declared.names.Names.{Names}
@@ -150,5 +150,5 @@ below_last k r n h g = omega arith
 
 -- a round that keeps all types is the last
 pub is_final : (cs : List Cell) (n t : Names) (ts : Types) (k : ℕ) → k < 256 → AfterRounds cs n k t → types_view ts ≡ next_types cs t →
-    same_types (types_view ts) (types_in t) ≡ true → IsFinal cs n t
+    same_types (types_view ts) (types_in t) ≡ true → AreFinalTypes cs n t
 is_final cs n t ts k l a e s = (k, l, a, sym e ∙ types_same (types_view ts) (types_in t) s)

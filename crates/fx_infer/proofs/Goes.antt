@@ -6,19 +6,19 @@ use Rattle.fx_core.specs.declared.expr.Node.{Node}
 use Rattle.fx_core.specs.declared.expr.Node.TheVariants as kind
 use Rattle.fx_typing.specs.Meaning.{Place}
 use Rattle.fx_typing.specs.Details.{HasToldBroken}
-use Rattle.fx_typing.specs.Parts.{Part, Setting}
+use Rattle.fx_typing.specs.Parts.{JudgedPart, Setting}
 use Rattle.fx_typing.specs.Plans.{setting_at}
 use Rattle.fx_typing.specs.Typing.{judge, judge_parts, onward, position}
-use Rattle.fx_resolve.specs.PlanView.{head_of}
+use Rattle.fx_resolve.specs.PlanView.{tree_head}
 use Rattle.fx_infer.specs.Below.{forest_from}
 
 -- parts are judged from the left: what is left, behind what is done, is the whole
-pub record GoesOn (p : Place) (s : Setting) (h : Head) (n : ℕ) (ts : Forest) (done : List Part) : Type 0 where
+pub record GoesOn (p : Place) (s : Setting) (h : Head) (n : ℕ) (ts : Forest) (done : List JudgedPart) : Type 0 where
   pub judged : judge_parts p s h n done (forest_from (length done) ts) ≡ judge_parts p s h n [] ts
   pub told : (w rule : ℕ) (said : List ℕ) → HasToldBroken p s h n done (forest_from (length done) ts) w rule said
       → HasToldBroken p s h n [] ts w rule said
 
-pub goes_on : (p : Place) (s : Setting) (h : Head) (n : ℕ) (ts : Forest) (done : List Part) (k : Tree) (q : Part) →
+pub goes_on : (p : Place) (s : Setting) (h : Head) (n : ℕ) (ts : Forest) (done : List JudgedPart) (k : Tree) (q : JudgedPart) →
     GoesOn p s h n ts done → forest_from (length done) ts ≡ more k (forest_from (suc (length done)) ts) →
     judge p (setting_at p.names s h n done) k ≡ Ok q → GoesOn p s h n ts (done ++ q ∷ [])
 goes_on p s h n ts done k q g e j =
@@ -33,7 +33,7 @@ goes_on p s h n ts done k q g e j =
     }
 
 -- at the end all are judged
-pub ends : (p : Place) (s : Setting) (h : Head) (n : ℕ) (ts : Forest) (done : List Part) →
+pub ends : (p : Place) (s : Setting) (h : Head) (n : ℕ) (ts : Forest) (done : List JudgedPart) →
     GoesOn p s h n ts done → forest_from (length done) ts ≡ none → judge_parts p s h n [] ts ≡ Ok done
 ends p s h n ts done g e = sym g.judged ∙ ap (judge_parts p s h n done) e
 
@@ -60,5 +60,5 @@ begins_at at (kind.List es) = refl
 begins_at at (kind.Woven es) = refl
 
 -- the head of a node that is seen whole
-pub headed : (w : Tree) (at : ℕ) (n m : Node) → branch at n ≡ w → n ≡ m → head_of w ≡ head_of (branch at m)
-headed w at n m e k = ap head_of (sym e) ∙ ap (λ x. head_of (branch at x)) k
+pub headed : (w : Tree) (at : ℕ) (n m : Node) → branch at n ≡ w → n ≡ m → tree_head w ≡ tree_head (branch at m)
+headed w at n m e k = ap tree_head (sym e) ∙ ap (λ x. tree_head (branch at x)) k

@@ -1,13 +1,13 @@
 -- A tree is no deeper than the grammar says.
 use Rattle.std.proofs.Common.{◌≡◌, ℕ, ◌≤◌, max, List, [], ◌∷◌, ◌++◌, All, arith}
 use Rattle.std.proofs.lemmas.List.Elements.{All-cons, All-nil}
-use Rattle.fx_core.specs.Tree.{Tree, NamedTree, node, none, more, forest, names_of, parts_of}
+use Rattle.fx_core.specs.Tree.{Tree, NamedTree, node, none, more, forest, tree_field_names, field_trees}
 use Rattle.fx_core.specs.Tree as tree
 use Rattle.fx_grammar.specs.declared.item.Item.{Item}
 use Rattle.fx_grammar.specs.declared.line.Line.{Line}
 use Rattle.fx_grammar.specs.declared.line.Separator.{Separator}
 use Rattle.fx_grammar.specs.Grammar.{Parses, plain, ended, one, many, first, next, no_alias, aliased, no_sign, signed, base, raised, no_percent, percent, no_dot, dotted, leaf, a_global, a_call, brackets, a_record, a_list, a_weave, Parts, alone, further, Args, no_args, some_args, Field, field, SomeFields, one_field, further_field, Fields, no_fields, some_fields, Strands, no_strands, piece, island, IsFormula, bare, marked}
-use Rattle.fx_grammar.specs.Formulas.{Entry, entry, AreNamed, no_entries, last_entry, further_entry, AreEntriesOf, HasTree}
+use Rattle.fx_grammar.specs.Formulas.{NamedFormula, named_formula, AreNamed, no_entries, last_entry, further_entry, AreEntriesOf, HasTree}
 use Rattle.fx_infer.specs.Below.{tree_depth, forest_depth}
 
 -- one part more
@@ -16,7 +16,7 @@ forest_end [] t = omega arith
 forest_end (p ∷ ps) t = omega (arith, forest_end ps t)
 
 -- one field more
-fields_end : (fs : List NamedTree) (f : NamedTree) → forest_depth (parts_of (fs ++ f ∷ [])) ≡ max (forest_depth (parts_of fs)) (tree_depth f.1)
+fields_end : (fs : List NamedTree) (f : NamedTree) → forest_depth (field_trees (fs ++ f ∷ [])) ≡ max (forest_depth (field_trees fs)) (tree_depth f.1)
 fields_end [] f = omega arith
 fields_end (g ∷ fs) f = omega (arith, fields_end fs f)
 
@@ -66,14 +66,14 @@ mutual
   field_depth : (d : ℕ) (ts : List Item) (f : NamedTree) (rest : List Item) → Field d ts f rest → tree_depth f.1 ≤ d
   field_depth _ _ _ _ (field d x y cs us t rest e f p) = line_depth _ d us t rest p
 
-  some_depth : (d : ℕ) (ts : List Item) (fs : List NamedTree) (rest : List Item) → SomeFields d ts fs rest → forest_depth (parts_of fs) ≤ d
+  some_depth : (d : ℕ) (ts : List Item) (fs : List NamedTree) (rest : List Item) → SomeFields d ts fs rest → forest_depth (field_trees fs) ≤ d
   some_depth _ _ _ _ (one_field d ts f rest p) = let a = field_depth d ts f rest p in omega (arith, a)
   some_depth _ _ _ _ (further_field d e ts fs x us f rest p c q) =
       let a = some_depth d ts fs (x ∷ us) p in
       let b = field_depth e us f rest q in
       omega (arith, a, b, fields_end fs f)
 
-  fields_depth : (d : ℕ) (ts : List Item) (fs : List NamedTree) (rest : List Item) → Fields d ts fs rest → forest_depth (parts_of fs) ≤ d
+  fields_depth : (d : ℕ) (ts : List Item) (fs : List NamedTree) (rest : List Item) → Fields d ts fs rest → forest_depth (field_trees fs) ≤ d
   fields_depth _ _ _ _ (no_fields ts) = omega arith
   fields_depth _ _ _ _ (some_fields d ts fs rest p) = some_depth d ts fs rest p
 
@@ -95,14 +95,14 @@ pub trees_no_deeper : (n : ℕ) (cs : List ℕ) (t : Tree) → HasTree n cs t �
 trees_no_deeper n cs t h = let a = formula_depth h.0 h.2.0 t h.2.2 in let b : h.2.0 ≤ n = h.2.1 in omega (arith, a, b)
 
 -- named formulas, none deeper than n
-named_depth : (n : ℕ) (xs : List Item) (d : ℕ) (es : List Entry) → AreNamed xs d es → d ≤ n → All (λ (e : Entry). tree_depth e.tree ≤ n) es
-named_depth n _ _ _ no_entries h = All-nil (λ (e : Entry). tree_depth e.tree ≤ n)
+named_depth : (n : ℕ) (xs : List Item) (d : ℕ) (es : List NamedFormula) → AreNamed xs d es → d ≤ n → All (λ (e : NamedFormula). tree_depth e.tree ≤ n) es
+named_depth n _ _ _ no_entries h = All-nil (λ (e : NamedFormula). tree_depth e.tree ≤ n)
 named_depth n _ _ _ (last_entry x y cs ts d t e f p) h =
     let a = line_depth _ d ts t [] p in
-    All-cons (λ (e : Entry). tree_depth e.tree ≤ n) (entry cs ts t) [] (omega (arith, a, h)) (All-nil (λ (e : Entry). tree_depth e.tree ≤ n))
+    All-cons (λ (e : NamedFormula). tree_depth e.tree ≤ n) (named_formula cs ts t) [] (omega (arith, a, h)) (All-nil (λ (e : NamedFormula). tree_depth e.tree ≤ n))
 named_depth n _ _ _ (further_entry x y cs ts d t z rest m es e f p g q) h =
     let a = line_depth _ d (ts ++ z ∷ rest) t (z ∷ rest) p in
-    All-cons (λ (e : Entry). tree_depth e.tree ≤ n) (entry cs ts t) es (omega (arith, a, h)) (named_depth n rest m es q (omega (arith, h)))
+    All-cons (λ (e : NamedFormula). tree_depth e.tree ≤ n) (named_formula cs ts t) es (omega (arith, a, h)) (named_depth n rest m es q (omega (arith, h)))
 
-pub entries_no_deeper : (n : ℕ) (xs : List Item) (es : List Entry) → AreEntriesOf n xs es → All (λ (e : Entry). tree_depth e.tree ≤ n) es
+pub entries_no_deeper : (n : ℕ) (xs : List Item) (es : List NamedFormula) → AreEntriesOf n xs es → All (λ (e : NamedFormula). tree_depth e.tree ≤ n) es
 entries_no_deeper n xs es h = named_depth n xs h.0 es h.2 h.1

@@ -5,7 +5,7 @@ use Rattle.fx_types.specs.Types.{Shape, column_list}
 use Rattle.fx_types.specs.declared.types.Ty.{Ty}
 use Rattle.fx_types.specs.declared.types.Ty.TheVariants as ty
 use Rattle.fx_typing.specs.Rounds as rounds
-use Rattle.fx_typing.specs.Rounds.{AllSame, AfterRounds, Cell, IsFinal, SameNames, SameVariable, SameFormula, SameCollection, SameControl, StillChanges, next_types, types_in}
+use Rattle.fx_typing.specs.Rounds.{AllSame, AfterRounds, Cell, AreFinalTypes, SameNames, SameVariable, SameFormula, SameCollection, SameControl, StillChanges, next_types, types_in}
 use Rattle.fx_core.specs.declared.names.Collection.{Collection}
 use Rattle.fx_core.specs.declared.names.ControlName.{ControlName}
 use Rattle.fx_core.specs.declared.names.FormulaName.{FormulaName}
@@ -82,7 +82,7 @@ after_one cs n zero a b x y = names_one n a b x.0 y.0 (x.1 ∙ sym y.1)
 after_one cs n (suc k) a b x y = names_one n a b x.0 y.0 (x.3 ∙ ap (next_types cs) (after_one cs n k x.1 y.1 x.2 y.2) ∙ sym y.3)
 
 -- where a round keeps all types, not each of them changes one
-pub final_settles : (cs : List Cell) (n m : Names) → IsFinal cs n m → StillChanges cs n → ⊥
+pub final_settles : (cs : List Cell) (n m : Names) → AreFinalTypes cs n m → StillChanges cs n → ⊥
 final_settles cs n m f s =
     let c = s f.0 f.1 in
     c.2 (subst (λ (x : Names). next_types cs x ≡ types_in x) (after_one cs n f.0 m c.0 f.2 c.1) f.3)

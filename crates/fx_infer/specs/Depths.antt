@@ -2,7 +2,7 @@
 use Rattle.std.specs.Prelude.{ℕ, ◌≤◌, List, All}
 use Rattle.fx_core.specs.Tree.{Tree}
 use Rattle.fx_grammar.specs.declared.item.Item.{Item}
-use Rattle.fx_grammar.specs.Formulas.{Entry, AreEntriesOf, HasTree}
+use Rattle.fx_grammar.specs.Formulas.{NamedFormula, AreEntriesOf, HasTree}
 use Rattle.fx_infer.specs.Below.{tree_depth}
 
 -- the tree of a formula of so many levels
@@ -11,4 +11,4 @@ TreesAreNoDeeper = (n : ℕ) (cs : List ℕ) (t : Tree) → HasTree n cs t → t
 
 -- and those of named formulas
 abbrev pub EntriesAreNoDeeper : Type 0
-EntriesAreNoDeeper = (n : ℕ) (xs : List Item) (es : List Entry) → AreEntriesOf n xs es → All (λ (e : Entry). tree_depth e.tree ≤ n) es
+EntriesAreNoDeeper = (n : ℕ) (xs : List Item) (es : List NamedFormula) → AreEntriesOf n xs es → All (λ (e : NamedFormula). tree_depth e.tree ≤ n) es

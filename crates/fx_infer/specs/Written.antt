@@ -7,13 +7,13 @@ use Rattle.fx_infer.specs.declared.elaboration.Place.{Place}
 use Rattle.fx_infer.specs.declared.elaboration.Place.TheVariants.{Pure, Acting}
 use Rattle.fx_infer.specs.declared.elaboration.Written.{Written}
 
-abbrev pub may_act : Place → Bool
-may_act Pure = false
-may_act Acting = true
+abbrev pub formula_may_act : Place → Bool
+formula_may_act Pure = false
+formula_may_act Acting = true
 
 -- it is judged under types that are settled
-abbrev pub place_of : Names → Written → meaning.Place
-place_of n w = record { names = n; screen = w.screen; gallery = w.item; settled = true }
+abbrev pub formula_place : Names → Written → meaning.Place
+formula_place n w = record { names = n; screen = w.screen; gallery = w.item; settled = true }
 
 -- a table type without columns, which stands for every table type
 abbrev pub is_any_table : Shape → Bool

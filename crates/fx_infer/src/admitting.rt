@@ -8,17 +8,17 @@ ghost use Rattle.fx_typing.specs.Calls.{called};
 ghost use Rattle.fx_typing.specs.Parts as parts;
 ghost use Rattle.fx_typing.specs.Typing as typing;
 ghost use Rattle.fx_core.specs.Lawful.{IsLawful};
-ghost use Rattle.fx_core.specs.Rules.{number_of};
+ghost use Rattle.fx_core.specs.Rules.{rule_number};
 ghost use Rattle.fx_core.specs.Tree as tree;
 ghost use Rattle.fx_core.specs.Term.{Term};
 ghost use Rattle.fx_core.specs.ColumnLists.{and_then};
 ghost use Rattle.fx_typing.specs.Local as local;
 ghost use Rattle.fx_typing.specs.Meaning as meaning;
-ghost use Rattle.fx_typing.specs.Answers.{Answers};
+ghost use Rattle.fx_typing.specs.Answers.{IsAnswerOf};
 ghost use Rattle.fx_typing.specs.TypedView.{typed};
-ghost use Rattle.fx_resolve.specs.MeaningView.{meaning_view, place};
-ghost use Rattle.fx_resolve.specs.PartView.{part};
-ghost use Rattle.fx_resolve.specs.PlanView.{grant, head_of};
+ghost use Rattle.fx_resolve.specs.MeaningView.{meaning_view, place_view};
+ghost use Rattle.fx_resolve.specs.PartView.{judged_part};
+ghost use Rattle.fx_resolve.specs.PlanView.{grant, tree_head};
 ghost use Rattle.fx_resolve.specs.SettingView.{setting};
 ghost use Rattle.fx_infer.specs.Operands.{leaf_of, operator_of, type_of};
 
@@ -30,9 +30,9 @@ use fx_core::expr::{Expr, FieldName, Node, Op};
 use fx_core::functions::{Form, Fun};
 use fx_core::names::Names;
 use fx_core::{Rule, make_core};
-use fx_node_typing::few::one;
+use fx_node_typing::arity::one;
 use fx_node_typing::lists::{cores_of, list_of};
-use fx_node_typing::local::{make, make_form};
+use fx_node_typing::node_rule::{make, make_form};
 use fx_node_typing::operators::function_of;
 use fx_node_typing::records::{are_distinct, record_of};
 use fx_resolve::dots::dot;
@@ -45,14 +45,14 @@ use std::alloc::Global;
 
 // A value without a name of its rows.
 fn plainly<'a>(value: Typed) -> Part<'a>
-    ensures { part result ≡ parts.plainly (typed value) }
+    ensures { judged_part result ≡ parts.plainly (typed value) }
 {
     Part::Piece(Piece::Value(None, value))
 }
 
 // What is made, as a part.
 fn as_part<'a>(made: Result<Typed, Wrong>) -> Result<Part<'a>, Wrong>
-    ensures { (r : Result (Term × Shape) ℕ) → Answers typed r made → Answers part (parts.as_part r) result }
+    ensures { (r : Result (Term × Shape) ℕ) → IsAnswerOf typed r made → IsAnswerOf judged_part (parts.as_part r) result }
 {
     match made {
         Ok(value) => Ok(Part::Piece(Piece::Value(None, value))),
@@ -62,7 +62,7 @@ fn as_part<'a>(made: Result<Typed, Wrong>) -> Result<Part<'a>, Wrong>
 
 // A constant.
 fn constant<'a>(value: Value, ty: Ty) -> Part<'a>
-    ensures { typing.constant (view value) (shape ty) ≡ Ok (part result) }
+    ensures { typing.constant (view value) (shape ty) ≡ Ok (judged_part result) }
 {
     plainly(Typed {
         core: make_core::constant(value),
@@ -72,7 +72,7 @@ fn constant<'a>(value: Value, ty: Ty) -> Part<'a>
 
 // What stands left of a dot: a name that is no value too.
 fn before_dot<'a>(meaning: Option<Meaning<'a>>) -> Result<Part<'a>, Wrong>
-    ensures { Answers part (typing.left_of_dot (option_map meaning_view meaning.entry)) result }
+    ensures { IsAnswerOf judged_part (typing.left_of_dot (option_map meaning_view meaning.entry)) result }
 {
     match meaning {
         Some(Meaning::Valued(value)) => Ok(plainly(value)),
@@ -92,7 +92,7 @@ fn name_by<'a>(
     name: &Words,
     meaning: Option<Meaning<'a>>,
 ) -> Result<Part<'a>, Wrong>
-    ensures { Answers part
+    ensures { IsAnswerOf judged_part
         (typing.name_by (grant allowed) name.now (option_map meaning_view meaning.entry)) result }
 {
     match allowed {
@@ -112,7 +112,7 @@ fn global_by<'a>(
     name: &Words,
     meaning: Option<Meaning<'a>>,
 ) -> Result<Part<'a>, Wrong>
-    ensures { Answers part
+    ensures { IsAnswerOf judged_part
         (typing.global_by (grant allowed) name.now (option_map meaning_view meaning.entry)) result }
 {
     match allowed {
@@ -128,7 +128,7 @@ fn global_by<'a>(
 fn dot_by(alloc: Global, names: &Names, name: &Words, all: Vec<Part>) -> Result<Typed, Wrong>
     requires { IsLawful names.now }
     ensures { (p : meaning.Place) → p.names ≡ names.now
-        → Answers typed (typing.dot_by p name.now (map part all.entry.items)) result }
+        → IsAnswerOf typed (typing.dot_by p name.now (map judged_part all.entry.items)) result }
 {
     match one(all) {
         Some(Part::Piece(Piece::Value(_, value))) => {
@@ -148,7 +148,7 @@ fn alias_by<'a>(
     name: &Words,
     all: Vec<Part<'a>>,
 ) -> Result<Part<'a>, Wrong>
-    ensures { Answers part (typing.alias_by (grant allowed) name.now (map part all.entry.items)) result }
+    ensures { IsAnswerOf judged_part (typing.alias_by (grant allowed) name.now (map judged_part all.entry.items)) result }
 {
     match one(all) {
         Some(Part::Piece(Piece::Value(_, value))) => alias_value(alloc, allowed, name, value),
@@ -170,7 +170,7 @@ fn alias_value<'a>(
     name: &Words,
     value: Typed,
 ) -> Result<Part<'a>, Wrong>
-    ensures { (a : Option (List ℕ)) → Answers part (typing.alias_by (grant allowed) name.now
+    ensures { (a : Option (List ℕ)) → IsAnswerOf judged_part (typing.alias_by (grant allowed) name.now
         (parts.piece (local.value a value.core (shape value.ty)) ∷ [])) result }
 {
     match allowed {
@@ -193,7 +193,7 @@ fn alias_target<'a>(
     name: &Words,
     changed: Words,
 ) -> Result<Part<'a>, Wrong>
-    ensures { Answers part (typing.alias_by (grant allowed) name.now (parts.target None changed ∷ [])) result }
+    ensures { IsAnswerOf judged_part (typing.alias_by (grant allowed) name.now (parts.target None changed ∷ [])) result }
 {
     match allowed {
         Grant::AliasedTarget => Ok(Part::Target(Some(name.copy(alloc)?), changed)),
@@ -209,7 +209,7 @@ fn alias_target<'a>(
 
 // The names of fields.
 fn names_in(alloc: Global, fields: &[(FieldName, Expr)]) -> Result<Vec<Words>, Memory>
-    ensures { IfOk result (λ ns. ns.items ≡ tree.names_of fields.now) }
+    ensures { IfOk result (λ ns. ns.items ≡ tree.tree_field_names fields.now) }
 {
     let mut names = Vec::new(alloc);
     for (name, _) in fields {
@@ -220,7 +220,7 @@ fn names_in(alloc: Global, fields: &[(FieldName, Expr)]) -> Result<Vec<Words>, M
 
 // Variables of a screen with their values, where none stands twice.
 fn assign<'a>(names: Vec<Words>, values: Vec<Typed>) -> Result<Part<'a>, Wrong>
-    ensures { Answers part (typing.assigned_of names.items (map typed values.items)) result }
+    ensures { IsAnswerOf judged_part (typing.assigned_of names.items (map typed values.items)) result }
 {
     if !are_distinct(names.as_slice()) {
         return Err(Wrong::Refused(Rule::NameTwice));
@@ -235,7 +235,7 @@ fn record_as<'a>(
     names: Vec<Words>,
     values: Vec<Typed>,
 ) -> Result<Part<'a>, Wrong>
-    ensures { Answers part (typing.record_as (grant allowed) names.items (map typed values.items)) result }
+    ensures { IsAnswerOf judged_part (typing.record_as (grant allowed) names.items (map typed values.items)) result }
 {
     match allowed {
         Grant::OnScreen(_) => assign(names, values),
@@ -256,8 +256,8 @@ fn record_by<'a>(
     fields: &[(FieldName, Expr)],
     all: Vec<Part<'a>>,
 ) -> Result<Part<'a>, Wrong>
-    ensures { Answers part (and_then (parts.values (map part all.entry.items))
-        (typing.record_as (grant allowed) (tree.names_of fields.now))) result }
+    ensures { IsAnswerOf judged_part (and_then (parts.values (map judged_part all.entry.items))
+        (typing.record_as (grant allowed) (tree.tree_field_names fields.now))) result }
 {
     let values = values(alloc, all)?;
     record_as(alloc, allowed, names_in(alloc, fields)?, values)
@@ -265,7 +265,7 @@ fn record_by<'a>(
 
 // The type of a part that is a value.
 fn value_type<'p>(one: &'p Part) -> Option<&'p Ty>
-    ensures { option_map (λ t. shape t.now) result ≡ type_of (part one.now) }
+    ensures { option_map (λ t. shape t.now) result ≡ type_of (judged_part one.now) }
 {
     match one {
         Part::Piece(Piece::Value(_, value)) => Some(&value.ty),
@@ -276,7 +276,7 @@ fn value_type<'p>(one: &'p Part) -> Option<&'p Ty>
 
 // The function that the types of two operands choose.
 fn operator_of(op: Op, all: &[Part]) -> Option<Fun>
-    ensures { result ≡ operator_of op (map part all.now) }
+    ensures { result ≡ operator_of op (map judged_part all.now) }
 {
     let [left, right] = all else {
         return None;
@@ -289,8 +289,8 @@ fn operator_of(op: Op, all: &[Part]) -> Option<Fun>
 
 // Two operands: their types choose the function.
 fn pair(alloc: Global, op: Op, all: Vec<Part>) -> Result<Typed, Wrong>
-    ensures { Answers typed (and_then (parts.values (map part all.entry.items))
-        (λ xs. typing.paired_by op xs (parts.pieces (map part all.entry.items)))) result }
+    ensures { IsAnswerOf typed (and_then (parts.values (map judged_part all.entry.items))
+        (λ xs. typing.paired_by op xs (parts.pieces (map judged_part all.entry.items)))) result }
 {
     match operator_of(op, &all) {
         Some(fun) => make(alloc, fun, pieces(alloc, all)?),
@@ -300,14 +300,14 @@ fn pair(alloc: Global, op: Op, all: Vec<Part>) -> Result<Typed, Wrong>
 
 // A function of all parts.
 fn make_of(alloc: Global, fun: Fun, all: Vec<Part>) -> Result<Typed, Wrong>
-    ensures { Answers typed (local.made fun (parts.pieces (map part all.entry.items))) result }
+    ensures { IsAnswerOf typed (local.node_made fun (parts.pieces (map judged_part all.entry.items))) result }
 {
     make(alloc, fun, pieces(alloc, all)?)
 }
 
 // A form of all parts.
 fn make_form_of(alloc: Global, form: Form, all: Vec<Part>) -> Result<Typed, Wrong>
-    ensures { Answers typed (local.formed form (parts.pieces (map part all.entry.items))) result }
+    ensures { IsAnswerOf typed (local.formed form (parts.pieces (map judged_part all.entry.items))) result }
 {
     make_form(alloc, form, pieces(alloc, all)?)
 }
@@ -324,7 +324,7 @@ fn no_pieces(alloc: Global) -> Result<Typed, Memory>
 
 // The pieces of a weave, of which there may be none.
 fn weave(alloc: Global, all: Vec<Part>) -> Result<Typed, Wrong>
-    ensures { Answers typed (typing.woven_by (map part all.entry.items)) result }
+    ensures { IsAnswerOf typed (typing.woven_by (map judged_part all.entry.items)) result }
 {
     if all.is_empty() {
         return Ok(no_pieces(alloc)?);
@@ -334,7 +334,7 @@ fn weave(alloc: Global, all: Vec<Part>) -> Result<Typed, Wrong>
 
 // Formulas in turn, which have the type of the last.
 fn chain_by(alloc: Global, values: Vec<Typed>) -> Result<Typed, Wrong>
-    ensures { Answers typed (typing.chain_by (map typed values.items)) result }
+    ensures { IsAnswerOf typed (typing.chain_by (map typed values.items)) result }
 {
     let Some(last) = values.last() else {
         return Err(Wrong::Refused(Rule::WrongType));
@@ -348,14 +348,14 @@ fn chain_by(alloc: Global, values: Vec<Typed>) -> Result<Typed, Wrong>
 
 // Formulas in turn, wherever they stand.
 fn chain(alloc: Global, all: Vec<Part>) -> Result<Typed, Wrong>
-    ensures { Answers typed (and_then (parts.values (map part all.entry.items)) typing.chain_by) result }
+    ensures { IsAnswerOf typed (and_then (parts.values (map judged_part all.entry.items)) typing.chain_by) result }
 {
     chain_by(alloc, values(alloc, all)?)
 }
 
 // A list of all parts.
 fn list(alloc: Global, all: Vec<Part>) -> Result<Typed, Wrong>
-    ensures { Answers typed (and_then (parts.values (map part all.entry.items)) builds.list_of) result }
+    ensures { IsAnswerOf typed (and_then (parts.values (map judged_part all.entry.items)) builds.typed_list) result }
 {
     list_of(alloc, values(alloc, all)?)
 }
@@ -371,9 +371,9 @@ fn call_by(
     all: Vec<Part>,
 ) -> Result<Typed, Wrong>
     requires { IsLawful at.now.names.now }
-    ensures { Answers typed (parts.unless
-        (typing.is_too_deep (place at.now) (setting scopes.now stand) (head_of whole.now) (map part all.entry.items)) 13
-        (called (place at.now) (setting scopes.now stand) name.now (map part all.entry.items))) result }
+    ensures { IsAnswerOf typed (parts.unless_rule
+        (typing.is_too_deep (place_view at.now) (setting scopes.now stand) (tree_head whole.now) (map judged_part all.entry.items)) 13
+        (called (place_view at.now) (setting scopes.now stand) name.now (map judged_part all.entry.items))) result }
 {
     let too_deep = is_too_deep(at, scopes, stand, whole, &all);
     unless(
@@ -385,8 +385,8 @@ fn call_by(
 
 // A head that has no parts.
 fn leaf<'a>(all: Vec<Part>, made: Result<Part<'a>, Wrong>) -> Result<Part<'a>, Wrong>
-    ensures { (r : Result parts.Part ℕ) → Answers part r made.entry
-        → Answers part (leaf_of (map part all.entry.items) r) result }
+    ensures { (r : Result parts.JudgedPart ℕ) → IsAnswerOf judged_part r made.entry
+        → IsAnswerOf judged_part (leaf_of (map judged_part all.entry.items) r) result }
 {
     if all.is_empty() {
         made
@@ -406,8 +406,8 @@ pub fn admit<'a>(
 ) -> Result<Part<'a>, Wrong>
     requires lawful { IsLawful at.now.names.now }
     requires shallow { length scopes.now < 256 }
-    ensures { Answers part (typing.admit (place at.now) (setting scopes.now stand) (head_of whole.now)
-        (map part all.entry.items)) result }
+    ensures { IsAnswerOf judged_part (typing.admit (place_view at.now) (setting scopes.now stand) (tree_head whole.now)
+        (map judged_part all.entry.items)) result }
 {
     match &whole.node {
         Node::Num(number) => leaf(all, Ok(constant(Value::Number(*number), Ty::Number))),

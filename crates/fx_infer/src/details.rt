@@ -4,10 +4,10 @@ ghost use Rattle.fx_types.specs.TypeView.{shape as type_of};
 ghost use Rattle.fx_typing.specs.Calls.{called_by};
 ghost use Rattle.fx_typing.specs.Details as told;
 ghost use Rattle.fx_core.specs.Lawful.{IsLawful};
-ghost use Rattle.fx_core.specs.Rules.{number_of};
-ghost use Rattle.fx_resolve.specs.MeaningView.{place};
-ghost use Rattle.fx_resolve.specs.PartView.{part};
-ghost use Rattle.fx_resolve.specs.PlanView.{head_of};
+ghost use Rattle.fx_core.specs.Rules.{rule_number};
+ghost use Rattle.fx_resolve.specs.MeaningView.{place_view};
+ghost use Rattle.fx_resolve.specs.PartView.{judged_part};
+ghost use Rattle.fx_resolve.specs.PlanView.{tree_head};
 ghost use Rattle.fx_resolve.specs.SettingView.{setting};
 
 use crate::too_deep::is_too_deep;
@@ -31,7 +31,7 @@ use std::alloc::Global;
 
 // The name that a call can't act on, and else the call's.
 fn no_variable(alloc: Global, whole: &Expr, all: &[Part]) -> Result<Words, Memory>
-    ensures { IfOk result (λ w. w ≡ told.no_variable (told.head_name (head_of whole.now)) (map part all.now)) }
+    ensures { IfOk result (λ w. w ≡ told.no_variable (told.head_name (tree_head whole.now)) (map judged_part all.now)) }
 {
     match all.first() {
         Some(Part::Target(_, name)) => name.copy(alloc),
@@ -42,7 +42,7 @@ fn no_variable(alloc: Global, whole: &Expr, all: &[Part]) -> Result<Words, Memor
 // The type that passes the limits, of what a call gives a value to.
 fn large_in<'n>(at: &Place<'n>, shape: SigShape, all: &[Part]) -> Option<&'n Ty>
     requires { IsLawful at.now.names.now }
-    ensures { option_map (λ t. type_of t.now) result ≡ told.large_in (place at.now) shape (map part all.now) }
+    ensures { option_map (λ t. type_of t.now) result ≡ told.large_in (place_view at.now) shape (map judged_part all.now) }
 {
     match shape {
         SigShape::Act(acting) => first_large_type(at.names, at.screen, acting, all),
@@ -60,8 +60,8 @@ fn call_limit(
     all: Vec<Part>,
 ) -> Result<Words, Memory>
     requires { IsLawful at.now.names.now }
-    ensures { IfOk result (λ w. w ≡ told.call_limit (place at.now) (setting scopes.now stand) shape
-        (map part all.entry.items)) }
+    ensures { IfOk result (λ w. w ≡ told.call_limit (place_view at.now) (setting scopes.now stand) shape
+        (map judged_part all.entry.items)) }
 {
     let Some(shape) = shape else {
         return nothing(alloc);
@@ -82,8 +82,8 @@ fn own_limit(
     all: Vec<Part>,
 ) -> Result<Words, Memory>
     requires { IsLawful at.now.names.now }
-    ensures { IfOk result (λ w. w ≡ told.limit_of (called_by (place at.now) (setting scopes.now stand) shape
-        (map part all.entry.items))) }
+    ensures { IfOk result (λ w. w ≡ told.limit_of (called_by (place_view at.now) (setting scopes.now stand) shape
+        (map judged_part all.entry.items))) }
 {
     match call_by_shape(alloc, at, stand, shape, all) {
         Ok(tree) => type_limit(alloc, &tree.ty),
@@ -102,8 +102,8 @@ fn passed_limit(
     all: Vec<Part>,
 ) -> Result<Words, Memory>
     requires { IsLawful at.now.names.now }
-    ensures { IfOk result (λ w. w ≡ told.limit_passed (place at.now) (setting scopes.now stand)
-        (head_of whole.now) (map part all.entry.items)) }
+    ensures { IfOk result (λ w. w ≡ told.limit_detail (place_view at.now) (setting scopes.now stand)
+        (tree_head whole.now) (map judged_part all.entry.items)) }
 {
     match &whole.node {
         Node::Call(_, _) if is_too_deep(at, scopes, stand, whole, &all) => nesting(alloc, scopes),
@@ -126,8 +126,8 @@ pub fn detail_of(
     rule: Rule,
 ) -> Result<Words, Memory>
     requires { IsLawful at.now.names.now }
-    ensures { IfOk result (λ w. w ≡ told.detail_of (place at.now) (setting scopes.now stand)
-        (head_of whole.now) (map part all.entry.items) (number_of rule)) }
+    ensures { IfOk result (λ w. w ≡ told.detail_of (place_view at.now) (setting scopes.now stand)
+        (tree_head whole.now) (map judged_part all.entry.items) (rule_number rule)) }
 {
     match rule {
         Rule::NameTwice => repeated_name(alloc, at.names, whole, &all),
@@ -144,7 +144,7 @@ pub fn detail_of(
 /// What is said of a formula of a type that isn't what is wanted.
 pub fn wanted_detail(alloc: Global, names: &Names, one: &Part) -> Result<Words, Memory>
     requires { IsLawful names.now }
-    ensures { IfOk result (λ w. w ≡ told.wanted_detail names.now (part one.now)) }
+    ensures { IfOk result (λ w. w ≡ told.wanted_detail names.now (judged_part one.now)) }
 {
     commas(alloc, &part_names(alloc, names, one)?)
 }

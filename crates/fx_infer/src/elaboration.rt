@@ -6,25 +6,25 @@ ghost use Rattle.fx_typing.specs.Details.{IsToldBrokenWhole};
 ghost use Rattle.fx_typing.specs.Typing as typing;
 ghost use Rattle.fx_typing.specs.Typing.{context_of, judge_whole};
 ghost use Rattle.fx_core.specs.Lawful.{IsLawful};
-ghost use Rattle.fx_core.specs.Rules.{number_of};
+ghost use Rattle.fx_core.specs.Rules.{rule_number};
 ghost use Rattle.fx_core.specs.declared.broken.Broken.{Broken};
 ghost use Rattle.fx_core.specs.Tree.{Tree};
 ghost use Rattle.fx_core.specs.Term.{Term};
 ghost use Rattle.fx_typing.specs.Meaning as meaning;
 ghost use Rattle.fx_typing.specs.WellTyped.{IsTyped};
 ghost use Rattle.fx_typing.specs.Elaborates.{FormulaElaborates, FormulaIsNothing};
-ghost use Rattle.fx_typing.specs.Answers.{Answers};
+ghost use Rattle.fx_typing.specs.Answers.{IsAnswerOf};
 ghost use Rattle.fx_typing.specs.TypedView.{typed};
-ghost use Rattle.fx_resolve.specs.PartView.{part};
+ghost use Rattle.fx_resolve.specs.PartView.{judged_part};
 ghost use Rattle.fx_resolve.specs.SettingView.{setting};
 ghost use Rattle.fx_infer.specs.declared.ends.InferEnd.TheVariants as end;
 ghost use Rattle.fx_infer.specs.Below.{tree_depth};
-ghost use Rattle.fx_infer.specs.Ends.{Ends};
-ghost use Rattle.fx_infer.specs.Written.{is_any_table, is_tables, may_act, place_of};
+ghost use Rattle.fx_infer.specs.Ends.{InfersTo};
+ghost use Rattle.fx_infer.specs.Written.{is_any_table, is_tables, formula_may_act, formula_place};
 
-use crate::below::begins;
 use crate::ends::InferEnd;
 use crate::judging::judge;
+use crate::node_parts::begins;
 use crate::{Flaw, Halt, wanted_detail};
 use fx_core::expr::Expr;
 use fx_core::names::Names;
@@ -65,7 +65,7 @@ pub struct Written {
 
 // What is wanted of a formula: a table type without columns lets every table be.
 fn to_wanted_type(alloc: Global, wanted: &Option<Ty>, value: Typed) -> Result<Typed, Wrong>
-    ensures { Answers typed (typing.to_wanted (option_map shape wanted.now) (typed value)) result }
+    ensures { IsAnswerOf typed (typing.to_wanted (option_map shape wanted.now) (typed value)) result }
 {
     let Some(ty) = wanted else {
         return Ok(value);
@@ -95,7 +95,7 @@ fn is_table(ty: &Ty) -> bool
 
 // A whole formula, coerced to what is wanted of it.
 fn whole_of(alloc: Global, wanted: &Option<Ty>, whole: Part) -> Result<Typed, Wrong>
-    ensures { Answers typed (typing.whole_of (option_map shape wanted.now) (part whole.entry)) result }
+    ensures { IsAnswerOf typed (typing.whole_argument (option_map shape wanted.now) (judged_part whole.entry)) result }
 {
     match whole {
         Part::Piece(Piece::Value(_, value)) => to_wanted_type(alloc, wanted, value),
@@ -106,7 +106,7 @@ fn whole_of(alloc: Global, wanted: &Option<Ty>, whole: Part) -> Result<Typed, Wr
 
 /// Where a whole formula stands: in no scope.
 pub(crate) fn outermost(place: Place) -> Stand
-    ensures { setting [] result ≡ typing.outermost (may_act place) }
+    ensures { setting [] result ≡ typing.outermost_setting (formula_may_act place) }
 {
     Stand {
         catches: false,
@@ -120,8 +120,8 @@ pub(crate) fn outermost(place: Place) -> Stand
 // What is answered of a formula that is broken there.
 fn refuse(alloc: Global, cell: &Words, flaw: Flaw) -> InferEnd
     ensures { (p : meaning.Place) → (b : Bool) → (w : Option Shape) → (e : Tree)
-        → IsToldBrokenWhole p b w e flaw.at (number_of flaw.rule) flaw.detail
-        → Ends p b w e cell.now (Err result) }
+        → IsToldBrokenWhole p b w e flaw.at (rule_number flaw.rule) flaw.detail
+        → InfersTo p b w e cell.now (Err result) }
 {
     match cell.copy(alloc) {
         Ok(cell) => InferEnd::Broken(Broken {
@@ -144,8 +144,8 @@ fn settle(
 ) -> Result<Typed, InferEnd>
     requires { IsLawful names.now }
     ensures { (b : Bool)
-        → typing.judge (place_of names.now cell.now) (typing.outermost b) cell.now.expr ≡ Ok (part whole.entry)
-        → Ends (place_of names.now cell.now) b (option_map shape wanted.now) cell.now.expr
+        → typing.judge (formula_place names.now cell.now) (typing.outermost_setting b) cell.now.expr ≡ Ok (judged_part whole.entry)
+        → InfersTo (formula_place names.now cell.now) b (option_map shape wanted.now) cell.now.expr
         cell.now.cell result }
 {
     let detail = wanted_detail(alloc, names, &whole)?;
@@ -168,7 +168,7 @@ fn judge_cell(
 ) -> Result<Typed, InferEnd>
     requires lawful { IsLawful names.now }
     requires shallow { tree_depth cell.now.expr ≤ 256 }
-    ensures { Ends (place_of names.now cell.now) (may_act cell.now.place)
+    ensures { InfersTo (formula_place names.now cell.now) (formula_may_act cell.now.place)
         (option_map shape wanted.now) cell.now.expr cell.now.cell result }
 {
     let at = Standpoint {
@@ -192,25 +192,25 @@ fn judge_cell(
 pub fn elaborate(alloc: Global, names: &Names, cell: &Written) -> Result<Typed, InferEnd>
     requires lawful { IsLawful names.now }
     requires shallow { tree_depth cell.now.expr ≤ 256 }
-    ensures admitted { IfOk result (λ t. judge_whole (place_of names.now cell.now) (may_act cell.now.place)
+    ensures admitted { IfOk result (λ t. judge_whole (formula_place names.now cell.now) (formula_may_act cell.now.place)
         (option_map shape cell.now.wanted) cell.now.expr ≡ Ok (typed t)) }
-    ensures well_typed { IfOk result (λ t. IsTyped (context_of (place_of names.now cell.now)
-        (typing.outermost (may_act cell.now.place))) t.core (shape t.ty)) }
+    ensures well_typed { IfOk result (λ t. IsTyped (context_of (formula_place names.now cell.now)
+        (typing.outermost_setting (formula_may_act cell.now.place))) t.core (shape t.ty)) }
     ensures broken { (b : Broken) → result ≡ Err (end.Broken b)
-        → judge_whole (place_of names.now cell.now) (may_act cell.now.place)
-        (option_map shape cell.now.wanted) cell.now.expr ≡ Err (b.at, number_of b.rule) }
+        → judge_whole (formula_place names.now cell.now) (formula_may_act cell.now.place)
+        (option_map shape cell.now.wanted) cell.now.expr ≡ Err (b.at, rule_number b.rule) }
     ensures told { (b : Broken) → result ≡ Err (end.Broken b)
-        → IsToldBrokenWhole (place_of names.now cell.now) (may_act cell.now.place)
-        (option_map shape cell.now.wanted) cell.now.expr b.at (number_of b.rule) b.detail }
+        → IsToldBrokenWhole (formula_place names.now cell.now) (formula_may_act cell.now.place)
+        (option_map shape cell.now.wanted) cell.now.expr b.at (rule_number b.rule) b.detail }
     ensures cell { (b : Broken) → result ≡ Err (end.Broken b) → b.cell ≡ cell.now.cell }
     // The relation of types relates to the formula what is answered; to a broken one it relates nothing, and nothing to
     // the node that is told, of which it relates all parts.
-    ensures related { IfOk result (λ t. FormulaElaborates (place_of names.now cell.now) (may_act cell.now.place)
+    ensures related { IfOk result (λ t. FormulaElaborates (formula_place names.now cell.now) (formula_may_act cell.now.place)
         (option_map shape cell.now.wanted) cell.now.expr (typed t)) }
     ensures unrelated { (b : Broken) → result ≡ Err (end.Broken b)
-        → FormulaIsNothing (place_of names.now cell.now) (may_act cell.now.place)
+        → FormulaIsNothing (formula_place names.now cell.now) (formula_may_act cell.now.place)
         (option_map shape cell.now.wanted) cell.now.expr b.at
-        × ((x : Term × Shape) → FormulaElaborates (place_of names.now cell.now) (may_act cell.now.place)
+        × ((x : Term × Shape) → FormulaElaborates (formula_place names.now cell.now) (formula_may_act cell.now.place)
         (option_map shape cell.now.wanted) cell.now.expr x → ⊥) }
 {
     // The laws are called for what they say of what is admitted or broken.
@@ -224,11 +224,11 @@ pub fn elaborate(alloc: Global, names: &Names, cell: &Written) -> Result<Typed, 
 pub fn elaborate_alone(alloc: Global, names: &Names, cell: &Written) -> Result<Typed, InferEnd>
     requires lawful { IsLawful names.now }
     requires shallow { tree_depth cell.now.expr ≤ 256 }
-    ensures admitted { IfOk result (λ t. judge_whole (place_of names.now cell.now) (may_act cell.now.place)
+    ensures admitted { IfOk result (λ t. judge_whole (formula_place names.now cell.now) (formula_may_act cell.now.place)
         None cell.now.expr ≡ Ok (typed t)) }
     ensures broken { (b : Broken) → result ≡ Err (end.Broken b)
-        → judge_whole (place_of names.now cell.now) (may_act cell.now.place)
-        None cell.now.expr ≡ Err (b.at, number_of b.rule) }
+        → judge_whole (formula_place names.now cell.now) (formula_may_act cell.now.place)
+        None cell.now.expr ≡ Err (b.at, rule_number b.rule) }
 {
     judge_cell(alloc, names, cell, &None)
 }

@@ -3,13 +3,13 @@ ghost use Rattle.std.specs.Prelude.{◌≡◌, ◌++◌, IfOk, List, OnOk, Some,
 ghost use Rattle.fx_types.specs.TypeView.{shape};
 ghost use Rattle.fx_typing.specs.Plans as plans;
 ghost use Rattle.fx_typing.specs.Rounds as rounds;
-ghost use Rattle.fx_resolve.specs.MeaningView.{place};
-ghost use Rattle.fx_resolve.specs.PartView.{part};
-ghost use Rattle.fx_resolve.specs.PlanView.{head_of};
+ghost use Rattle.fx_resolve.specs.MeaningView.{place_view};
+ghost use Rattle.fx_resolve.specs.PartView.{judged_part};
+ghost use Rattle.fx_resolve.specs.PlanView.{tree_head};
 ghost use Rattle.fx_resolve.specs.SettingView.{setting};
 ghost use Rattle.fx_typing.specs.Meaning.{Scope};
-ghost use Rattle.fx_core.specs.Tree.{names_of};
-ghost use Rattle.fx_infer.specs.GivenView.{given_view, value_type, rows_type};
+ghost use Rattle.fx_core.specs.Tree.{tree_field_names};
+ghost use Rattle.fx_infer.specs.GivenView.{given_type_view, value_type, rows_type};
 
 use fx_base::Memory;
 use fx_core::expr::{Expr, FieldName, Node};
@@ -43,7 +43,7 @@ fn call_shape(names: &Names, name: &Words) -> Option<SigShape>
 
 // The type of a part that is a value.
 fn value_type<'p>(one: &'p Part) -> Option<&'p Ty>
-    ensures { option_map (λ t. shape t.now) result ≡ value_type (part one.now) }
+    ensures { option_map (λ t. shape t.now) result ≡ value_type (judged_part one.now) }
 {
     match one {
         Part::Piece(Piece::Value(_, value)) => Some(&value.ty),
@@ -69,8 +69,8 @@ fn give_global(
     value: &Part,
     given: &mut Vec<Given>,
 ) -> Result<(), Memory>
-    ensures { OnOk result (map given_view given.new.items ≡ map given_view given.old.items
-        ++ rounds.value_given (rounds.to_global name.now) (part value.now)) }
+    ensures { OnOk result (map given_type_view given.new.items ≡ map given_type_view given.old.items
+        ++ rounds.value_given (rounds.to_global name.now) (judged_part value.now)) }
 {
     if let Some(ty) = value_type(value) {
         given.push(Given::Global(name.copy(alloc)?, ty.copy(alloc)?))?;
@@ -86,8 +86,8 @@ fn give_screen(
     value: &Part,
     given: &mut Vec<Given>,
 ) -> Result<(), Memory>
-    ensures { OnOk result (map given_view given.new.items ≡ map given_view given.old.items
-        ++ rounds.value_given (rounds.to_screen screen name.now) (part value.now)) }
+    ensures { OnOk result (map given_type_view given.new.items ≡ map given_type_view given.old.items
+        ++ rounds.value_given (rounds.to_screen screen name.now) (judged_part value.now)) }
 {
     if let Some(ty) = value_type(value) {
         given.push(Given::Screen(screen, name.copy(alloc)?, ty.copy(alloc)?))?;
@@ -97,8 +97,8 @@ fn give_screen(
 
 // What a collected value gives to a collection.
 fn give_row(alloc: Global, name: &Words, value: &Part, given: &mut Vec<Given>) -> Result<(), Memory>
-    ensures { OnOk result (map given_view given.new.items ≡ map given_view given.old.items
-        ++ rounds.given_to (rounds.to_collection name.now) (option_map rows_type (value_type (part value.now)))) }
+    ensures { OnOk result (map given_type_view given.new.items ≡ map given_type_view given.old.items
+        ++ rounds.given_by_node (rounds.to_collection name.now) (option_map rows_type (value_type (judged_part value.now)))) }
 {
     if let Some(ty) = value_type(value) {
         given.push(Given::Collection(name.copy(alloc)?, rows_type(alloc, ty)?))?;
@@ -113,8 +113,8 @@ fn give_rows(
     values: &[Part],
     given: &mut Vec<Given>,
 ) -> Result<(), Memory>
-    ensures { OnOk result (map given_view given.new.items ≡ map given_view given.old.items
-        ++ rounds.rows_given_to (rounds.to_collection name.now) (map part values.now)) }
+    ensures { OnOk result (map given_type_view given.new.items ≡ map given_type_view given.old.items
+        ++ rounds.rows_given_to (rounds.to_collection name.now) (map judged_part values.now)) }
 {
     for value in values {
         give_row(alloc, name, value, given)?;
@@ -130,8 +130,8 @@ fn give_fields(
     values: &[Part],
     given: &mut Vec<Given>,
 ) -> Result<(), Memory>
-    ensures { OnOk result (map given_view given.new.items ≡ map given_view given.old.items
-        ++ rounds.fields_given screen (names_of fields.now) (map part values.now)) }
+    ensures { OnOk result (map given_type_view given.new.items ≡ map given_type_view given.old.items
+        ++ rounds.fields_given screen (tree_field_names fields.now) (map judged_part values.now)) }
 {
     for (place, (name, _)) in fields.iter().enumerate() {
         let Some(value) = values.get(place) else {
@@ -144,8 +144,8 @@ fn give_fields(
 
 // What a call of `Set` gives, by its parts.
 fn give_by_set(alloc: Global, parts: &[Part], given: &mut Vec<Given>) -> Result<(), Memory>
-    ensures { OnOk result (map given_view given.new.items ≡ map given_view given.old.items
-        ++ rounds.call_gives (Some (SigShape.Act Acting.Set)) (map part parts.now)) }
+    ensures { OnOk result (map given_type_view given.new.items ≡ map given_type_view given.old.items
+        ++ rounds.call_gives (Some (SigShape.Act Acting.Set)) (map judged_part parts.now)) }
 {
     let [first, value] = parts else {
         return Ok(());
@@ -158,8 +158,8 @@ fn give_by_set(alloc: Global, parts: &[Part], given: &mut Vec<Given>) -> Result<
 
 // What a call that collects gives, by its parts.
 fn give_by_collect(alloc: Global, parts: &[Part], given: &mut Vec<Given>) -> Result<(), Memory>
-    ensures { OnOk result (map given_view given.new.items ≡ map given_view given.old.items
-        ++ rounds.call_gives (Some (SigShape.Act Acting.Collect)) (map part parts.now)) }
+    ensures { OnOk result (map given_type_view given.new.items ≡ map given_type_view given.old.items
+        ++ rounds.call_gives (Some (SigShape.Act Acting.Collect)) (map judged_part parts.now)) }
 {
     let [first, values @ ..] = parts else {
         return Ok(());
@@ -177,8 +177,8 @@ fn give_by_act(
     parts: &[Part],
     given: &mut Vec<Given>,
 ) -> Result<(), Memory>
-    ensures { OnOk result (map given_view given.new.items ≡ map given_view given.old.items
-        ++ rounds.call_gives (Some (SigShape.Act acting)) (map part parts.now)) }
+    ensures { OnOk result (map given_type_view given.new.items ≡ map given_type_view given.old.items
+        ++ rounds.call_gives (Some (SigShape.Act acting)) (map judged_part parts.now)) }
 {
     match acting {
         Acting::Set => give_by_set(alloc, parts, given),
@@ -204,8 +204,8 @@ pub fn give(
     parts: &[Part],
     given: &mut Vec<Given>,
 ) -> Result<(), Memory>
-    ensures { (ss : List Scope) → OnOk result (map given_view given.new.items ≡ map given_view given.old.items
-        ++ rounds.gives (place at.now) (setting ss stand) (head_of whole.now) (map part parts.now)) }
+    ensures { (ss : List Scope) → OnOk result (map given_type_view given.new.items ≡ map given_type_view given.old.items
+        ++ rounds.node_gives (place_view at.now) (setting ss stand) (tree_head whole.now) (map judged_part parts.now)) }
 {
     match &whole.node {
         Node::Call(name, _) => match call_shape(at.names, name) {

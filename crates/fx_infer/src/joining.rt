@@ -3,7 +3,7 @@ ghost use Rattle.std.specs.Prelude.{◌≡◌, ◌∷◌, IfOk, List, None, byte
 ghost use Rattle.fx_types.specs.TypeView.{shape};
 ghost use Rattle.fx_types.specs.Types.{blanks};
 ghost use Rattle.fx_typing.specs.Rounds as rounds;
-ghost use Rattle.fx_infer.specs.GivenView.{given_view};
+ghost use Rattle.fx_infer.specs.GivenView.{given_type_view};
 
 use crate::giving::Given;
 use fx_base::Memory;
@@ -38,8 +38,8 @@ fn is_same_screen(a: Option<u32>, b: Option<u32>) -> bool
 
 // The join of a variable's type with what is given next.
 fn variable_next(alloc: Global, variable: &Variable, ty: Ty, next: &Given) -> Result<Ty, Memory>
-    ensures { (gs : List rounds.Given) → IfOk result (λ t. rounds.variable_join variable.now (shape t) gs
-        ≡ rounds.variable_join variable.now (shape ty) (given_view next.now ∷ gs)) }
+    ensures { (gs : List rounds.GivenType) → IfOk result (λ t. rounds.variable_join variable.now (shape t) gs
+        ≡ rounds.variable_join variable.now (shape ty) (given_type_view next.now ∷ gs)) }
 {
     match next {
         Given::Global(name, other) => {
@@ -56,7 +56,7 @@ fn variable_next(alloc: Global, variable: &Variable, ty: Ty, next: &Given) -> Re
 
 /// The join of all that is given to a variable, from the left.
 pub fn variable_join(alloc: Global, variable: &Variable, given: &[Given]) -> Result<Ty, Memory>
-    ensures { IfOk result (λ t. shape t ≡ rounds.variable_join variable.now blanks (map given_view given.now)) }
+    ensures { IfOk result (λ t. shape t ≡ rounds.variable_join variable.now blanks (map given_type_view given.now)) }
 {
     let mut ty = Ty::Blank;
     for next in given {
@@ -72,8 +72,8 @@ fn collection_next(
     ty: Ty,
     next: &Given,
 ) -> Result<Ty, Memory>
-    ensures { (gs : List rounds.Given) → IfOk result (λ t. rounds.collection_join collection.now (shape t) gs
-        ≡ rounds.collection_join collection.now (shape ty) (given_view next.now ∷ gs)) }
+    ensures { (gs : List rounds.GivenType) → IfOk result (λ t. rounds.collection_join collection.now (shape t) gs
+        ≡ rounds.collection_join collection.now (shape ty) (given_type_view next.now ∷ gs)) }
 {
     match next {
         Given::Collection(name, other) => join_if(alloc, collection.name.is(name), ty, other),
@@ -88,7 +88,7 @@ pub fn collection_join(
     given: &[Given],
 ) -> Result<Ty, Memory>
     ensures { IfOk result (λ t. shape t
-        ≡ rounds.collection_join collection.now blanks (map given_view given.now)) }
+        ≡ rounds.collection_join collection.now blanks (map given_type_view given.now)) }
 {
     let mut ty = Ty::Blank;
     for next in given {

@@ -2,18 +2,18 @@
 ghost use Rattle.std.specs.Prelude.{◌≡◌, ◌≤◌, ◌+◌, [], length, map};
 ghost use Rattle.fx_core.specs.Lawful.{IsLawful};
 ghost use Rattle.fx_typing.specs.Details.{HasToldBroken, IsToldBroken};
-ghost use Rattle.fx_typing.specs.Parts.{parts_in};
+ghost use Rattle.fx_typing.specs.Parts.{part_count};
 ghost use Rattle.fx_typing.specs.Plans.{setting_at};
 ghost use Rattle.fx_typing.specs.Typing as typing;
-ghost use Rattle.fx_resolve.specs.MeaningView.{place};
-ghost use Rattle.fx_resolve.specs.PartView.{part};
-ghost use Rattle.fx_resolve.specs.PlanView.{head_of};
+ghost use Rattle.fx_resolve.specs.MeaningView.{place_view};
+ghost use Rattle.fx_resolve.specs.PartView.{judged_part};
+ghost use Rattle.fx_resolve.specs.PlanView.{tree_head};
 ghost use Rattle.fx_resolve.specs.SettingView.{setting};
 ghost use Rattle.fx_infer.specs.Below.{forest_of, tree_depth};
-ghost use Rattle.fx_infer.specs.Judged.{Judged};
+ghost use Rattle.fx_infer.specs.Judged.{IsJudgedBy};
 
 use crate::admitting::admit;
-use crate::below::{begins, part_at, part_count};
+use crate::node_parts::{begins, part_at, part_count};
 use crate::{Flaw, Halt, detail_of};
 use fx_core::expr::Expr;
 use fx_resolve::{Part, Place, Scopes, Stand, enter};
@@ -33,8 +33,8 @@ pub fn judge<'a>(
     requires lawful { IsLawful at.now.names.now }
     requires shallow { length scopes.old + tree_depth whole.now ≤ 256 }
     ensures scopes { scopes.new ≡ scopes.old }
-    ensures judged { Judged part (typing.judge (place at.now) (setting scopes.old stand) whole.now)
-        (IsToldBroken (place at.now) (setting scopes.old stand) whole.now) result }
+    ensures judged { IsJudgedBy judged_part (typing.judge (place_view at.now) (setting scopes.old stand) whole.now)
+        (IsToldBroken (place_view at.now) (setting scopes.old stand) whole.now) result }
 {
     let parts = judge_parts(alloc, at, scopes, stand, whole)?;
     match admit(alloc, at, scopes, stand, whole, parts) {
@@ -65,11 +65,11 @@ fn judge_parts<'a>(
     requires lawful { IsLawful at.now.names.now }
     requires shallow { length scopes.old + tree_depth whole.now ≤ 256 }
     ensures scopes { scopes.new ≡ scopes.old }
-    ensures judged { Judged (λ qs. map part qs.items)
-        (typing.judge_parts (place at.now) (setting scopes.old stand) (head_of whole.now)
-        (parts_in (forest_of whole.now)) [] (forest_of whole.now))
-        (HasToldBroken (place at.now) (setting scopes.old stand) (head_of whole.now)
-        (parts_in (forest_of whole.now)) [] (forest_of whole.now)) result }
+    ensures judged { IsJudgedBy (λ qs. map judged_part qs.items)
+        (typing.judge_parts (place_view at.now) (setting scopes.old stand) (tree_head whole.now)
+        (part_count (forest_of whole.now)) [] (forest_of whole.now))
+        (HasToldBroken (place_view at.now) (setting scopes.old stand) (tree_head whole.now)
+        (part_count (forest_of whole.now)) [] (forest_of whole.now)) result }
 {
     let count = part_count(whole);
     let mut done = Vec::new(alloc);
@@ -95,11 +95,11 @@ fn judge_next<'a>(
     requires lawful { IsLawful at.now.names.now }
     requires shallow { length scopes.old + (1 + tree_depth next.now) ≤ 256 }
     ensures scopes { scopes.new ≡ scopes.old }
-    ensures judged { Judged part
-        (typing.judge (place at.now) (setting_at at.now.names.now (setting scopes.old stand)
-        (head_of whole.now) count (map part done.now)) next.now)
-        (IsToldBroken (place at.now) (setting_at at.now.names.now (setting scopes.old stand)
-        (head_of whole.now) count (map part done.now)) next.now) result }
+    ensures judged { IsJudgedBy judged_part
+        (typing.judge (place_view at.now) (setting_at at.now.names.now (setting scopes.old stand)
+        (tree_head whole.now) count (map judged_part done.now)) next.now)
+        (IsToldBroken (place_view at.now) (setting_at at.now.names.now (setting scopes.old stand)
+        (tree_head whole.now) count (map judged_part done.now)) next.now) result }
 {
     let around = scopes.len();
     let inner = enter(alloc, at.names, scopes, stand, whole, count, done)?;

@@ -2,7 +2,7 @@
 #![tactic(auto)]
 
 pub mod admitting;
-pub mod below;
+pub mod assignments;
 pub mod depths;
 pub mod details;
 pub mod elaboration;
@@ -11,12 +11,12 @@ pub mod flaw;
 pub mod giving;
 pub mod joining;
 pub mod judging;
-pub mod next;
+pub mod next_round;
+pub mod node_parts;
 pub mod round_types;
 pub mod rounds;
 pub mod too_deep;
 pub mod typed_names;
-pub mod walking;
 
 pub use depths::no_deeper;
 pub use details::{detail_of, wanted_detail};

@@ -3,13 +3,13 @@ ghost use Rattle.std.specs.Prelude.{◌≡◌, ◌≤◌, All, Err, IfOk, codes,
 ghost use Rattle.fx_infer.specs.Below.{tree_depth};
 ghost use Rattle.fx_infer.specs.declared.elaboration.Written.{Written};
 ghost use Rattle.fx_infer.specs.declared.ends.InferEnd.TheVariants as end;
-ghost use Rattle.fx_typing.specs.Rounds.{IsFinal, StillChanges};
+ghost use Rattle.fx_typing.specs.Rounds.{AreFinalTypes, StillChanges};
 ghost use Rattle.fx_core.specs.Lawful.{IsLawful};
 ghost use Rattle.fx_core.specs.declared.broken.Broken.{Broken};
 ghost use Rattle.fx_infer.specs.CellView.{cell};
 ghost use Rattle.fx_infer.specs.Limit.{IsRoundsLimit, Settles};
 
-use crate::next::next_types;
+use crate::next_round::next_types;
 use crate::round_types::{are_types_of, first_types};
 use crate::typed_names::with_types;
 use crate::{InferEnd, Written};
@@ -52,7 +52,7 @@ fn rounds_limit(alloc: Global) -> Result<Broken, Memory>
 pub fn type_rounds(alloc: Global, names: Names, cells: &[Written]) -> Result<Names, InferEnd>
     requires lawful { IsLawful names }
     requires shallow { All (λ (c : Written). tree_depth c.expr ≤ 256) cells.now }
-    ensures types { IfOk result (λ m. IsFinal (map cell cells.now) names m) }
+    ensures types { IfOk result (λ m. AreFinalTypes (map cell cells.now) names m) }
     ensures lawful { IfOk result IsLawful }
     ensures settles { IfOk result (λ m. Settles (map cell cells.now) names) }
     ensures broken { (b : Broken) → result ≡ Err (end.Broken b) → StillChanges (map cell cells.now) names }

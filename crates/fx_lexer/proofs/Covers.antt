@@ -14,13 +14,13 @@ use Rattle.fx_lexer.specs.declared.element.Class.TheVariants.{White, Digit, Lett
 use Rattle.fx_lexer.specs.declared.element.Element.{Element}
 use Rattle.fx_lexer.specs.declared.element.Element.TheVariants.{Skip, Token}
 use Rattle.fx_lexer.specs.declared.element.Mode.{Mode}
-use Rattle.fx_lexer.specs.Spelling.{class_at, goes_on_number, in_name, in_number, in_line, is_quote, is_mark, Every, doubled, HasNoEnd, word_spelling, symbol_spelling, Spelt, white, line_comment, block_comment, number, text, name, quoted_name, word, symbol, opening, closing, piece, island, begins, IsClosed}
-use Rattle.fx_lexer.specs.Scan.{Seen, seen, run, number_run, more, open_run, closed_run, comment_run, weave_run, mark_run, word_at, one_or_two, less_at, symbol_seen, text_seen, quoted_seen, comment_seen, slash_at, name_kind, by_class, formula_at, weave_by, weave_at, element_at}
+use Rattle.fx_lexer.specs.Spelling.{class_at, goes_on_number, in_name, in_number, in_line, is_quote, is_mark, Every, doubled, HasNoEnd, word_spelling, symbol_spelling, Spelt, white, line_comment, block_comment, number, text, name, quoted_name, word, symbol, opening, closing, piece, island, begins_with, IsClosed}
+use Rattle.fx_lexer.specs.Scan.{ScannedElement, scanned, run_length, number_run, more, open_run, closed_run, comment_run, weave_run, mark_run, word_at, one_or_two, less_at, symbol_seen, text_seen, quoted_seen, comment_seen, slash_at, name_kind, by_class, formula_at, weave_by, weave_at, element_at}
 use Rattle.fx_lexer.proofs.Digits.{every_digit}
 use Rattle.fx_lexer.proofs.Found.{IsKindOf, kind_of, eqb_same}
 
 -- what was found is no shorter than q, and is q where it is as long; where nothing was found q may not stand before zs
-abbrev pub Covers : Seen → Element → List ℕ → List ℕ → Type 0
+abbrev pub Covers : ScannedElement → Element → List ℕ → List ℕ → Type 0
 Covers None q ys zs = IsClosed q ys zs → ⊥
 Covers (Some r) q ys zs = (length ys ≤ r.1) × (length ys ≡ r.1 → r.0 ≡ q)
 
@@ -28,7 +28,7 @@ at_class : (c : ℕ) (cs : List ℕ) (k : Class) (q : Element) (ys zs : List ℕ
 at_class c cs k q ys zs e h = rw e h
 
 -- runs
-run_covers : (p : ℕ → Bool) (ys zs : List ℕ) → Every p ys → length ys ≤ run p (ys ++ zs)
+run_covers : (p : ℕ → Bool) (ys zs : List ℕ) → Every p ys → length ys ≤ run_length p (ys ++ zs)
 run_covers p [] zs h = omega arith
 run_covers p (y ∷ ys) zs h = rw (h.0) (omega (arith, run_covers p ys zs h.1))
 
@@ -57,7 +57,7 @@ decimal_covers cs (d ∷ ds) es zs h =
 
 -- texts and quoted names
 abbrev OpenCovers : Option ℕ → ℕ → ℕ → List ℕ → Type 0
-OpenCovers None q m zs = begins q zs ≡ true
+OpenCovers None q m zs = begins_with q zs ≡ true
 OpenCovers (Some n) q m zs = m ≤ n
 
 more_covers : (o : Option ℕ) (q m : ℕ) (zs : List ℕ) → OpenCovers o q m zs → OpenCovers (more o) q (suc m) zs
@@ -86,7 +86,7 @@ text_covers : (o : Option ℕ) (xs zs : List ℕ) → OpenCovers o 34 (length xs
 text_covers None xs zs h = λ k. let e : true ≡ false = sym h ∙ k in cc
 text_covers (Some n) xs zs h = (omega arith, λ _. refl)
 
-quoted_by : (n : ℕ) (xs zs : List ℕ) (b : Bool) → leb n 1 ≡ b → 1 < length xs → length xs ≤ n → Covers (cond b None (seen kind.Name (suc n))) (Token kind.Name) (39 ∷ xs) zs
+quoted_by : (n : ℕ) (xs zs : List ℕ) (b : Bool) → leb n 1 ≡ b → 1 < length xs → length xs ≤ n → Covers (cond b None (scanned kind.Name (suc n))) (Token kind.Name) (39 ∷ xs) zs
 quoted_by n xs zs true e l h = let k : n ≤ 1 = grind (arith, nat_tests) in absurd (omega arith)
 quoted_by n xs zs false e l h = (omega arith, λ _. refl)
 
@@ -114,7 +114,7 @@ slash_seen cs q ys zs h = h
 no_end_tail : (c : ℕ) (cs : List ℕ) → HasNoEnd (c ∷ cs) → HasNoEnd cs
 no_end_tail c cs h xs ys e = h (c ∷ xs) ys (ap (λ zs. c ∷ zs) e)
 
-no_slash : (cs zs : List ℕ) → HasNoEnd (42 ∷ cs) → begins 47 ((cs ++ 42 ∷ 47 ∷ []) ++ zs) ≡ false
+no_slash : (cs zs : List ℕ) → HasNoEnd (42 ∷ cs) → begins_with 47 ((cs ++ 42 ∷ 47 ∷ []) ++ zs) ≡ false
 no_slash [] zs h = refl
 no_slash (c ∷ cs) zs h = by (eqb c 47) refl
   where
@@ -130,12 +130,12 @@ more_reaches : (o : Option ℕ) (m : ℕ) → Reaches o m → Reaches (more o) (
 more_reaches None m h = h
 more_reaches (Some n) m h = omega arith
 
-end_star : (cs : List ℕ) (m : ℕ) (b : Bool) → begins 47 cs ≡ b → b ≡ false → Reaches (comment_run cs) m → Reaches (cond b (Some 2) (more (comment_run cs))) (suc m)
+end_star : (cs : List ℕ) (m : ℕ) (b : Bool) → begins_with 47 cs ≡ b → b ≡ false → Reaches (comment_run cs) m → Reaches (cond b (Some 2) (more (comment_run cs))) (suc m)
 end_star cs m true e f h = absurd cc
 end_star cs m false e f h = more_reaches (comment_run cs) m h
 
-end_by : (c : ℕ) (cs : List ℕ) (m : ℕ) (b : Bool) → eqb c 42 ≡ b → (c ≡ 42 → begins 47 cs ≡ false) → Reaches (comment_run cs) m → Reaches (cond b (cond (begins 47 cs) (Some 2) (more (comment_run cs))) (more (comment_run cs))) (suc m)
-end_by c cs m true e f h = let is : c ≡ 42 = grind (arith, nat_tests) in end_star cs m (begins 47 cs) refl (f is) h
+end_by : (c : ℕ) (cs : List ℕ) (m : ℕ) (b : Bool) → eqb c 42 ≡ b → (c ≡ 42 → begins_with 47 cs ≡ false) → Reaches (comment_run cs) m → Reaches (cond b (cond (begins_with 47 cs) (Some 2) (more (comment_run cs))) (more (comment_run cs))) (suc m)
+end_by c cs m true e f h = let is : c ≡ 42 = grind (arith, nat_tests) in end_star cs m (begins_with 47 cs) refl (f is) h
 end_by c cs m false e f h = more_reaches (comment_run cs) m h
 
 end_reaches : (cs zs : List ℕ) → HasNoEnd cs → Reaches (comment_run ((cs ++ 42 ∷ 47 ∷ []) ++ zs)) (length (cs ++ 42 ∷ 47 ∷ []))
@@ -154,17 +154,17 @@ slash_covers : (zs : List ℕ) → Covers (slash_at zs) (Token (kind.Symbol Slas
 slash_covers [] = (omega arith, λ _. refl)
 slash_covers (z ∷ zs) = by (eqb z 47) (eqb z 42) refl
   where
-    by : (b d : Bool) → eqb z 42 ≡ d → Covers (cond b (Some (Skip, suc (suc (run in_line zs)))) (cond d (comment_seen (comment_run zs)) (seen (kind.Symbol Slash) 1))) (Token (kind.Symbol Slash)) (47 ∷ []) (z ∷ zs)
+    by : (b d : Bool) → eqb z 42 ≡ d → Covers (cond b (Some (Skip, suc (suc (run_length in_line zs)))) (cond d (comment_seen (comment_run zs)) (scanned (kind.Symbol Slash) 1))) (Token (kind.Symbol Slash)) (47 ∷ []) (z ∷ zs)
     by true d e = (omega arith, λ k. absurd (omega arith))
     by false true e = slash_comment (comment_run zs) z zs e
     by false false e = (omega arith, λ _. refl)
 
 -- symbols
 two_covers : (s t : Symbol) (x c : ℕ) (zs : List ℕ) → Covers (symbol_seen (one_or_two s t x zs)) (Token (kind.Symbol s)) (c ∷ []) zs
-two_covers s t x c zs = elim (begins x zs) as (λ b. Covers (symbol_seen (cond b (Some (t, 2)) (Some (s, 1)))) (Token (kind.Symbol s)) (c ∷ []) zs) [ true ↦ (omega arith, λ e. absurd (omega arith)) | false ↦ (omega arith, λ _. refl) ]
+two_covers s t x c zs = elim (begins_with x zs) as (λ b. Covers (symbol_seen (cond b (Some (t, 2)) (Some (s, 1)))) (Token (kind.Symbol s)) (c ∷ []) zs) [ true ↦ (omega arith, λ e. absurd (omega arith)) | false ↦ (omega arith, λ _. refl) ]
 
 less_covers : (zs : List ℕ) → Covers (symbol_seen (less_at zs)) (Token (kind.Symbol Less)) (60 ∷ []) zs
-less_covers zs = by (begins 61 zs) (begins 62 zs)
+less_covers zs = by (begins_with 61 zs) (begins_with 62 zs)
   where
     by : (b d : Bool) → Covers (symbol_seen (cond b (Some (LessEqual, 2)) (cond d (Some (NotEqual, 2)) (Some (Less, 1))))) (Token (kind.Symbol Less)) (60 ∷ []) zs
     by true d = (omega arith, λ e. absurd (omega arith))
@@ -212,7 +212,7 @@ kind_by k xs n m us l f e = (l, λ h. ap (λ ys. Token (name_kind (word_at ys)))
 letter_covers : (c : ℕ) (cs zs : List ℕ) (k : TokenKind) → class_at c ≡ Letter → Every in_name cs → name_kind (word_at (c ∷ cs)) ≡ k → Covers (formula_at (c ∷ (cs ++ zs))) (Token k) (c ∷ cs) zs
 letter_covers c cs zs k e h f =
     at_class c (cs ++ zs) Letter (Token k) (c ∷ cs) zs e
-    (kind_by k (c ∷ cs) (suc (run in_name (cs ++ zs))) (suc (length cs)) (c ∷ (cs ++ zs)) (omega (arith, run_covers in_name cs zs h))
+    (kind_by k (c ∷ cs) (suc (run_length in_name (cs ++ zs))) (suc (length cs)) (c ∷ (cs ++ zs)) (omega (arith, run_covers in_name cs zs h))
     (λ g. ap (λ n. take n (c ∷ (cs ++ zs))) (sym g) ∙ ap (λ ys. c ∷ ys) (take_at cs zs (length cs) refl)) f)
 
 pub no_word : (xs : List ℕ) → ((w : Word) → xs ≢ word_spelling w) → name_kind (word_at xs) ≡ kind.Name

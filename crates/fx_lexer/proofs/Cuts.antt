@@ -10,8 +10,8 @@ use Rattle.fx_lexer.specs.declared.element.Element.TheVariants.{Token}
 use Rattle.fx_lexer.specs.declared.element.Enclosing.{Enclosing}
 use Rattle.fx_lexer.specs.declared.element.Mode.{Mode}
 use Rattle.fx_lexer.specs.Spelling.{Spelt}
-use Rattle.fx_lexer.specs.Lexed.{width, Lexeme, token_of, mode_in, Reads, stop, skip, token, HasLexemes, Lexed}
-use Rattle.fx_lexer.specs.Slices.{text_in, lexemes, IsSlice, AreSlicesFrom, AreSlices}
+use Rattle.fx_lexer.specs.Lexed.{width, Lexeme, token_of, mode_in, LexesTo, stop, skip, token, HasLexemes, Lexed}
+use Rattle.fx_lexer.specs.Slices.{slice_chars, lexemes, IsSlice, AreSlicesFrom, AreSlices}
 use Rattle.fx_lexer.proofs.Steps.{width-is}
 use Rattle.fx_lexer.proofs.Judge.{spelt_long}
 use Rattle.fx_lexer.proofs.Texts.{scalars_split}
@@ -38,7 +38,7 @@ further_on : (source before : List ℕ) (xs cs : List ℕ) → source ≡ before
 further_on source before xs cs e = rw append_assoc (further source before xs cs e)
 
 one_cut : (source before : List ℕ) (mode : Mode) (k : TokenKind) (at : ℕ) (xs cs : List ℕ) → source ≡ before ++ encode_utf8_all (xs ++ cs) → at ≡ length before → all_scalars (xs ++ cs) ≡ true → Spelt mode (Token k) xs
-    → IsSlice source (record { kind = k; at = at; upto = at + width xs }) × (text_in source (record { kind = k; at = at; upto = at + width xs }) ≡ xs)
+    → IsSlice source (record { kind = k; at = at; upto = at + width xs }) × (slice_chars source (record { kind = k; at = at; upto = at + width xs }) ≡ xs)
 one_cut source before mode k at xs cs e f s p =
     let E : List ℕ → List ℕ = encode_utf8_all in
     let h = scalars_split xs cs s in
@@ -46,7 +46,7 @@ one_cut source before mode k at xs cs e f s p =
     let l = length-append before (E xs) in
     let long = spelt_long mode (Token k) xs p in
     let bytes = length-le-encodes xs in
-    let t : text_in source (record { kind = k; at = at; upto = at + width xs }) ≡ xs = ap chars (slice_at source before (E xs) (E cs) at (width xs) (further source before xs cs e) f w) ∙ chars-encodes xs h.0 in
+    let t : slice_chars source (record { kind = k; at = at; upto = at + width xs }) ≡ xs = ap chars (slice_at source before (E xs) (E cs) at (width xs) (further source before xs cs e) f w) ∙ chars-encodes xs h.0 in
     let u : length (before ++ E xs) ≡ at + width xs = omega arith in (
       record {
         begins = subst (IsCharBoundary source) (sym f) (IsCharBoundary-at_seam source before (E (xs ++ cs)) e (xs ++ cs, (s, refl)));
@@ -57,7 +57,7 @@ one_cut source before mode k at xs cs e f s p =
       t,
     )
 
-reads_cuts : {es : List Enclosing} {at : ℕ} {cs : List ℕ} {ls : List Lexeme} {fs : List Enclosing} {end : ℕ} {rest : List ℕ} → Reads es at cs ls fs end rest
+reads_cuts : {es : List Enclosing} {at : ℕ} {cs : List ℕ} {ls : List Lexeme} {fs : List Enclosing} {end : ℕ} {rest : List ℕ} → LexesTo es at cs ls fs end rest
     → (source before : List ℕ) → source ≡ before ++ encode_utf8_all cs → at ≡ length before → all_scalars cs ≡ true → AreCuts source at ls
 reads_cuts (stop es at cs) source before e f s = record { slices = tt; texts = refl }
 reads_cuts (skip es at xs cs ls fs end rest p r) source before e f s =

@@ -13,25 +13,25 @@ use Rattle.fx_lexer.specs.declared.element.Class.TheVariants.{White, Digit, Lett
 use Rattle.fx_lexer.specs.declared.element.Element.TheVariants.{Skip, Token}
 use Rattle.fx_lexer.specs.declared.element.Mode.{Mode}
 use Rattle.fx_lexer.specs.declared.element.Mode.TheVariants.{Formula, Weave}
-use Rattle.fx_lexer.specs.Spelling.{class_at, goes_on_number, in_name, in_number, in_line, is_quote, is_mark, Every, doubled, HasNoEnd, word_spelling, symbol_spelling, Spelt, white, line_comment, block_comment, number, text, name, quoted_name, word, symbol, opening, closing, piece, island, begins, IsClosed}
-use Rattle.fx_lexer.specs.Scan.{Seen, seen, run, point_run, decimals, number_run, more, open_run, closed_run, comment_run, weave_run, mark_run, word_at, symbol_at, symbol_seen, text_seen, quoted_seen, comment_seen, slash_at, other_at, name_kind, name_at, by_class, formula_at, mark_at, weave_by, element_at}
+use Rattle.fx_lexer.specs.Spelling.{class_at, goes_on_number, in_name, in_number, in_line, is_quote, is_mark, Every, doubled, HasNoEnd, word_spelling, symbol_spelling, Spelt, white, line_comment, block_comment, number, text, name, quoted_name, word, symbol, opening, closing, piece, island, begins_with, IsClosed}
+use Rattle.fx_lexer.specs.Scan.{ScannedElement, scanned, run_length, point_run, decimals, number_run, more, open_run, closed_run, comment_run, weave_run, mark_run, word_at, symbol_at, symbol_seen, text_seen, quoted_seen, comment_seen, slash_at, other_at, name_kind, name_scanned, by_class, formula_at, mark_scanned, weave_by, element_at}
 use Rattle.fx_lexer.proofs.Digits.{all_digits}
 
 -- what a scan found
-abbrev pub Found : Mode → Seen → List ℕ → Type 0
+abbrev pub Found : Mode → ScannedElement → List ℕ → Type 0
 Found mode None cs = Unit {0}
 Found mode (Some r) cs = (r.1 ≤ length cs) × Spelt mode r.0 (take r.1 cs) × IsClosed r.0 (take r.1 cs) (drop r.1 cs)
 
 -- runs
-pub run_le : (p : ℕ → Bool) (cs : List ℕ) → run p cs ≤ length cs
+pub run_le : (p : ℕ → Bool) (cs : List ℕ) → run_length p cs ≤ length cs
 run_le p [] = omega arith
-run_le p (c ∷ cs) = elim (p c) as (λ b. cond b (suc (run p cs)) 0 ≤ suc (length cs)) [ true ↦ omega (arith, run_le p cs) | false ↦ omega arith ]
+run_le p (c ∷ cs) = elim (p c) as (λ b. cond b (suc (run_length p cs)) 0 ≤ suc (length cs)) [ true ↦ omega (arith, run_le p cs) | false ↦ omega arith ]
 
-run_every_by : (p : ℕ → Bool) (c : ℕ) (cs : List ℕ) (b : Bool) → p c ≡ b → Every p (take (run p cs) cs) → Every p (take (cond b (suc (run p cs)) 0) (c ∷ cs))
+run_every_by : (p : ℕ → Bool) (c : ℕ) (cs : List ℕ) (b : Bool) → p c ≡ b → Every p (take (run_length p cs) cs) → Every p (take (cond b (suc (run_length p cs)) 0) (c ∷ cs))
 run_every_by p c cs true e h = (e, h)
 run_every_by p c cs false e h = tt
 
-run_every : (p : ℕ → Bool) (cs : List ℕ) → Every p (take (run p cs) cs)
+run_every : (p : ℕ → Bool) (cs : List ℕ) → Every p (take (run_length p cs) cs)
 run_every p [] = tt
 run_every p (c ∷ cs) = run_every_by p c cs (p c) refl (run_every p cs)
 
@@ -44,8 +44,8 @@ point_tail zero cs h e = (omega arith, ([], [], tt, tt, refl))
 point_tail (suc n) [] h e = absurd (omega arith)
 point_tail (suc n) (c ∷ cs) h e = (omega arith, ([], c ∷ take n cs, tt, e, refl))
 
-decimals_by : (c : ℕ) (cs : List ℕ) (b : Bool) → eqb c 46 ≡ b → (cond b (point_run (run in_number cs)) 0 ≤ suc (length cs)) × DecimalTail (take (cond b (point_run (run in_number cs)) 0) (c ∷ cs))
-decimals_by c cs true e = let is : c ≡ 46 = grind (arith, nat_tests) in rw is (point_tail (run in_number cs) cs (run_le in_number cs) (run_every in_number cs))
+decimals_by : (c : ℕ) (cs : List ℕ) (b : Bool) → eqb c 46 ≡ b → (cond b (point_run (run_length in_number cs)) 0 ≤ suc (length cs)) × DecimalTail (take (cond b (point_run (run_length in_number cs)) 0) (c ∷ cs))
+decimals_by c cs true e = let is : c ≡ 46 = grind (arith, nat_tests) in rw is (point_tail (run_length in_number cs) cs (run_le in_number cs) (run_every in_number cs))
 decimals_by c cs false e = (omega arith, ([], [], tt, tt, refl))
 
 tail_more : (c : ℕ) (xs : List ℕ) → in_number c ≡ true → DecimalTail xs → DecimalTail (c ∷ xs)
@@ -76,11 +76,11 @@ Closes q xs = (w : List ℕ) × (xs ≡ doubled (is_quote q) w ++ q ∷ [])
 
 abbrev OpenFound : ℕ → Option ℕ → List ℕ → Type 0
 OpenFound q None cs = Unit {0}
-OpenFound q (Some n) cs = (n ≤ length cs) × Closes q (take n cs) × (begins q (drop n cs) ≡ false)
+OpenFound q (Some n) cs = (n ≤ length cs) × Closes q (take n cs) × (begins_with q (drop n cs) ≡ false)
 
 abbrev ClosedFound : ℕ → Option ℕ → List ℕ → Type 0
 ClosedFound q None cs = Unit {0}
-ClosedFound q (Some n) cs = (n ≤ length cs) × Closes q (q ∷ take n cs) × (begins q (drop n cs) ≡ false)
+ClosedFound q (Some n) cs = (n ≤ length cs) × Closes q (q ∷ take n cs) × (begins_with q (drop n cs) ≡ false)
 
 open_quote : (q : ℕ) (cs : List ℕ) (o : Option ℕ) → ClosedFound q o cs → OpenFound q (more o) (q ∷ cs)
 open_quote q cs None h = tt
@@ -119,7 +119,7 @@ quoted_spelt : (n : ℕ) (xs w : List ℕ) → length xs ≡ n → 1 < n → xs 
 quoted_spelt n xs [] l h e = let k = ap length e in absurd (omega arith)
 quoted_spelt n xs (c ∷ w) l h e = subst (λ ys. Spelt Formula (Token kind.Name) (39 ∷ ys)) (sym e) (quoted_name c w)
 
-quoted_by : (n : ℕ) (cs : List ℕ) (b : Bool) → leb n 1 ≡ b → OpenFound 39 (Some n) cs → Found Formula (cond b None (seen kind.Name (suc n))) (39 ∷ cs)
+quoted_by : (n : ℕ) (cs : List ℕ) (b : Bool) → leb n 1 ≡ b → OpenFound 39 (Some n) cs → Found Formula (cond b None (scanned kind.Name (suc n))) (39 ∷ cs)
 quoted_by n cs true e h = tt
 quoted_by n cs false e h = let k : 1 < n = grind (arith, nat_tests) in (omega arith, quoted_spelt n (take n cs) h.1.0 (length-take-le n cs h.0) k h.1.1, λ _. h.2)
 
@@ -136,36 +136,36 @@ no_end_nil : HasNoEnd []
 no_end_nil [] ys e = cc
 no_end_nil (x ∷ xs) ys e = cc
 
-no_end_more : (c : ℕ) (w : List ℕ) → (c ≡ 42 → begins 47 w ≡ false) → HasNoEnd w → HasNoEnd (c ∷ w)
-no_end_more c w f h [] ys e = let g : c ≡ 42 = cc in let k : w ≡ 47 ∷ ys = cc in let m : true ≡ false = sym (ap (begins 47) k) ∙ f g in cc
+no_end_more : (c : ℕ) (w : List ℕ) → (c ≡ 42 → begins_with 47 w ≡ false) → HasNoEnd w → HasNoEnd (c ∷ w)
+no_end_more c w f h [] ys e = let g : c ≡ 42 = cc in let k : w ≡ 47 ∷ ys = cc in let m : true ≡ false = sym (ap (begins_with 47) k) ∙ f g in cc
 no_end_more c w f h (x ∷ xs) ys e = let k : w ≡ xs ++ 42 ∷ 47 ∷ ys = cc in h xs ys k
 
-begins_same : (w xs ys : List ℕ) → ys ≡ w ++ 42 ∷ 47 ∷ [] → begins 47 ys ≡ false → begins 47 w ≡ false
+begins_same : (w xs ys : List ℕ) → ys ≡ w ++ 42 ∷ 47 ∷ [] → begins_with 47 ys ≡ false → begins_with 47 w ≡ false
 begins_same [] xs ys e h = refl
-begins_same (c ∷ w) xs ys e h = sym (ap (begins 47) e) ∙ h
+begins_same (c ∷ w) xs ys e h = sym (ap (begins_with 47) e) ∙ h
 
-begins_take : (n : ℕ) (cs : List ℕ) → begins 47 cs ≡ false → begins 47 (take n cs) ≡ false
+begins_take : (n : ℕ) (cs : List ℕ) → begins_with 47 cs ≡ false → begins_with 47 (take n cs) ≡ false
 begins_take zero cs h = refl
 begins_take (suc n) [] h = refl
 begins_take (suc n) (c ∷ cs) h = h
 
-end_more : (c : ℕ) (cs : List ℕ) (o : Option ℕ) → (c ≡ 42 → begins 47 cs ≡ false) → EndFound o cs → EndFound (more o) (c ∷ cs)
+end_more : (c : ℕ) (cs : List ℕ) (o : Option ℕ) → (c ≡ 42 → begins_with 47 cs ≡ false) → EndFound o cs → EndFound (more o) (c ∷ cs)
 end_more c cs None f h = tt
 end_more c cs (Some n) f h = (
   omega arith,
   (c ∷ h.1.0, no_end_more c h.1.0 (λ e. begins_same h.1.0 [] (take n cs) h.1.2 (begins_take n cs (f e))) h.1.1, ap (λ ys. c ∷ ys) h.1.2),
 )
 
-slash_ends : (cs : List ℕ) → begins 47 cs ≡ true → EndFound (Some 2) (42 ∷ cs)
+slash_ends : (cs : List ℕ) → begins_with 47 cs ≡ true → EndFound (Some 2) (42 ∷ cs)
 slash_ends [] e = absurd cc
 slash_ends (c ∷ cs) e = let is : c ≡ 47 = grind (arith, nat_tests) in rw is (omega arith, ([], no_end_nil, refl))
 
-end_star : (cs : List ℕ) (b : Bool) → begins 47 cs ≡ b → EndFound (comment_run cs) cs → EndFound (cond b (Some 2) (more (comment_run cs))) (42 ∷ cs)
+end_star : (cs : List ℕ) (b : Bool) → begins_with 47 cs ≡ b → EndFound (comment_run cs) cs → EndFound (cond b (Some 2) (more (comment_run cs))) (42 ∷ cs)
 end_star cs true e h = slash_ends cs e
 end_star cs false e h = end_more 42 cs (comment_run cs) (λ _. e) h
 
-end_by : (c : ℕ) (cs : List ℕ) (b : Bool) → eqb c 42 ≡ b → EndFound (comment_run cs) cs → EndFound (cond b (cond (begins 47 cs) (Some 2) (more (comment_run cs))) (more (comment_run cs))) (c ∷ cs)
-end_by c cs true e h = let is : c ≡ 42 = grind (arith, nat_tests) in rw is (end_star cs (begins 47 cs) refl h)
+end_by : (c : ℕ) (cs : List ℕ) (b : Bool) → eqb c 42 ≡ b → EndFound (comment_run cs) cs → EndFound (cond b (cond (begins_with 47 cs) (Some 2) (more (comment_run cs))) (more (comment_run cs))) (c ∷ cs)
+end_by c cs true e h = let is : c ≡ 42 = grind (arith, nat_tests) in rw is (end_star cs (begins_with 47 cs) refl h)
 end_by c cs false e h = end_more c cs (comment_run cs) (λ f. let k : true ≡ false = sym (ap (λ x. eqb x 42) f) ∙ e in absurd cc) h
 
 end_found : (cs : List ℕ) → EndFound (comment_run cs) cs
@@ -176,7 +176,7 @@ comment_found : (o : Option ℕ) (cs : List ℕ) → EndFound o cs → Found For
 comment_found None cs h = tt
 comment_found (Some n) cs h = (omega arith, subst (λ xs. Spelt Formula Skip (47 ∷ 42 ∷ xs)) (sym h.1.2) (block_comment h.1.0 h.1.1), tt)
 
-slash_by : (c : ℕ) (cs : List ℕ) (b d : Bool) → eqb c 47 ≡ b → eqb c 42 ≡ d → Found Formula (cond b (Some (Skip, suc (suc (run in_line cs)))) (cond d (comment_seen (comment_run cs)) (seen (kind.Symbol Slash) 1))) (47 ∷ c ∷ cs)
+slash_by : (c : ℕ) (cs : List ℕ) (b d : Bool) → eqb c 47 ≡ b → eqb c 42 ≡ d → Found Formula (cond b (Some (Skip, suc (suc (run_length in_line cs)))) (cond d (comment_seen (comment_run cs)) (scanned (kind.Symbol Slash) 1))) (47 ∷ c ∷ cs)
 slash_by c cs true d e f = let is : c ≡ 47 = grind (arith, nat_tests) in rw is (omega (arith, run_le in_line cs), line_comment _ (run_every in_line cs), tt)
 slash_by c cs false true e f = let is : c ≡ 42 = grind (arith, nat_tests) in rw is (comment_found (comment_run cs) cs (end_found cs))
 slash_by c cs false false e f = (omega arith, symbol Slash, f)
@@ -200,7 +200,7 @@ choose x c cs s r hs hr = by (eqb c x) refl
 one : (x : ℕ) (cs : List ℕ) (s : Symbol) → symbol_spelling s ≡ x ∷ [] → ((xs rest : List ℕ) → IsClosed (Token (kind.Symbol s)) xs rest) → SymbolFound (Some (s, 1)) (x ∷ cs)
 one x cs s e h = (omega arith, sym e, h)
 
-two : (x y : ℕ) (cs : List ℕ) (s : Symbol) (o : Option (Symbol × ℕ)) → symbol_spelling s ≡ x ∷ y ∷ [] → ((xs rest : List ℕ) → IsClosed (Token (kind.Symbol s)) xs rest) → SymbolFound o (x ∷ cs) → SymbolFound (cond (begins y cs) (Some (s, 2)) o) (x ∷ cs)
+two : (x y : ℕ) (cs : List ℕ) (s : Symbol) (o : Option (Symbol × ℕ)) → symbol_spelling s ≡ x ∷ y ∷ [] → ((xs rest : List ℕ) → IsClosed (Token (kind.Symbol s)) xs rest) → SymbolFound o (x ∷ cs) → SymbolFound (cond (begins_with y cs) (Some (s, 2)) o) (x ∷ cs)
 two x y [] s o e h k = k
 two x y (c ∷ cs) s o e h k = by (eqb c y) refl
   where
@@ -238,15 +238,15 @@ symbol_seen_found None cs h = tt
 symbol_seen_found (Some r) cs h = (h.0, subst (λ xs. Spelt Formula (Token (kind.Symbol r.0)) xs) (sym h.1) (symbol r.0), h.2 _ _)
 
 -- weave openings
-dollar_found : (cs : List ℕ) → Found Formula (cond (begins 34 cs) (seen kind.Opening 2) None) (36 ∷ cs)
+dollar_found : (cs : List ℕ) → Found Formula (cond (begins_with 34 cs) (scanned kind.Opening 2) None) (36 ∷ cs)
 dollar_found [] = tt
 dollar_found (c ∷ cs) = by (eqb c 34) refl
   where
-    by : (b : Bool) → eqb c 34 ≡ b → Found Formula (cond b (seen kind.Opening 2) None) (36 ∷ c ∷ cs)
+    by : (b : Bool) → eqb c 34 ≡ b → Found Formula (cond b (scanned kind.Opening 2) None) (36 ∷ c ∷ cs)
     by true e = let is : c ≡ 34 = grind (arith, nat_tests) in rw is (omega arith, opening, tt)
     by false e = tt
 
-choose_other : (x c : ℕ) (cs : List ℕ) (s r : Seen) → Found Formula s (x ∷ cs) → Found Formula r (c ∷ cs) → Found Formula (cond (eqb c x) s r) (c ∷ cs)
+choose_other : (x c : ℕ) (cs : List ℕ) (s r : ScannedElement) → Found Formula s (x ∷ cs) → Found Formula r (c ∷ cs) → Found Formula (cond (eqb c x) s r) (c ∷ cs)
 choose_other x c cs s r hs hr = by (eqb c x) refl
   where
     by : (b : Bool) → eqb c x ≡ b → Found Formula (cond b s r) (c ∷ cs)
@@ -318,12 +318,12 @@ letter_no_quote : (c : ℕ) → class_at c ≡ Letter → eqb c 39 ≡ true → 
 unfolding class_at
 letter_no_quote c e f = let is : c ≡ 39 = grind (arith, nat_tests) in let g : Other ≡ Letter = sym (ap class_at is) ∙ e in absurd cc
 
-name_by : (c : ℕ) (cs : List ℕ) (n : ℕ) (o : Option Word) → class_at c ≡ Letter → n ≤ length cs → Every in_name (take n cs) → IsKindOf o (c ∷ take n cs) → Found Formula (seen (name_kind o) (suc n)) (c ∷ cs)
+name_by : (c : ℕ) (cs : List ℕ) (n : ℕ) (o : Option Word) → class_at c ≡ Letter → n ≤ length cs → Every in_name (take n cs) → IsKindOf o (c ∷ take n cs) → Found Formula (scanned (name_kind o) (suc n)) (c ∷ cs)
 name_by c cs n None e l h k = (omega arith, name c (take n cs) e h k, λ f. absurd (letter_no_quote c e f))
 name_by c cs n (Some w) e l h k = (omega arith, subst (λ xs. Spelt Formula (Token (kind.Word w)) xs) (sym k) (word w), tt)
 
-name_found : (c : ℕ) (cs : List ℕ) → class_at c ≡ Letter → Found Formula (name_at (c ∷ cs) (suc (run in_name cs))) (c ∷ cs)
-name_found c cs e = name_by c cs (run in_name cs) (word_at (c ∷ take (run in_name cs) cs)) e (run_le in_name cs) (run_every in_name cs) (kind_of (c ∷ take (run in_name cs) cs))
+name_found : (c : ℕ) (cs : List ℕ) → class_at c ≡ Letter → Found Formula (name_scanned (c ∷ cs) (suc (run_length in_name cs))) (c ∷ cs)
+name_found c cs e = name_by c cs (run_length in_name cs) (word_at (c ∷ take (run_length in_name cs) cs)) e (run_le in_name cs) (run_every in_name cs) (kind_of (c ∷ take (run_length in_name cs) cs))
 
 found_by : (k : Class) (c : ℕ) (cs : List ℕ) → class_at c ≡ k → Found Formula (by_class k c cs) (c ∷ cs)
 found_by White c cs e = (omega arith, white c e, tt)
@@ -356,11 +356,11 @@ mutual
   mark_found m [] h = (omega arith, ([], refl))
   mark_found m (c ∷ cs) h = mark_by m c cs (eqb c m) h refl (weave_found cs)
 
-mark_at_found : (cs : List ℕ) → Found Weave (mark_at cs) cs
+mark_at_found : (cs : List ℕ) → Found Weave (mark_scanned cs) cs
 mark_at_found [] = tt
 mark_at_found (c ∷ cs) = by (eqb c 34) (eqb c 123) refl refl
   where
-    by : (b d : Bool) → eqb c 34 ≡ b → eqb c 123 ≡ d → Found Weave (cond b (seen kind.Closing 1) (cond d (seen (kind.Symbol OpenBrace) 1) None)) (c ∷ cs)
+    by : (b d : Bool) → eqb c 34 ≡ b → eqb c 123 ≡ d → Found Weave (cond b (scanned kind.Closing 1) (cond d (scanned (kind.Symbol OpenBrace) 1) None)) (c ∷ cs)
     by true d e f = let is : c ≡ 34 = grind (arith, nat_tests) in rw is (omega arith, closing, tt)
     by false true e f = let is : c ≡ 123 = grind (arith, nat_tests) in rw is (omega arith, island, tt)
     by false false e f = tt

@@ -10,10 +10,10 @@ use Rattle.fx_lexer.specs.declared.token.TokenKind.TheVariants as kind
 use Rattle.fx_lexer.specs.declared.element.Element.{Element}
 use Rattle.fx_lexer.specs.declared.element.Element.TheVariants.{Token}
 use Rattle.fx_lexer.specs.declared.element.Mode.{Mode}
-use Rattle.fx_lexer.specs.Spelling.{is_mark, doubled, word_spelling, symbol_spelling, Spelt, white, line_comment, block_comment, number, text, name, quoted_name, word, symbol, opening, closing, piece, island, HasValue, IsElement, NoElement}
-use Rattle.fx_lexer.specs.Scan.{Seen, element_at}
+use Rattle.fx_lexer.specs.Spelling.{is_mark, doubled, word_spelling, symbol_spelling, Spelt, white, line_comment, block_comment, number, text, name, quoted_name, word, symbol, opening, closing, piece, island, SpellsNumber, IsElement, NoElement}
+use Rattle.fx_lexer.specs.Scan.{ScannedElement, element_at}
 use Rattle.fx_lexer.specs.Lexed.{width}
-use Rattle.fx_lexer.specs.Next.{IsFront}
+use Rattle.fx_lexer.specs.Next.{IsFirstElement}
 use Rattle.fx_lexer.proofs.Found.{Found, found}
 use Rattle.fx_lexer.proofs.Covers.{Covers, covers, piece_long}
 
@@ -81,8 +81,8 @@ found_at mode cs e n h = subst (λ o. Found mode o cs) h (found mode cs)
 pub found_within : (mode : Mode) (cs : List ℕ) (e : Element) (n : ℕ) → element_at mode cs ≡ Some (e, n) → n ≤ length cs
 found_within mode cs e n h = (found_at mode cs e n h).0
 
-covers_at : (mode : Mode) (cs : List ℕ) (o : Seen) (q : Element) (ys zs : List ℕ) → element_at mode cs ≡ o → cs ≡ ys ++ zs → Spelt mode q ys → Covers o q ys zs
-covers_at mode cs o q ys zs e f s = let P : Seen → Type 0 = λ o. Covers o q ys zs in subst P (ap (element_at mode) (sym f) ∙ e) (covers mode q ys zs s)
+covers_at : (mode : Mode) (cs : List ℕ) (o : ScannedElement) (q : Element) (ys zs : List ℕ) → element_at mode cs ≡ o → cs ≡ ys ++ zs → Spelt mode q ys → Covers o q ys zs
+covers_at mode cs o q ys zs e f s = let P : ScannedElement → Type 0 = λ o. Covers o q ys zs in subst P (ap (element_at mode) (sym f) ∙ e) (covers mode q ys zs s)
 
 longest_at : (mode : Mode) (cs : List ℕ) (e : Element) (n : ℕ) → element_at mode cs ≡ Some (e, n) → (q : Element) (ys zs : List ℕ) → take n cs ++ drop n cs ≡ ys ++ zs → Spelt mode q ys → length ys ≤ length (take n cs)
 longest_at mode cs e n h q ys zs f s =
@@ -90,7 +90,7 @@ longest_at mode cs e n h q ys zs f s =
     let l = length-take-le n cs (found_within mode cs e n h) in
     subst (λ m. length ys ≤ m) (sym l) (c.0)
 
-pub element_found : (mode : Mode) (cs : List ℕ) (e : Element) (n : ℕ) → element_at mode cs ≡ Some (e, n) → HasValue e (take n cs) → IsElement mode e (take n cs) (drop n cs)
+pub element_found : (mode : Mode) (cs : List ℕ) (e : Element) (n : ℕ) → element_at mode cs ≡ Some (e, n) → SpellsNumber e (take n cs) → IsElement mode e (take n cs) (drop n cs)
 element_found mode cs e n h r = let f = found_at mode cs e n h in record { spelt = f.1; longest = longest_at mode cs e n h; closed = f.2; has_value = r }
 
 pub none_found : (mode : Mode) (cs : List ℕ) → element_at mode cs ≡ None → NoElement mode cs
@@ -100,7 +100,7 @@ none_found mode cs h q ys zs f k = covers_at mode cs None q ys zs h f k.spelt k.
 pub element_is : (mode : Mode) (p : Element) (xs rest : List ℕ) → IsElement mode p xs rest → element_at mode (xs ++ rest) ≡ Some (p, length xs)
 element_is mode p xs rest h = by (element_at mode (xs ++ rest)) refl (found mode (xs ++ rest)) (covers mode p xs rest h.spelt)
   where
-    by : (o : Seen) → element_at mode (xs ++ rest) ≡ o → Found mode o (xs ++ rest) → Covers o p xs rest → element_at mode (xs ++ rest) ≡ Some (p, length xs)
+    by : (o : ScannedElement) → element_at mode (xs ++ rest) ≡ o → Found mode o (xs ++ rest) → Covers o p xs rest → element_at mode (xs ++ rest) ≡ Some (p, length xs)
     by None e f c = absurd (c h.closed)
     by (Some r) e f c =
         let most : r.1 ≤ length xs = omega (arith, h.longest r.0 (take r.1 (xs ++ rest)) (drop r.1 (xs ++ rest)) (sym (take-append-drop r.1 (xs ++ rest))) f.1, length-take-le r.1 (xs ++ rest) f.0) in
@@ -114,7 +114,7 @@ pub one_element : (mode mode' : Mode) (p q : Element) (xs rest ys zs : List ℕ)
 one_element mode mode' p q xs rest ys zs f g m e =
     let a = element_is mode p xs rest f in
     let b = element_is mode' q ys zs g in
-    let d : ◌≡◌ {A = Seen} (Some (p, length xs)) (Some (q, length ys)) = sym a ∙ (λ i. element_at (m i) (e i)) ∙ b in
+    let d : ◌≡◌ {A = ScannedElement} (Some (p, length xs)) (Some (q, length ys)) = sym a ∙ (λ i. element_at (m i) (e i)) ∙ b in
     let r : ◌≡◌ {A = Element × ℕ} (p, length xs) (q, length ys) = cc in
     let k : p ≡ q = ap (λ (z : Element × ℕ). z.0) r in
     let n : length xs ≡ length ys = ap (λ (z : Element × ℕ). z.1) r in (
@@ -124,15 +124,15 @@ one_element mode mode' p q xs rest ys zs f g m e =
     )
 
 -- where the number found is out of range, there is no element
-pub out_of_range : (mode : Mode) (cs : List ℕ) (e : Element) (n : ℕ) → element_at mode cs ≡ Some (e, n) → (HasValue e (take n cs) → ⊥) → NoElement mode cs
+pub out_of_range : (mode : Mode) (cs : List ℕ) (e : Element) (n : ℕ) → element_at mode cs ≡ Some (e, n) → (SpellsNumber e (take n cs) → ⊥) → NoElement mode cs
 out_of_range mode cs e n h r q ys zs f k =
     let a = element_is mode q ys zs k in
-    let d : ◌≡◌ {A = Seen} (Some (q, length ys)) (Some (e, n)) = sym a ∙ ap (element_at mode) (sym f) ∙ h in
+    let d : ◌≡◌ {A = ScannedElement} (Some (q, length ys)) (Some (e, n)) = sym a ∙ ap (element_at mode) (sym f) ∙ h in
     let g : ◌≡◌ {A = Element × ℕ} (q, length ys) (e, n) = cc in
     let i : q ≡ e = ap (λ (z : Element × ℕ). z.0) g in
     let m : length ys ≡ n = ap (λ (z : Element × ℕ). z.1) g in
     let t : ys ≡ take n cs = sym (take_at ys zs (length ys) refl) ∙ (λ j. take (m j) (sym f j)) in
-    r (subst (λ x. HasValue x (take n cs)) i (subst (HasValue q) t k.has_value))
+    r (subst (λ x. SpellsNumber x (take n cs)) i (subst (SpellsNumber q) t k.has_value))
 
 pub no_element_nil : (mode : Mode) → NoElement mode []
 no_element_nil mode q ys zs e k = let n = spelt_long mode q ys k.spelt in let m = ap length e in absurd (omega (arith, length-append ys zs))
@@ -157,7 +157,7 @@ decimal_found mode e xs closing = tt
 decimal_found mode e xs (piece c cs) = tt
 decimal_found mode e xs island = tt
 
-pub front : (mode : Mode) (cs : List ℕ) (e : Element) (n b : ℕ) → element_at mode cs ≡ Some (e, n) → HasValue e (take n cs) → b ≡ width (take n cs) → IsFront mode cs (record { element = e; characters = n; bytes = b })
+pub front : (mode : Mode) (cs : List ℕ) (e : Element) (n b : ℕ) → element_at mode cs ≡ Some (e, n) → SpellsNumber e (take n cs) → b ≡ width (take n cs) → IsFirstElement mode cs (record { element = e; characters = n; bytes = b })
 front mode cs e n b h r w =
     let f = found_at mode cs e n h in
     let l = length-take-le n cs f.0 in

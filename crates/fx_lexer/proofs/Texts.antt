@@ -10,7 +10,7 @@ use Rattle.fx_number.specs.Spelling.{IsDecimal, point_and}
 use Rattle.fx_lexer.specs.declared.token.TokenKind.TheVariants as kind
 use Rattle.fx_lexer.specs.declared.element.Element.{Element}
 use Rattle.fx_lexer.specs.declared.element.Element.TheVariants.{Skip, Token}
-use Rattle.fx_lexer.specs.Spelling.{HasValue}
+use Rattle.fx_lexer.specs.Spelling.{SpellsNumber}
 use Rattle.fx_lexer.specs.Lexed.{width}
 use Rattle.fx_lexer.proofs.Steps.{width-is}
 use Rattle.fx_lexer.proofs.Digits.{digit_range}
@@ -72,11 +72,11 @@ pub decimal_bytes : (xs ds es : List ℕ) → IsDecimal xs ds es → encode_utf8
 decimal_bytes xs ds es h = low_bytes xs (subst Low (sym h.is_text) (low_append ds (point_and es) (low_digits ds h.has_whole.1) (low_fraction es h.has_fraction)))
 
 pub record BytesFit (e : Element) (xs bs : List ℕ) : Type 0 where
-  pub there : HasValue e bs → HasValue e xs
-  pub back : HasValue e xs → HasValue e bs
+  pub there : SpellsNumber e bs → SpellsNumber e xs
+  pub back : SpellsNumber e xs → SpellsNumber e bs
 
 same_bytes : (xs bs : List ℕ) → bs ≡ xs → BytesFit (Token kind.Number) xs bs
-same_bytes xs bs e = record { there = subst (HasValue (Token kind.Number)) e; back = subst (HasValue (Token kind.Number)) (sym e) }
+same_bytes xs bs e = record { there = subst (SpellsNumber (Token kind.Number)) e; back = subst (SpellsNumber (Token kind.Number)) (sym e) }
 
 pub bytes_fit : (e : Element) (xs bs : List ℕ) → bs ≡ encode_utf8_all xs → IsDecimalIfNumber e xs → BytesFit e xs bs
 bytes_fit Skip xs bs f h = record { there = λ _. tt; back = λ _. tt }

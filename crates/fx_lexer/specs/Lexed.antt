@@ -42,25 +42,25 @@ outside [] = []
 outside (e ∷ es) = es
 
 -- What encloses the place after a token: an opening mark encloses what follows, a closing one ends the innermost.
-abbrev pub after : TokenKind → List Enclosing → List Enclosing
-after kind.Opening es = around.Weave ∷ es
-after (kind.Symbol OpenBrace) es = around.Brace ∷ es
-after kind.Closing es = outside es
-after (kind.Symbol CloseBrace) es = outside es
-after k es = es
+abbrev pub enclosing_after : TokenKind → List Enclosing → List Enclosing
+enclosing_after kind.Opening es = around.Weave ∷ es
+enclosing_after (kind.Symbol OpenBrace) es = around.Brace ∷ es
+enclosing_after kind.Closing es = outside es
+enclosing_after (kind.Symbol CloseBrace) es = outside es
+enclosing_after k es = es
 
 -- From the byte `at`, where the characters cs stand in es, these tokens are read, up to the byte `end`, where rest stands in fs.
-pub data Reads : List Enclosing → ℕ → List ℕ → List Lexeme → List Enclosing → ℕ → List ℕ → Type 0 where
-  stop : (es : List Enclosing) (at : ℕ) (cs : List ℕ) → Reads es at cs [] es at cs
+pub data LexesTo : List Enclosing → ℕ → List ℕ → List Lexeme → List Enclosing → ℕ → List ℕ → Type 0 where
+  stop : (es : List Enclosing) (at : ℕ) (cs : List ℕ) → LexesTo es at cs [] es at cs
   skip : (es : List Enclosing) (at : ℕ) (xs cs : List ℕ) (ls : List Lexeme) (fs : List Enclosing) (end : ℕ) (rest : List ℕ)
-      → IsElement (mode_in es) Skip xs cs → Reads es (at + width xs) cs ls fs end rest → Reads es at (xs ++ cs) ls fs end rest
+      → IsElement (mode_in es) Skip xs cs → LexesTo es (at + width xs) cs ls fs end rest → LexesTo es at (xs ++ cs) ls fs end rest
   token : (es : List Enclosing) (at : ℕ) (k : TokenKind) (xs cs : List ℕ) (ls : List Lexeme) (fs : List Enclosing) (end : ℕ) (rest : List ℕ)
-      → IsElement (mode_in es) (Token k) xs cs → Reads (after k es) (at + width xs) cs ls fs end rest
-      → Reads es at (xs ++ cs) (record { kind = k; at = at; text = xs } ∷ ls) fs end rest
+      → IsElement (mode_in es) (Token k) xs cs → LexesTo (enclosing_after k es) (at + width xs) cs ls fs end rest
+      → LexesTo es at (xs ++ cs) (record { kind = k; at = at; text = xs } ∷ ls) fs end rest
 
 -- The text is white space, comments and these tokens in turn. A weave or an island may still be open at its end.
 abbrev pub HasLexemes : List ℕ → List Lexeme → Type 0
-HasLexemes cs ls = (fs : List Enclosing) × (end : ℕ) × Reads [] 0 cs ls fs end []
+HasLexemes cs ls = (fs : List Enclosing) × (end : ℕ) × LexesTo [] 0 cs ls fs end []
 
 abbrev pub Lexed : List ℕ → List Tok → Type 0
 Lexed cs ts = (ls : List Lexeme) × HasLexemes cs ls × (ts ≡ map token_of ls)
@@ -78,13 +78,13 @@ wrong_with Formula (c ∷ cs) =
 
 -- the first bad token begins at this byte, and this is wrong with it
 abbrev pub IsBadAt : List ℕ → LexErr → Type 0
-IsBadAt cs bad = (ls : List Lexeme) × (es : List Enclosing) × (rest : List ℕ) × Reads [] 0 cs ls es bad.at rest
+IsBadAt cs bad = (ls : List Lexeme) × (es : List Enclosing) × (rest : List ℕ) × LexesTo [] 0 cs ls es bad.at rest
     × (rest ≢ []) × NoElement (mode_in es) rest × (bad.what ≡ wrong_with (mode_in es) rest)
 
 -- what an error says of the text
-abbrev pub IsBad : List ℕ → LexEnd → Type 0
-IsBad cs (Bad bad) = IsBadAt cs bad
-IsBad cs Memory = Unit {0}
+abbrev pub IsBadToken : List ℕ → LexEnd → Type 0
+IsBadToken cs (Bad bad) = IsBadAt cs bad
+IsBadToken cs Memory = Unit {0}
 
 -- a bad text has no list of tokens
 abbrev pub HasNoTokens : List ℕ → LexEnd → Type 0

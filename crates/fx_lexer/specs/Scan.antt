@@ -15,19 +15,19 @@ use Rattle.fx_lexer.specs.declared.element.Run.{Run}
 use Rattle.fx_lexer.specs.declared.element.Run.TheVariants as runs
 use Rattle.fx_lexer.specs.declared.element.Mode.{Mode}
 use Rattle.fx_lexer.specs.declared.element.Mode.TheVariants.{Formula, Weave}
-use Rattle.fx_lexer.specs.Spelling.{class_at, in_name, in_number, in_line, is_mark, begins}
+use Rattle.fx_lexer.specs.Spelling.{class_at, in_name, in_number, in_line, is_mark, begins_with}
 
 -- an element and how many characters it has
-abbrev pub Seen : Type 0
-Seen = Option (Element × ℕ)
+abbrev pub ScannedElement : Type 0
+ScannedElement = Option (Element × ℕ)
 
-abbrev pub seen : TokenKind → ℕ → Seen
-seen k n = Some (Token k, n)
+abbrev pub scanned : TokenKind → ℕ → ScannedElement
+scanned k n = Some (Token k, n)
 
 -- how many characters at the front pass
-abbrev pub run : (ℕ → Bool) → List ℕ → ℕ
-run p [] = 0
-run p (c ∷ cs) = if p c then suc (run p cs) else 0
+abbrev pub run_length : (ℕ → Bool) → List ℕ → ℕ
+run_length p [] = 0
+run_length p (c ∷ cs) = if p c then suc (run_length p cs) else 0
 
 -- how long a number's point and decimals are: 0 where there are none
 abbrev pub point_run : ℕ → ℕ
@@ -36,7 +36,7 @@ point_run (suc n) = suc (suc n)
 
 abbrev pub decimals : List ℕ → ℕ
 decimals [] = 0
-decimals (c ∷ cs) = if c == 46 then point_run (run in_number cs) else 0
+decimals (c ∷ cs) = if c == 46 then point_run (run_length in_number cs) else 0
 
 -- digits and what follows them
 abbrev pub number_run : List ℕ → ℕ
@@ -60,7 +60,7 @@ abbrev mutual
 -- how far the next `*/` is, with it
 abbrev pub comment_run : List ℕ → Option ℕ
 comment_run [] = None
-comment_run (c ∷ cs) = if c == 42 then (if begins 47 cs then Some 2 else more (comment_run cs)) else more (comment_run cs)
+comment_run (c ∷ cs) = if c == 42 then (if begins_with 47 cs then Some 2 else more (comment_run cs)) else more (comment_run cs)
 
 -- how far a weave's text goes on, and how far after a mark
 abbrev mutual
@@ -97,13 +97,13 @@ word_at (a ∷ b ∷ c ∷ d ∷ e ∷ f ∷ g ∷ h ∷ cs) = None
 
 -- a symbol and how many characters it has: the long one where x follows
 abbrev pub one_or_two : Symbol → Symbol → ℕ → List ℕ → Option (Symbol × ℕ)
-one_or_two short long x cs = if begins x cs then Some (long, 2) else Some (short, 1)
+one_or_two short long x cs = if begins_with x cs then Some (long, 2) else Some (short, 1)
 
 abbrev pub less_at : List ℕ → Option (Symbol × ℕ)
-less_at cs = if begins 61 cs then Some (LessEqual, 2) else one_or_two Less NotEqual 62 cs
+less_at cs = if begins_with 61 cs then Some (LessEqual, 2) else one_or_two Less NotEqual 62 cs
 
 abbrev pub bar_at : List ℕ → Option (Symbol × ℕ)
-bar_at cs = if begins 124 cs then Some (DoubleBar, 2) else None
+bar_at cs = if begins_with 124 cs then Some (DoubleBar, 2) else None
 
 abbrev pub symbol_at : ℕ → List ℕ → Option (Symbol × ℕ)
 symbol_at c cs =
@@ -130,74 +130,74 @@ symbol_at c cs =
     else (if c == 62 then one_or_two Greater GreaterEqual 61 cs
     else None))))))))))))))))))))
 
-abbrev pub symbol_seen : Option (Symbol × ℕ) → Seen
+abbrev pub symbol_seen : Option (Symbol × ℕ) → ScannedElement
 symbol_seen None = None
-symbol_seen (Some s) = seen (kind.Symbol s.0) s.1
+symbol_seen (Some s) = scanned (kind.Symbol s.0) s.1
 
-abbrev pub text_seen : Option ℕ → Seen
+abbrev pub text_seen : Option ℕ → ScannedElement
 text_seen None = None
-text_seen (Some n) = seen kind.Text (suc n)
+text_seen (Some n) = scanned kind.Text (suc n)
 
 -- a quoted name is not empty
-abbrev pub quoted_seen : Option ℕ → Seen
+abbrev pub quoted_seen : Option ℕ → ScannedElement
 quoted_seen None = None
-quoted_seen (Some n) = if nat_le n 1 then None else seen kind.Name (suc n)
+quoted_seen (Some n) = if nat_le n 1 then None else scanned kind.Name (suc n)
 
-abbrev pub comment_seen : Option ℕ → Seen
+abbrev pub comment_seen : Option ℕ → ScannedElement
 comment_seen None = None
 comment_seen (Some n) = Some (Skip, suc (suc n))
 
 -- after `/`
-abbrev pub slash_at : List ℕ → Seen
-slash_at [] = seen (kind.Symbol Slash) 1
+abbrev pub slash_at : List ℕ → ScannedElement
+slash_at [] = scanned (kind.Symbol Slash) 1
 slash_at (c ∷ cs) =
-    if c == 47 then Some (Skip, suc (suc (run in_line cs)))
+    if c == 47 then Some (Skip, suc (suc (run_length in_line cs)))
     else (if c == 42 then comment_seen (comment_run cs)
-    else seen (kind.Symbol Slash) 1)
+    else scanned (kind.Symbol Slash) 1)
 
-abbrev pub other_at : ℕ → List ℕ → Seen
+abbrev pub other_at : ℕ → List ℕ → ScannedElement
 other_at c cs =
     if c == 34 then text_seen (open_run 34 cs)
     else (if c == 39 then quoted_seen (open_run 39 cs)
     else (if c == 47 then slash_at cs
-    else (if c == 36 then (if begins 34 cs then seen kind.Opening 2 else None)
+    else (if c == 36 then (if begins_with 34 cs then scanned kind.Opening 2 else None)
     else symbol_seen (symbol_at c cs))))
 
 abbrev pub name_kind : Option Word → TokenKind
 name_kind None = kind.Name
 name_kind (Some w) = kind.Word w
 
-abbrev pub name_at : List ℕ → ℕ → Seen
-name_at cs n = seen (name_kind (word_at (take n cs))) n
+abbrev pub name_scanned : List ℕ → ℕ → ScannedElement
+name_scanned cs n = scanned (name_kind (word_at (take n cs))) n
 
-abbrev pub by_class : Class → ℕ → List ℕ → Seen
+abbrev pub by_class : Class → ℕ → List ℕ → ScannedElement
 by_class White c cs = Some (Skip, 1)
-by_class Digit c cs = seen kind.Number (suc (number_run cs))
-by_class Letter c cs = name_at (c ∷ cs) (suc (run in_name cs))
+by_class Digit c cs = scanned kind.Number (suc (number_run cs))
+by_class Letter c cs = name_scanned (c ∷ cs) (suc (run_length in_name cs))
 by_class Other c cs = other_at c cs
 
 -- in a formula
-abbrev pub formula_at : List ℕ → Seen
+abbrev pub formula_at : List ℕ → ScannedElement
 formula_at [] = None
 formula_at (c ∷ cs) = by_class (class_at c) c cs
 
 -- at a mark that stands for itself
-abbrev pub mark_at : List ℕ → Seen
-mark_at [] = None
-mark_at (c ∷ cs) =
-    if c == 34 then seen kind.Closing 1
-    else (if c == 123 then seen (kind.Symbol OpenBrace) 1 else None)
+abbrev pub mark_scanned : List ℕ → ScannedElement
+mark_scanned [] = None
+mark_scanned (c ∷ cs) =
+    if c == 34 then scanned kind.Closing 1
+    else (if c == 123 then scanned (kind.Symbol OpenBrace) 1 else None)
 
-abbrev pub weave_by : ℕ → List ℕ → Seen
-weave_by zero cs = mark_at cs
-weave_by (suc n) cs = seen kind.Piece (suc n)
+abbrev pub weave_by : ℕ → List ℕ → ScannedElement
+weave_by zero cs = mark_scanned cs
+weave_by (suc n) cs = scanned kind.Piece (suc n)
 
 -- in a weave's text
-abbrev pub weave_at : List ℕ → Seen
+abbrev pub weave_at : List ℕ → ScannedElement
 weave_at cs = weave_by (weave_run cs) cs
 
 -- the element at the front whose spelling is the longest, and how many characters it has
-abbrev pub element_at : Mode → List ℕ → Seen
+abbrev pub element_at : Mode → List ℕ → ScannedElement
 element_at Formula cs = formula_at cs
 element_at Weave cs = weave_at cs
 

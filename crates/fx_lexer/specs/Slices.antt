@@ -9,12 +9,12 @@ use Rattle.fx_lexer.specs.Spelling.{Spelt}
 use Rattle.fx_lexer.specs.Lexed.{Lexeme}
 
 -- the characters of a token's slice of the source
-abbrev pub text_in : List ℕ → Tok → List ℕ
-text_in source t = chars (slice_range source t.at t.upto)
+abbrev pub slice_chars : List ℕ → Tok → List ℕ
+slice_chars source t = chars (slice_range source t.at t.upto)
 
 -- the tokens with the texts that they have in the source
 abbrev pub lexeme_in : List ℕ → Tok → Lexeme
-lexeme_in source t = record { kind = t.kind; at = t.at; text = text_in source t }
+lexeme_in source t = record { kind = t.kind; at = t.at; text = slice_chars source t }
 
 abbrev pub lexemes : List ℕ → List Tok → List Lexeme
 lexemes source ts = map (lexeme_in source) ts
@@ -28,7 +28,7 @@ pub record IsSlice (source : List ℕ) (t : Tok) : Type 0 where
   pub begins : IsCharBoundary source t.at
   pub ends : IsCharBoundary source t.upto
   pub is_long : t.at < t.upto
-  pub spelt : IsSpeltAs t.kind (text_in source t)
+  pub spelt : IsSpeltAs t.kind (slice_chars source t)
 
 -- These tokens are slices of the source in rising order, from this byte on.
 abbrev pub AreSlicesFrom : List ℕ → ℕ → List Tok → Type 0

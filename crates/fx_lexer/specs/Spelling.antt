@@ -125,28 +125,28 @@ pub data Spelt : Mode → Element → List ℕ → Type 0 where
   island : Spelt Weave (Token (kind.Symbol OpenBrace)) (123 ∷ [])
 
 -- the text begins with this character
-abbrev pub begins : ℕ → List ℕ → Bool
-begins x [] = false
-begins x (c ∷ cs) = c == x
+abbrev pub begins_with : ℕ → List ℕ → Bool
+begins_with x [] = false
+begins_with x (c ∷ cs) = c == x
 
 -- What may follow: a closing quote is one that no quote follows, and `/*` begins a comment.
 abbrev pub IsClosed : Element → List ℕ → List ℕ → Type 0
-IsClosed (Token kind.Text) xs rest = begins 34 rest ≡ false
-IsClosed (Token kind.Name) xs rest = begins 39 xs ≡ true → begins 39 rest ≡ false
-IsClosed (Token (kind.Symbol Slash)) xs rest = begins 42 rest ≡ false
+IsClosed (Token kind.Text) xs rest = begins_with 34 rest ≡ false
+IsClosed (Token kind.Name) xs rest = begins_with 39 xs ≡ true → begins_with 39 rest ≡ false
+IsClosed (Token (kind.Symbol Slash)) xs rest = begins_with 42 rest ≡ false
 IsClosed e xs rest = Unit {0}
 
 -- A number has a value: its text spells one that is in range.
-abbrev pub HasValue : Element → List ℕ → Type 0
-HasValue (Token kind.Number) xs = (z : ℤ) × Spells xs z × IsInRange z
-HasValue e xs = Unit {0}
+abbrev pub SpellsNumber : Element → List ℕ → Type 0
+SpellsNumber (Token kind.Number) xs = (z : ℤ) × Spells xs z × IsInRange z
+SpellsNumber e xs = Unit {0}
 
 -- xs, before rest, is this element: nothing that is spelt at this place is longer
 pub record IsElement (mode : Mode) (e : Element) (xs rest : List ℕ) : Type 0 where
   pub spelt : Spelt mode e xs
   pub longest : (q : Element) (ys zs : List ℕ) → xs ++ rest ≡ ys ++ zs → Spelt mode q ys → length ys ≤ length xs
   pub closed : IsClosed e xs rest
-  pub has_value : HasValue e xs
+  pub has_value : SpellsNumber e xs
 
 -- no element begins the text
 abbrev pub NoElement : Mode → List ℕ → Type 0

@@ -1,10 +1,10 @@
 //! Reading the tokens of a text, once from left to right.
 ghost use Rattle.std.specs.Prelude.{◌≡◌, ◌<◌, ◌≤◌, ◌^◌, ◌↔◌, IsTrue, Option, List, ℕ, length, reverse, IfOk, IfErr};
 ghost use Rattle.std.specs.Str.{chars};
-ghost use Rattle.fx_lexer.specs.Spelling.{HasValue};
-ghost use Rattle.fx_lexer.specs.Lexed.{width, mode_in, after, wrong_with, Lexed, HasLexemes, IsBad, HasNoTokens};
+ghost use Rattle.fx_lexer.specs.Spelling.{SpellsNumber};
+ghost use Rattle.fx_lexer.specs.Lexed.{width, mode_in, enclosing_after, wrong_with, Lexed, HasLexemes, IsBadToken, HasNoTokens};
 ghost use Rattle.fx_lexer.specs.Slices.{lexemes, AreSlices};
-ghost use Rattle.fx_lexer.specs.Next.{IsNext, IsPut};
+ghost use Rattle.fx_lexer.specs.Next.{IsNext, IsTokenPut};
 
 use crate::element::{Element, Enclosing, Mode};
 use crate::scan::longest;
@@ -34,7 +34,7 @@ fn width_of(cs: &[char]) -> u32
 
 /// Whether an element of this text is in range, as each is that is no number.
 fn fits(element: Element, text: &str) -> bool
-    ensures { IsTrue result ↔ HasValue element text.now }
+    ensures { IsTrue result ↔ SpellsNumber element text.now }
 {
     match element {
         Element::Token(TokenKind::Number) => fx_number::read(text).is_some(),
@@ -75,7 +75,7 @@ fn mode_of(around: &[Enclosing]) -> Mode
 
 /// Goes past a token: it may open a weave or a brace, or close the innermost.
 fn pass(around: &mut Vec<Enclosing>, kind: TokenKind) -> Result<(), LexEnd>
-    ensures marks { IfOk result (λ _. reverse around.new.items ≡ after kind (reverse around.old.items)) }
+    ensures marks { IfOk result (λ _. reverse around.new.items ≡ enclosing_after kind (reverse around.old.items)) }
     ensures memory { IfErr result (λ e. e ≡ LexEnd.Memory) }
 {
     match kind {
@@ -110,7 +110,7 @@ fn put(
     at: u32,
     upto: u32,
 ) -> Result<(), LexEnd>
-    ensures put { IfOk result (λ _. IsPut element at upto out.old.items out.new.items (reverse around.old.items) (reverse around.new.items)) }
+    ensures put { IfOk result (λ _. IsTokenPut element at upto out.old.items out.new.items (reverse around.old.items) (reverse around.new.items)) }
     ensures memory { IfErr result (λ e. e ≡ LexEnd.Memory) }
 {
     match element {
@@ -126,7 +126,7 @@ fn read_tokens(alloc: Global, cs: &[char], source: &str) -> Result<Vec<Token>, L
     requires same { cs.now ≡ chars source.now }
     requires room { length source.now < 2 ^ 32 }
     ensures tokens { IfOk result (λ v. Lexed cs.now v.items) }
-    ensures bad { IfErr result (IsBad cs.now) }
+    ensures bad { IfErr result (IsBadToken cs.now) }
 {
     let mut out = Vec::new(alloc);
     let mut around = Vec::new(alloc);
@@ -161,7 +161,7 @@ pub fn tokens(alloc: Global, source: &str) -> Result<Vec<Token>, LexEnd>
     ensures tokens { IfOk result (λ v. Lexed (chars source.now) v.items) }
     ensures texts { IfOk result (λ v. HasLexemes (chars source.now) (lexemes source.now v.items)) }
     ensures slices { IfOk result (λ v. AreSlices source.now v.items) }
-    ensures bad { IfErr result (IsBad (chars source.now)) }
+    ensures bad { IfErr result (IsBadToken (chars source.now)) }
     ensures none { IfErr result (HasNoTokens (chars source.now)) }
 {
     let cs = chars_of(alloc, source)?;

@@ -1,7 +1,7 @@
 //! The longest spelling at the front of a text.
 ghost use Rattle.std.specs.Prelude.{◌≡◌, ◌+◌, ◌≤◌, Option, length, IfSome};
-ghost use Rattle.fx_lexer.specs.Scan.{run, passes, decimals, number_run, open_run, comment_run, weave_run, word_at, symbol_at, one_or_two, less_at, bar_at, slash_at, other_at, name_at, formula_at, mark_at, weave_at, element_at, text_seen, quoted_seen};
-ghost use Rattle.fx_lexer.specs.Spelling.{begins};
+ghost use Rattle.fx_lexer.specs.Scan.{run_length, passes, decimals, number_run, open_run, comment_run, weave_run, word_at, symbol_at, one_or_two, less_at, bar_at, slash_at, other_at, name_scanned, formula_at, mark_scanned, weave_at, element_at, text_seen, quoted_seen};
+ghost use Rattle.fx_lexer.specs.Spelling.{begins_with};
 
 use crate::element::{Class, Element, Mode, Run, class_of, is_in, is_weave_mark};
 use crate::token::{Symbol, TokenKind, Word};
@@ -18,7 +18,7 @@ fn seen_token(kind: TokenKind, length: usize) -> Seen
 /// How many characters at the front are of this run.
 #[tactic(auto, using(crate::proofs::Steps::run_more, crate::proofs::Steps::run_end))]
 fn run_length(of: Run, cs: &[char]) -> usize
-    ensures value { result ≡ run (passes of) cs.now }
+    ensures value { result ≡ run_length (passes of) cs.now }
     ensures within { result ≤ length cs.now }
 {
     let mut n = 0;
@@ -32,7 +32,7 @@ fn run_length(of: Run, cs: &[char]) -> usize
 }
 
 fn begins_with(cs: &[char], x: char) -> bool
-    ensures { result ≡ begins x cs.now }
+    ensures { result ≡ begins_with x cs.now }
 {
     match cs {
         [] => false,
@@ -261,7 +261,7 @@ fn other_of(first: char, others: &[char]) -> Seen
 /// A name or a word.
 fn name_of(cs: &[char], n: usize) -> Seen
     requires { n ≤ length cs.now }
-    ensures { result ≡ name_at cs.now n }
+    ensures { result ≡ name_scanned cs.now n }
 {
     let (name, _) = cs.split_at(n);
     match word_of(name) {
@@ -286,7 +286,7 @@ fn in_formula(cs: &[char]) -> Seen
 
 /// At a mark that stands for itself.
 fn mark_of(cs: &[char]) -> Seen
-    ensures { result ≡ mark_at cs.now }
+    ensures { result ≡ mark_scanned cs.now }
 {
     match cs {
         ['"', ..] => seen_token(TokenKind::Closing, 1),

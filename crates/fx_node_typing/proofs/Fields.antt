@@ -7,18 +7,18 @@ use Rattle.std.specs.Cmp.Lexicographic.{slice_cmp}
 use Rattle.std.proofs.lemmas.Cmp.{nat_list_cmp_total}
 use Rattle.std.specs.declared.cmp.Ordering.{Ordering}
 use Rattle.std.specs.declared.cmp.Ordering.TheVariants.{Less, Equal, Greater}
-use Rattle.fx_types.specs.Rising.{IsBelow, IsBelowAll, AreRising}
+use Rattle.fx_types.specs.Rising.{IsBelow, IsNameBelowAll, AreNamesRising}
 use Rattle.fx_types.specs.Types.{Shape, records, column_list}
 use Rattle.fx_types.specs.TypeView.{columns_view}
 use Rattle.fx_types.specs.declared.types.Ty.{Ty}
-use Rattle.fx_core.specs.Term.{Term, of, rec, all, names_of, parts_of}
+use Rattle.fx_core.specs.Term.{Term, of, rec, all, term_field_names, field_terms}
 use Rattle.fx_typing.specs.Local.{firsts}
 use Rattle.fx_typing.specs.WellTyped.{columns_by}
 use Rattle.fx_value.proofs.Unions.{below}
 use Rattle.fx_typing.specs.Builds.{put_field, put_fields, field_names, field_parts, types_of, record_by}
 use Rattle.fx_typing.specs.declared.typed.Typed.{Typed}
 use Rattle.fx_typing.specs.TypedView.{typed}
-use Rattle.fx_node_typing.specs.Fields.{field_view, later, place_in, put_onto}
+use Rattle.fx_node_typing.specs.Fields.{field_view, later, field_index, put_onto}
 
 -- a place behind others
 abbrev pub behind : ℕ → Result ℕ ℕ → Result ℕ ℕ
@@ -26,27 +26,27 @@ behind k (Ok i) = Ok (k + i)
 behind k (Err i) = Err (k + i)
 
 -- a field in place of one of its name
-pub found : (n : List ℕ) (v : Typed) (xs : List (List ℕ × Typed)) (i : ℕ) → place_in n xs ≡ Ok i → (i < length xs) × (map field_view (set xs i (n, v)) ≡ put_field n (typed v) (map field_view xs))
+pub found : (n : List ℕ) (v : Typed) (xs : List (List ℕ × Typed)) (i : ℕ) → field_index n xs ≡ Ok i → (i < length xs) × (map field_view (set xs i (n, v)) ≡ put_field n (typed v) (map field_view xs))
 found n v [] i e = cc
 found n v (x ∷ xs) i e = by (slice_cmp nat_cmp n x.0) (found n v xs) e
   where
     Put : Ordering → ℕ → Type 0
     Put o j = (j < length (x ∷ xs)) × (map field_view (set (x ∷ xs) j (n, v)) ≡ match_ordering o ((n, typed v) ∷ field_view x ∷ map field_view xs) ((n, typed v) ∷ map field_view xs) (field_view x ∷ put_field n (typed v) (map field_view xs)))
 
-    after : ((j : ℕ) → place_in n xs ≡ Ok j → (j < length xs) × (map field_view (set xs j (n, v)) ≡ put_field n (typed v) (map field_view xs))) → (r : Result ℕ ℕ) → place_in n xs ≡ r → later r ≡ Ok i → Put Greater i
+    after : ((j : ℕ) → field_index n xs ≡ Ok j → (j < length xs) × (map field_view (set xs j (n, v)) ≡ put_field n (typed v) (map field_view xs))) → (r : Result ℕ ℕ) → field_index n xs ≡ r → later r ≡ Ok i → Put Greater i
     after k (Ok j) p e =
         let q : suc j ≡ i = cc in
         let h = k j p in
         subst (Put Greater) q (omega arith, ap (λ ys. field_view x ∷ ys) h.1)
     after k (Err j) p e = cc
 
-    by : (o : Ordering) → ((j : ℕ) → place_in n xs ≡ Ok j → (j < length xs) × (map field_view (set xs j (n, v)) ≡ put_field n (typed v) (map field_view xs))) → match_ordering o (Err 0) (Ok 0) (later (place_in n xs)) ≡ Ok i → Put o i
+    by : (o : Ordering) → ((j : ℕ) → field_index n xs ≡ Ok j → (j < length xs) × (map field_view (set xs j (n, v)) ≡ put_field n (typed v) (map field_view xs))) → match_ordering o (Err 0) (Ok 0) (later (field_index n xs)) ≡ Ok i → Put o i
     by Less k e = cc
     by Equal k e = let q : 0 ≡ i = cc in subst (Put Equal) q (omega arith, refl)
-    by Greater k e = after k (place_in n xs) refl e
+    by Greater k e = after k (field_index n xs) refl e
 
 -- a field more
-pub missing : (n : List ℕ) (v : Typed) (xs : List (List ℕ × Typed)) (i : ℕ) → place_in n xs ≡ Err i → (i ≤ length xs) × (map field_view (insert xs i (n, v)) ≡ put_field n (typed v) (map field_view xs))
+pub missing : (n : List ℕ) (v : Typed) (xs : List (List ℕ × Typed)) (i : ℕ) → field_index n xs ≡ Err i → (i ≤ length xs) × (map field_view (insert xs i (n, v)) ≡ put_field n (typed v) (map field_view xs))
 missing n v [] i e =
     let q : 0 ≡ i = cc in
     let P : ℕ → Type 0 = λ j. (j ≤ 0) × (map field_view (insert [] j (n, v)) ≡ (n, typed v) ∷ []) in
@@ -56,17 +56,17 @@ missing n v (x ∷ xs) i e = by (slice_cmp nat_cmp n x.0) (missing n v xs) e
     Put : Ordering → ℕ → Type 0
     Put o j = (j ≤ length (x ∷ xs)) × (map field_view (insert (x ∷ xs) j (n, v)) ≡ match_ordering o ((n, typed v) ∷ field_view x ∷ map field_view xs) ((n, typed v) ∷ map field_view xs) (field_view x ∷ put_field n (typed v) (map field_view xs)))
 
-    after : ((j : ℕ) → place_in n xs ≡ Err j → (j ≤ length xs) × (map field_view (insert xs j (n, v)) ≡ put_field n (typed v) (map field_view xs))) → (r : Result ℕ ℕ) → place_in n xs ≡ r → later r ≡ Err i → Put Greater i
+    after : ((j : ℕ) → field_index n xs ≡ Err j → (j ≤ length xs) × (map field_view (insert xs j (n, v)) ≡ put_field n (typed v) (map field_view xs))) → (r : Result ℕ ℕ) → field_index n xs ≡ r → later r ≡ Err i → Put Greater i
     after k (Err j) p e =
         let q : suc j ≡ i = cc in
         let h = k j p in
         subst (Put Greater) q (omega arith, ap (λ ys. field_view x ∷ ys) h.1)
     after k (Ok j) p e = cc
 
-    by : (o : Ordering) → ((j : ℕ) → place_in n xs ≡ Err j → (j ≤ length xs) × (map field_view (insert xs j (n, v)) ≡ put_field n (typed v) (map field_view xs))) → match_ordering o (Err 0) (Ok 0) (later (place_in n xs)) ≡ Err i → Put o i
+    by : (o : Ordering) → ((j : ℕ) → field_index n xs ≡ Err j → (j ≤ length xs) × (map field_view (insert xs j (n, v)) ≡ put_field n (typed v) (map field_view xs))) → match_ordering o (Err 0) (Ok 0) (later (field_index n xs)) ≡ Err i → Put o i
     by Less k e = let q : 0 ≡ i = cc in subst (Put Less) q (omega arith, refl)
     by Equal k e = cc
-    by Greater k e = after k (place_in n xs) refl e
+    by Greater k e = after k (field_index n xs) refl e
 
 pub onto_last : (ns : List (List ℕ)) (xs : List Typed) (n : List ℕ) (x : Typed) (fs : List (List ℕ × (Term × Shape))) → length ns ≡ length xs → put_onto (ns ++ n ∷ []) (map typed (xs ++ x ∷ [])) fs ≡ put_onto ns (map typed xs) (put_field n (typed x) fs)
 onto_last [] [] n x fs h = refl
@@ -92,33 +92,33 @@ as_many_of ns xs k m a b =
     subst P (sym b) (subst Q (sym a) (as_many ns xs))
 
 -- the names rise
-below_put : (m n : List ℕ) (x : Term × Shape) (fs : List (List ℕ × (Term × Shape))) → IsBelow m n → IsBelowAll m fs → IsBelowAll m (put_field n x fs)
+below_put : (m n : List ℕ) (x : Term × Shape) (fs : List (List ℕ × (Term × Shape))) → IsBelow m n → IsNameBelowAll m fs → IsNameBelowAll m (put_field n x fs)
 below_put m n x [] h k = (h, tt)
 below_put m n x (f ∷ fs) h k = by (slice_cmp nat_cmp n f.0) (below_put m n x fs h k.1)
   where
-    by : (o : Ordering) → IsBelowAll m (put_field n x fs) → IsBelowAll m (match_ordering o ((n, x) ∷ f ∷ fs) ((n, x) ∷ fs) (f ∷ put_field n x fs))
+    by : (o : Ordering) → IsNameBelowAll m (put_field n x fs) → IsNameBelowAll m (match_ordering o ((n, x) ∷ f ∷ fs) ((n, x) ∷ fs) (f ∷ put_field n x fs))
     by Less r = (h, k)
     by Equal r = (h, k.1)
     by Greater r = (k.0, r)
 
-below_further : (n m : List ℕ) (fs : List (List ℕ × (Term × Shape))) → IsBelow n m → IsBelowAll m fs → IsBelowAll n fs
+below_further : (n m : List ℕ) (fs : List (List ℕ × (Term × Shape))) → IsBelow n m → IsNameBelowAll m fs → IsNameBelowAll n fs
 below_further n m [] h k = tt
 below_further n m (f ∷ fs) h k = (nat_list_cmp_total.trans n m f.0 h k.0, below_further n m fs h k.1)
 
-below_same : (n m : List ℕ) (fs : List (List ℕ × (Term × Shape))) → slice_cmp nat_cmp n m ≡ Equal → IsBelowAll m fs → IsBelowAll n fs
+below_same : (n m : List ℕ) (fs : List (List ℕ × (Term × Shape))) → slice_cmp nat_cmp n m ≡ Equal → IsNameBelowAll m fs → IsNameBelowAll n fs
 below_same n m [] h k = tt
 below_same n m (f ∷ fs) h k = (nat_list_cmp_total.congr n m f.0 h ∙ k.0, below_same n m fs h k.1)
 
-rising_put : (n : List ℕ) (x : Term × Shape) (fs : List (List ℕ × (Term × Shape))) → AreRising fs → AreRising (put_field n x fs)
+rising_put : (n : List ℕ) (x : Term × Shape) (fs : List (List ℕ × (Term × Shape))) → AreNamesRising fs → AreNamesRising (put_field n x fs)
 rising_put n x [] h = (tt, tt)
 rising_put n x (f ∷ fs) h = by (slice_cmp nat_cmp n f.0) refl (rising_put n x fs h.1)
   where
-    by : (o : Ordering) → slice_cmp nat_cmp n f.0 ≡ o → AreRising (put_field n x fs) → AreRising (match_ordering o ((n, x) ∷ f ∷ fs) ((n, x) ∷ fs) (f ∷ put_field n x fs))
+    by : (o : Ordering) → slice_cmp nat_cmp n f.0 ≡ o → AreNamesRising (put_field n x fs) → AreNamesRising (match_ordering o ((n, x) ∷ f ∷ fs) ((n, x) ∷ fs) (f ∷ put_field n x fs))
     by Less b r = ((b, below_further n f.0 fs b h.0), h)
     by Equal b r = (below_same n f.0 fs b h.0, h.1)
     by Greater b r = (below_put f.0 n x fs (below f.0 n b) h.0, r)
 
-pub rising_puts : (ns : List (List ℕ)) (xs : List (Term × Shape)) → AreRising (put_fields ns xs)
+pub rising_puts : (ns : List (List ℕ)) (xs : List (Term × Shape)) → AreNamesRising (put_fields ns xs)
 rising_puts [] xs = tt
 rising_puts (n ∷ ns) [] = tt
 rising_puts (n ∷ ns) (x ∷ xs) = rising_put n x (put_fields ns xs) (rising_puts ns xs)
@@ -132,19 +132,19 @@ abbrev pub cores_in : List (List ℕ × Typed) → List (List ℕ × Term)
 cores_in [] = []
 cores_in (f ∷ fs) = (f.0, f.1.core) ∷ cores_in fs
 
-below_columns : (n : List ℕ) (fs : List (List ℕ × Typed)) → IsBelowAll n (map field_view fs) → IsBelowAll n (columns_view (columns_in fs))
+below_columns : (n : List ℕ) (fs : List (List ℕ × Typed)) → IsNameBelowAll n (map field_view fs) → IsNameBelowAll n (columns_view (columns_in fs))
 below_columns n [] h = tt
 below_columns n (f ∷ fs) h = (h.0, below_columns n fs h.1)
 
-pub rising_columns : (fs : List (List ℕ × Typed)) → AreRising (map field_view fs) → AreRising (columns_view (columns_in fs))
+pub rising_columns : (fs : List (List ℕ × Typed)) → AreNamesRising (map field_view fs) → AreNamesRising (columns_view (columns_in fs))
 rising_columns [] h = tt
 rising_columns (f ∷ fs) h = (below_columns f.0 fs h.0, rising_columns fs h.1)
 
-pub names_in : (fs : List (List ℕ × Typed)) → names_of (cores_in fs) ≡ field_names (map field_view fs)
+pub names_in : (fs : List (List ℕ × Typed)) → term_field_names (cores_in fs) ≡ field_names (map field_view fs)
 names_in [] = refl
 names_in (f ∷ fs) = ap (λ ns. f.0 ∷ ns) (names_in fs)
 
-pub parts_in : (fs : List (List ℕ × Typed)) → parts_of (cores_in fs) ≡ all (firsts (field_parts (map field_view fs)))
+pub parts_in : (fs : List (List ℕ × Typed)) → field_terms (cores_in fs) ≡ all (firsts (field_parts (map field_view fs)))
 parts_in [] = refl
 parts_in (f ∷ fs) = rw (parts_in fs) refl
 
@@ -161,9 +161,9 @@ pub all_cores : (ps : List (List ℕ × Term)) (rest fs : List (List ℕ × Type
 all_cores ps [] fs h e = sym (append-nil ps) ∙ e
 all_cores ps (r ∷ rest) fs h e = absurd (omega arith)
 
-pub record_is : (cs : List (List ℕ × Ty)) (ps : List (List ℕ × Term)) (r : List (List ℕ × Shape)) (core : Term) (fs : List (List ℕ × Typed)) → cs ≡ columns_in fs → ps ≡ cores_in fs → r ≡ columns_view cs → core ≡ of (rec (names_of ps)) (parts_of ps) → (core, records (column_list r)) ≡ record_by (map field_view fs)
+pub record_is : (cs : List (List ℕ × Ty)) (ps : List (List ℕ × Term)) (r : List (List ℕ × Shape)) (core : Term) (fs : List (List ℕ × Typed)) → cs ≡ columns_in fs → ps ≡ cores_in fs → r ≡ columns_view cs → core ≡ of (rec (term_field_names ps)) (field_terms ps) → (core, records (column_list r)) ≡ record_by (map field_view fs)
 record_is cs ps r core fs a b d e =
     let h : column_list r ≡ columns_by (field_names (map field_view fs)) (types_of (field_parts (map field_view fs))) = ap column_list d ∙ ap (λ x. column_list (columns_view x)) a ∙ columns_by_in fs in
     let k : core ≡ of (rec (field_names (map field_view fs))) (all (firsts (field_parts (map field_view fs)))) =
-    e ∙ ap (λ x. of (rec (names_of x)) (parts_of x)) b ∙ ap (λ x. of (rec x) (parts_of (cores_in fs))) (names_in fs) ∙ ap (of (rec (field_names (map field_view fs)))) (parts_in fs) in
+    e ∙ ap (λ x. of (rec (term_field_names x)) (field_terms x)) b ∙ ap (λ x. of (rec x) (field_terms (cores_in fs))) (names_in fs) ∙ ap (of (rec (field_names (map field_view fs)))) (parts_in fs) in
     rw (h, k) refl

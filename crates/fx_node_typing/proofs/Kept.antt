@@ -4,9 +4,9 @@ use Rattle.std.specs.Prelude.{min, nat_lt}
 use Rattle.std.proofs.lemmas.List.{append-nil}
 use Rattle.fx_typing.specs.Parts.{lowest, all_or_lowest}
 use Rattle.fx_typing.proofs.Stops.{stops}
-use Rattle.fx_typing.specs.Answers.{Answers, Wrong}
+use Rattle.fx_typing.specs.Answers.{IsAnswerOf, Wrong}
 use Rattle.fx_base.specs.declared.or_memory.OrMemory.TheVariants.{Refused as Breaks, Memory}
-use Rattle.fx_core.specs.Rules.{number_of}
+use Rattle.fx_core.specs.Rules.{rule_number}
 use Rattle.fx_core.specs.declared.rule.Rule.{Rule}
 use Rattle.fx_node_typing.specs.Lowest.{lower, both}
 
@@ -17,11 +17,11 @@ lesser a b = by (nat_lt b a) refl
     by true e = let h = ltb-true b a e in omega (arith, h)
     by false e = let h = ltb-false b a e in omega (arith, h)
 
-lower_breaks : {C D : Type 0} (h : C → D) (a b : Rule) → Answers h (Err (min (number_of a) (number_of b))) (Err (lower (Breaks a) (Breaks b)))
-lower_breaks h a b = by (nat_lt (number_of b) (number_of a)) (lesser (number_of a) (number_of b))
+lower_breaks : {C D : Type 0} (h : C → D) (a b : Rule) → IsAnswerOf h (Err (min (rule_number a) (rule_number b))) (Err (lower (Breaks a) (Breaks b)))
+lower_breaks h a b = by (nat_lt (rule_number b) (rule_number a)) (lesser (rule_number a) (rule_number b))
   where
-    by : (t : Bool) → (if t then number_of b else number_of a) ≡ min (number_of a) (number_of b) →
-        Answers h (Err (min (number_of a) (number_of b))) (Err (if t then Breaks b else Breaks a))
+    by : (t : Bool) → (if t then rule_number b else rule_number a) ≡ min (rule_number a) (rule_number b) →
+        IsAnswerOf h (Err (min (rule_number a) (rule_number b))) (Err (if t then Breaks b else Breaks a))
     by true e = ap Err (sym e)
     by false e = ap Err (sym e)
 
@@ -30,23 +30,23 @@ broken_left : {X Y Z : Type 0} (go : X → Y → Z) (p : Result X ℕ) (n : ℕ)
 broken_left go p n y e = ap (λ r. lowest go r (Ok y)) e
 
 pub both_err : {A B C X Y Z : Type 0} (f : A → X) (g : B → Y) (h : C → Z) (go : X → Y → Z) (p : Result X ℕ) (q : Result Y ℕ) (one : Result A Wrong) (other : Result B Wrong) (e : Wrong) →
-    Answers f p one → Answers g q other → Err e ≡ both one other → Answers h (lowest go p q) (Err e)
+    IsAnswerOf f p one → IsAnswerOf g q other → Err e ≡ both one other → IsAnswerOf h (lowest go p q) (Err e)
 both_err f g h go p q (Ok a) (Ok b) e i j k = absurd cc
 both_err f g h go p q (Ok a) (Err d) e i j k =
     let w : d ≡ e = cc in
-    subst (λ u. Answers h (lowest go p q) (Err u)) w (stops g h q (lowest go p q) d (λ n m. ap (λ r. lowest go r q) i ∙ ap (lowest go (Ok (f a))) m) j)
+    subst (λ u. IsAnswerOf h (lowest go p q) (Err u)) w (stops g h q (lowest go p q) d (λ n m. ap (λ r. lowest go r q) i ∙ ap (lowest go (Ok (f a))) m) j)
 both_err f g h go p q (Err d) (Ok b) e i j k =
     let w : d ≡ e = cc in
-    subst (λ u. Answers h (lowest go p q) (Err u)) w (stops f h p (lowest go p q) d (λ n m. ap (lowest go p) j ∙ broken_left go p n (g b) m) i)
+    subst (λ u. IsAnswerOf h (lowest go p q) (Err u)) w (stops f h p (lowest go p q) d (λ n m. ap (lowest go p) j ∙ broken_left go p n (g b) m) i)
 both_err f g h go p q (Err (Breaks r)) (Err (Breaks s)) e i j k =
     let w : lower (Breaks r) (Breaks s) ≡ e = cc in
-    subst (λ u. Answers h (lowest go p q) (Err u)) w (
-    subst (λ x. Answers h x (Err (lower (Breaks r) (Breaks s)))) (sym (ap (λ x. lowest go x q) i ∙ ap (lowest go (Err (number_of r))) j)) (lower_breaks h r s)
+    subst (λ u. IsAnswerOf h (lowest go p q) (Err u)) w (
+    subst (λ x. IsAnswerOf h x (Err (lower (Breaks r) (Breaks s)))) (sym (ap (λ x. lowest go x q) i ∙ ap (lowest go (Err (rule_number r))) j)) (lower_breaks h r s)
     )
 both_err f g h go p q (Err (Breaks r)) (Err Memory) e i j k =
-    let w : Memory ≡ e = cc in subst (λ u. Answers h (lowest go p q) (Err u)) w tt
+    let w : Memory ≡ e = cc in subst (λ u. IsAnswerOf h (lowest go p q) (Err u)) w tt
 both_err f g h go p q (Err Memory) (Err d) e i j k =
-    let w : Memory ≡ e = cc in subst (λ u. Answers h (lowest go p q) (Err u)) w tt
+    let w : Memory ≡ e = cc in subst (λ u. IsAnswerOf h (lowest go p q) (Err u)) w tt
 
 -- things that stand in turn, and the ones behind them
 abbrev pub onto : {Y : Type 0} → Result (List Y) ℕ → Result (List Y) ℕ → Result (List Y) ℕ
@@ -78,15 +78,15 @@ at_end (Err n) = refl
 
 -- what is kept of a walk over parts: with what is behind it, it is the whole
 abbrev pub Keeps : {X Y A : Type 0} → (X → Result Y ℕ) → (A → List Y) → Result A Wrong → List X → Result (List Y) ℕ → Type 0
-Keeps {Y = Y} f view kept rest whole = (p : Result (List Y) ℕ) × Answers view p kept × (onto p (all_or_lowest f rest) ≡ whole)
+Keeps {Y = Y} f view kept rest whole = (p : Result (List Y) ℕ) × IsAnswerOf view p kept × (onto p (all_or_lowest f rest) ≡ whole)
 
 pub keeps_on : {X Y A : Type 0} (f : X → Result Y ℕ) (view : A → List Y) (kept new : Result A Wrong) (x : X) (now rest : List X) (whole : Result (List Y) ℕ) →
-    now ≡ x ∷ rest → ((p : Result (List Y) ℕ) → Answers view p kept → Answers view (with_last p (f x)) new) → Keeps f view kept now whole → Keeps f view new rest whole
+    now ≡ x ∷ rest → ((p : Result (List Y) ℕ) → IsAnswerOf view p kept → IsAnswerOf view (with_last p (f x)) new) → Keeps f view kept now whole → Keeps f view new rest whole
 keeps_on f view kept new x now rest whole left step h =
     (with_last h.0 (f x), step h.0 h.1, turned h.0 (f x) (all_or_lowest f rest) ∙ ap (λ l. onto h.0 (all_or_lowest f l)) (sym left) ∙ h.2)
 
 pub kept_all : {X Y A : Type 0} (f : X → Result Y ℕ) (view : A → List Y) (kept : Result A Wrong) (rest : List X) (whole : Result (List Y) ℕ) →
-    rest ≡ [] → Keeps f view kept rest whole → Answers view whole kept
+    rest ≡ [] → Keeps f view kept rest whole → IsAnswerOf view whole kept
 kept_all f view kept rest whole none h =
     let e : h.0 ≡ whole = sym (at_end h.0) ∙ ap (λ l. onto h.0 (all_or_lowest f l)) (sym none) ∙ h.2 in
-    subst (λ p. Answers view p kept) e h.1
+    subst (λ p. IsAnswerOf view p kept) e h.1

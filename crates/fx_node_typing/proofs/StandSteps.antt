@@ -11,7 +11,7 @@ use Rattle.fx_core.specs.ColumnLists.{and_then}
 use Rattle.fx_typing.specs.WellTyped.{first_type}
 use Rattle.fx_typing.specs.declared.typed.Typed.{Typed}
 use Rattle.fx_typing.specs.declared.typed.Piece.{Piece}
-use Rattle.fx_typing.specs.TypedView.{typed, piece}
+use Rattle.fx_typing.specs.TypedView.{typed, piece_view}
 use Rattle.fx_typing.proofs.Befores.{before}
 
 -- what is left, behind what stands: the first one's type is known once it stands
@@ -66,31 +66,31 @@ length_seen : (xs : List Typed) → length (map typed xs) ≡ length xs
 length_seen [] = refl
 length_seen (x ∷ xs) = ap suc (length_seen xs)
 
-length_pieces : (ps : List Piece) → length (map piece ps) ≡ length ps
+length_pieces : (ps : List Piece) → length (map piece_view ps) ≡ length ps
 length_pieces [] = refl
 length_pieces (p ∷ ps) = ap suc (length_pieces ps)
 
 -- the next part, behind those that stand
 abbrev pub next : Row → ℕ → Shape → List Typed → Piece → Result (Term × Shape) ℕ
-next r n common done p = stand (takes_at r n (length done)) (first_type (map (λ (t : Typed). shape t.ty) done)) common (piece p)
+next r n common done p = stand (takes_at r n (length done)) (first_type (map (λ (t : Typed). shape t.ty) done)) common (piece_view p)
 
 next_is : (r : Row) (n : ℕ) (common : Shape) (done : List Typed) (p : Piece) →
-    next r n common done p ≡ stand (takes_at r n (length (map typed done))) (first_type (types (map typed done))) common (piece p)
+    next r n common done p ≡ stand (takes_at r n (length (map typed done))) (first_type (types (map typed done))) common (piece_view p)
 next_is r n common done p = rw (length_seen done, types_seen done) refl
 
 pub next_stands : (r : Row) (n : ℕ) (common : Shape) (done : List Typed) (p : Piece) (ps : List Piece) (x : Typed) →
     n ≡ length done + suc (length ps) → next r n common done p ≡ Ok (typed x) →
-    stand_from r n common (map typed (done ++ x ∷ [])) (map piece ps) ≡ stand_from r n common (map typed done) (map piece (p ∷ ps))
+    stand_from r n common (map typed (done ++ x ∷ [])) (map piece_view ps) ≡ stand_from r n common (map typed done) (map piece_view (p ∷ ps))
 next_stands r n common done p ps x h e =
-    let m : n ≡ length (map typed done) + suc (length (map piece ps)) = omega (arith, h, length_seen done, length_pieces ps) in
-    rw (map_more done x) (stands_next r n common (map typed done) (piece p) (map piece ps) (typed x) m (sym (next_is r n common done p) ∙ e))
+    let m : n ≡ length (map typed done) + suc (length (map piece_view ps)) = omega (arith, h, length_seen done, length_pieces ps) in
+    rw (map_more done x) (stands_next r n common (map typed done) (piece_view p) (map piece_view ps) (typed x) m (sym (next_is r n common done p) ∙ e))
 
 pub next_breaks : (r : Row) (n : ℕ) (common : Shape) (done : List Typed) (p : Piece) (ps : List Piece) (k : ℕ) →
     n ≡ length done + suc (length ps) → next r n common done p ≡ Err k →
-    stand_from r n common (map typed done) (map piece (p ∷ ps)) ≡ Err k
+    stand_from r n common (map typed done) (map piece_view (p ∷ ps)) ≡ Err k
 next_breaks r n common done p ps k h e =
-    let m : n ≡ length (map typed done) + suc (length (map piece ps)) = omega (arith, h, length_seen done, length_pieces ps) in
-    stands_not r n common (map typed done) (piece p) (map piece ps) k m (sym (next_is r n common done p) ∙ e)
+    let m : n ≡ length (map typed done) + suc (length (map piece_view ps)) = omega (arith, h, length_seen done, length_pieces ps) in
+    stands_not r n common (map typed done) (piece_view p) (map piece_view ps) k m (sym (next_is r n common done p) ∙ e)
 
 -- as many stand as there are
 put_length : (x : Term × Shape) (r : Result (List (Term × Shape)) ℕ) (xs : List (Term × Shape)) (m : ℕ) →
@@ -119,5 +119,5 @@ all_length r common (p ∷ ps) xs e =
     by_next (stand (takes_at r (suc (length ps)) 0) blanks common p) (λ x. stand_rest r (suc (length ps)) 1 x.1 common ps) xs (length ps)
     (λ x. rest_length r (suc (length ps)) 1 x.1 common ps) e
 
-pub stood_length : (r : Row) (common : Shape) (ps : List Piece) (xs : List Typed) → stand_all r common (map piece ps) ≡ Ok (map typed xs) → length xs ≡ length ps
-stood_length r common ps xs e = sym (length_seen xs) ∙ all_length r common (map piece ps) (map typed xs) e ∙ length_pieces ps
+pub stood_length : (r : Row) (common : Shape) (ps : List Piece) (xs : List Typed) → stand_all r common (map piece_view ps) ≡ Ok (map typed xs) → length xs ≡ length ps
+stood_length r common ps xs e = sym (length_seen xs) ∙ all_length r common (map piece_view ps) (map typed xs) e ∙ length_pieces ps

@@ -17,9 +17,9 @@ abbrev pub later : Result ℕ ℕ → Result ℕ ℕ
 later (Ok i) = Ok (suc i)
 later (Err i) = Err (suc i)
 
-abbrev pub place_in : {A : Type 0} → List ℕ → List (List ℕ × A) → Result ℕ ℕ
-place_in n [] = Err 0
-place_in n (f ∷ fs) = match_ordering (slice_cmp nat_cmp n f.0) (Err 0) (Ok 0) (later (place_in n fs))
+abbrev pub field_index : {A : Type 0} → List ℕ → List (List ℕ × A) → Result ℕ ℕ
+field_index n [] = Err 0
+field_index n (f ∷ fs) = match_ordering (slice_cmp nat_cmp n f.0) (Err 0) (Ok 0) (later (field_index n fs))
 
 -- fields put among others
 abbrev pub put_onto : List (List ℕ) → List (Term × Shape) → List (List ℕ × (Term × Shape)) → List (List ℕ × (Term × Shape))

@@ -1,6 +1,6 @@
 //! Which typed trees act.
 ghost use Rattle.std.specs.Prelude.{◌≡◌};
-ghost use Rattle.fx_core.specs.Term.{all, parts_of};
+ghost use Rattle.fx_core.specs.Term.{all, field_terms};
 ghost use Rattle.fx_typing.specs.Acts as acting;
 
 use fx_core::{Core, CoreArgs, CoreFields, CoreNode};
@@ -45,7 +45,7 @@ fn any_acts(parts: &CoreArgs) -> bool
 
 #[cycle(acts)]
 fn any_field_acts(fields: &CoreFields) -> bool
-    ensures { result ≡ acting.any_acts (parts_of fields.now) }
+    ensures { result ≡ acting.any_acts (field_terms fields.now) }
 {
     for (_, part) in fields.as_slice() {
         if acts(part) {

@@ -3,7 +3,7 @@ ghost use Rattle.std.specs.Prelude.{◌≡◌, ◌∷◌, Ok, map};
 ghost use Rattle.fx_types.specs.TypeView.{shape};
 ghost use Rattle.fx_types.specs.Types.{column_list};
 ghost use Rattle.fx_typing.specs.WellTyped as typing;
-ghost use Rattle.fx_typing.specs.Answers.{Answers};
+ghost use Rattle.fx_typing.specs.Answers.{IsAnswerOf};
 ghost use Rattle.fx_node_typing.specs.Tables.{table_columns};
 ghost use Rattle.fx_typing.specs.TypedView.{typed};
 
@@ -20,7 +20,7 @@ use std::alloc::Global;
 /// The type that a call answers, from its parts as they stand and the common type of its branches, or
 /// the rule that is broken.
 pub fn answer_type(alloc: Global, answer: Answer, common: &Ty, parts: &[Typed]) -> Result<Ty, Wrong>
-    ensures { Answers shape (typing.answered answer (shape common.now) (map typed parts.now)) result }
+    ensures { IsAnswerOf shape (typing.answered_type answer (shape common.now) (map typed parts.now)) result }
 {
     match parts.split_first() {
         Some((first, rest)) => answer_type_behind(alloc, answer, common, first, rest),
@@ -40,7 +40,7 @@ fn answer_type_behind(
     first: &Typed,
     rest: &[Typed],
 ) -> Result<Ty, Wrong>
-    ensures { Answers shape (typing.answered answer (shape common.now) (typed first.now ∷ map typed rest.now)) result }
+    ensures { IsAnswerOf shape (typing.answered_type answer (shape common.now) (typed first.now ∷ map typed rest.now)) result }
 {
     match answer {
         Answer::Scalar(scalar) => Ok(scalar.ty()),
@@ -80,14 +80,14 @@ fn answer_type_behind(
 
 // The same type once more.
 fn same(alloc: Global, ty: &Ty) -> Result<Ty, Wrong>
-    ensures { Answers shape (Ok (shape ty.now)) result }
+    ensures { IsAnswerOf shape (Ok (shape ty.now)) result }
 {
     Ok(ty.copy(alloc)?)
 }
 
 // A row of a table.
 fn row_type(alloc: Global, table: &Ty) -> Result<Ty, Wrong>
-    ensures { Answers shape (Ok (typing.row_type (shape table.now))) result }
+    ensures { IsAnswerOf shape (Ok (typing.row_type (shape table.now))) result }
 {
     match table {
         Ty::Tab(columns) => Ok(Ty::Rec(columns.copy(alloc)?)),
@@ -97,7 +97,7 @@ fn row_type(alloc: Global, table: &Ty) -> Result<Ty, Wrong>
 
 // The columns of a table.
 fn columns_of(alloc: Global, table: &Ty) -> Result<Columns, Wrong>
-    ensures { Answers column_list (table_columns (shape table.now)) result }
+    ensures { IsAnswerOf column_list (table_columns (shape table.now)) result }
 {
     match table {
         Ty::Tab(columns) => Ok(columns.copy(alloc)?),

@@ -2,7 +2,7 @@
 ghost use Rattle.std.specs.Prelude.{◌≡◌, IfOk, length, map, option_map};
 ghost use Rattle.fx_types.specs.TypeView.{shape};
 ghost use Rattle.fx_typing.specs.Local as local;
-ghost use Rattle.fx_typing.specs.TypedView.{typed, piece};
+ghost use Rattle.fx_typing.specs.TypedView.{typed, piece_view};
 
 use crate::acting::acts;
 use fx_base::Memory;
@@ -22,7 +22,7 @@ fn is_branch(takes: Takes) -> bool
 
 /// The branches among the parts.
 pub fn branches<'a>(alloc: Global, row: Row, parts: &'a [Piece]) -> Result<Vec<&'a Typed>, Memory>
-    ensures { IfOk result (λ bs. map (λ b. typed b.now) bs.items ≡ local.branches row (length parts.now) 0 (map piece parts.now)) }
+    ensures { IfOk result (λ bs. map (λ b. typed b.now) bs.items ≡ local.branches row (length parts.now) 0 (map piece_view parts.now)) }
 {
     let mut found = Vec::new(alloc);
     for (place, part) in parts.iter().enumerate() {

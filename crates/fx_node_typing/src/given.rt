@@ -2,7 +2,7 @@
 ghost use Rattle.std.specs.Prelude.{◌≡◌, ◌∷◌, [], IfOk};
 ghost use Rattle.fx_types.specs.TypeView.{shape};
 ghost use Rattle.fx_typing.specs.Deeds as deeds;
-ghost use Rattle.fx_typing.specs.Answers.{Answers};
+ghost use Rattle.fx_typing.specs.Answers.{IsAnswerOf};
 ghost use Rattle.fx_typing.specs.TypedView.{typed};
 
 use crate::lists::come_to;
@@ -58,7 +58,7 @@ pub fn joins_to(alloc: Global, ty: &Ty, other: &Ty) -> Result<bool, Memory>
 
 /// A value that is given to a variable of this type, or the rule `VariableTypes`.
 pub fn give(alloc: Global, ty: &Ty, value: Typed) -> Result<Typed, Wrong>
-    ensures { Answers typed (deeds.given (shape ty.now) (typed value)) result }
+    ensures { IsAnswerOf typed (deeds.given_variable (shape ty.now) (typed value)) result }
 {
     if !joins_to(alloc, ty, &value.ty)? {
         return Err(Wrong::Refused(Rule::VariableTypes));

@@ -3,18 +3,18 @@
 
 pub mod acting;
 pub mod answering;
+pub mod argument_scopes;
+pub mod arity;
 pub mod common;
-pub mod few;
+pub mod first_break;
 pub mod given;
 pub mod limits;
 pub mod lists;
-pub mod local;
-pub mod lowest;
+pub mod node_rule;
 pub mod operators;
 pub mod records;
-pub mod standing;
 
 pub use acting::acts;
 pub use common::join_all;
-pub use local::{make, make_form};
+pub use node_rule::{make, make_form};
 pub use operators::function_of;

@@ -3,7 +3,7 @@ ghost use Rattle.std.specs.Prelude.{◌≡◌, nat_le};
 ghost use Rattle.fx_types.specs.TypeView.{shape};
 ghost use Rattle.fx_types.specs.Types.{column_list};
 ghost use Rattle.fx_typing.specs.Builds as limits;
-ghost use Rattle.fx_typing.specs.Answers.{Answers};
+ghost use Rattle.fx_typing.specs.Answers.{IsAnswerOf};
 ghost use Rattle.fx_typing.specs.TypedView.{typed};
 
 use fx_core::Rule;
@@ -67,7 +67,7 @@ pub fn is_bounded(ty: &Ty) -> bool
 
 /// A typed tree whose type keeps to the limits, or the rule `LimitPassed`.
 pub fn check_limits(tree: Typed) -> Result<Typed, Wrong>
-    ensures { Answers typed (limits.bounded_by (typed tree)) result }
+    ensures { IsAnswerOf typed (limits.bounded_by (typed tree)) result }
 {
     if !is_bounded(&tree.ty) {
         return Err(Wrong::Refused(Rule::LimitPassed));

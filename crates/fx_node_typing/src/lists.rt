@@ -4,10 +4,10 @@ ghost use Rattle.fx_types.specs.TypeView.{shape};
 ghost use Rattle.fx_typing.specs.Builds as builds;
 ghost use Rattle.fx_typing.specs.Local as local;
 ghost use Rattle.fx_typing.specs.Ways.{way};
-ghost use Rattle.fx_typing.specs.Answers.{Answers};
+ghost use Rattle.fx_typing.specs.Answers.{IsAnswerOf};
 ghost use Rattle.fx_typing.specs.TypedView.{typed};
 
-use crate::few::two;
+use crate::arity::two;
 use crate::limits::check_limits;
 use fx_base::Memory;
 use fx_core::{Core, CoreArgs, Rule, make_core};
@@ -54,7 +54,7 @@ fn join_types(alloc: Global, start: Option<Ty>, parts: &[Typed]) -> Result<Optio
 
 /// A value as one of a type, if it comes to it, or the rule `WrongType`.
 pub fn come_to(alloc: Global, part: Typed, ty: &Ty) -> Result<Typed, Wrong>
-    ensures { Answers typed (local.by_way (way (shape part.ty) (shape ty.now)) part.core (shape ty.now)) result }
+    ensures { IsAnswerOf typed (local.by_way (way (shape part.ty) (shape ty.now)) part.core (shape ty.now)) result }
 {
     let way = way_to(alloc, &part.ty, ty)?;
     by_way(alloc, way, part.core, ty)
@@ -62,7 +62,7 @@ pub fn come_to(alloc: Global, part: Typed, ty: &Ty) -> Result<Typed, Wrong>
 
 // All rows as ones of a type.
 fn rows_to(alloc: Global, ty: &Ty, parts: Vec<Typed>) -> Result<Vec<Typed>, Wrong>
-    ensures { Answers (λ rs. map typed rs.items) (builds.rows_to (shape ty.now) (map typed parts.items)) result }
+    ensures { IsAnswerOf (λ rs. map typed rs.items) (builds.rows_to (shape ty.now) (map typed parts.items)) result }
 {
     let mut rows = Vec::new(alloc);
     for part in parts {
@@ -85,7 +85,7 @@ fn list_by(alloc: Global, row: Ty, parts: Vec<Typed>) -> Result<Typed, Memory>
 
 // A table of rows of the join of their types, if there is one.
 fn list_as(alloc: Global, row: Option<Ty>, parts: Vec<Typed>) -> Result<Typed, Wrong>
-    ensures { Answers typed (builds.list_as (option_map shape row) (map typed parts.items)) result }
+    ensures { IsAnswerOf typed (builds.list_as (option_map shape row) (map typed parts.items)) result }
 {
     match row {
         None | Some(Ty::Tab(_)) => Err(Wrong::Refused(Rule::WrongType)),
@@ -98,7 +98,7 @@ fn list_as(alloc: Global, row: Option<Ty>, parts: Vec<Typed>) -> Result<Typed, W
 
 // `[]`, which has no columns.
 fn empty_list(alloc: Global) -> Result<Typed, Wrong>
-    ensures { Answers typed (builds.list_of []) result }
+    ensures { IsAnswerOf typed (builds.typed_list []) result }
 {
     let table = list_as(alloc, Some(Ty::Rec(Columns::new(alloc))), Vec::new(alloc))?;
     check_limits(table)
@@ -107,7 +107,7 @@ fn empty_list(alloc: Global) -> Result<Typed, Wrong>
 // `[..]` of one row or more.
 fn full_list(alloc: Global, parts: Vec<Typed>) -> Result<Typed, Wrong>
     requires { 0 < length parts.items }
-    ensures { Answers typed (builds.list_of (map typed parts.items)) result }
+    ensures { IsAnswerOf typed (builds.typed_list (map typed parts.items)) result }
 {
     let row = join_types(alloc, Some(Ty::Blank), parts.as_slice())?;
     let table = list_as(alloc, row, parts)?;
@@ -117,7 +117,7 @@ fn full_list(alloc: Global, parts: Vec<Typed>) -> Result<Typed, Wrong>
 /// `[..]`: a table of values or of records. Of type Blank alone it has values, and without rows it has
 /// no columns. The rule is `WrongType` or `LimitPassed`.
 pub fn list_of(alloc: Global, parts: Vec<Typed>) -> Result<Typed, Wrong>
-    ensures { Answers typed (builds.list_of (map typed parts.items)) result }
+    ensures { IsAnswerOf typed (builds.typed_list (map typed parts.items)) result }
 {
     if parts.is_empty() {
         return empty_list(alloc);
@@ -128,7 +128,7 @@ pub fn list_of(alloc: Global, parts: Vec<Typed>) -> Result<Typed, Wrong>
 /// `Table`: a table of records, of which one of type Blank is one without columns. The rule is
 /// `WrongType`.
 pub fn table_of(alloc: Global, parts: Vec<Typed>) -> Result<Typed, Wrong>
-    ensures { Answers typed (builds.table_of (map typed parts.items)) result }
+    ensures { IsAnswerOf typed (builds.typed_table (map typed parts.items)) result }
 {
     let start = Some(Ty::Rec(Columns::new(alloc)));
     let row = join_types(alloc, start, parts.as_slice())?;
@@ -137,7 +137,7 @@ pub fn table_of(alloc: Global, parts: Vec<Typed>) -> Result<Typed, Wrong>
 
 // A record, where one of type Blank is one without fields.
 fn as_record(alloc: Global, part: Typed) -> Result<Core, Wrong>
-    ensures { Answers (λ c. c) (builds.as_record (typed part)) result }
+    ensures { IsAnswerOf (λ c. c) (builds.as_record (typed part)) result }
 {
     let Typed { core, ty } = part;
     match ty {
@@ -150,7 +150,7 @@ fn as_record(alloc: Global, part: Typed) -> Result<Core, Wrong>
 /// `With`: a record, and a formula in its scope. The rule is `WrongType`, or `WrongCount` where there
 /// are not two parts.
 pub fn with_of(alloc: Global, parts: Vec<Typed>) -> Result<Typed, Wrong>
-    ensures { Answers typed (builds.with_of (map typed parts.items)) result }
+    ensures { IsAnswerOf typed (builds.with_of (map typed parts.items)) result }
 {
     let Some((record, formula)) = two(parts) else {
         return Err(Wrong::Refused(Rule::WrongCount));

@@ -79,7 +79,7 @@ fn ordering_function(numbers: Fun, dates: Fun, by: Option<Compared>) -> Option<F
 
 // Beside a Date the other operand is a Number or of type Blank.
 fn sum_of(a: &Ty, b: &Ty) -> Option<Fun>
-    ensures { result ≡ operators.sum_of (shape a.now) (shape b.now) }
+    ensures { result ≡ operators.date_sum (shape a.now) (shape b.now) }
 {
     match (a, b) {
         (Ty::Date, Ty::Number | Ty::Blank) => Some(Fun::AddDateNumber),

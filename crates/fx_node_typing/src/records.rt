@@ -1,12 +1,12 @@
 //! Records made of their fields.
 ghost use Rattle.std.specs.Prelude.{◌≡◌, IfOk, OnOk, length, map};
-ghost use Rattle.fx_types.specs.Rising.{AreRising};
+ghost use Rattle.fx_types.specs.Rising.{AreNamesRising};
 ghost use Rattle.fx_typing.specs.Builds as builds;
 ghost use Rattle.fx_typing.specs.Columns as columns;
 ghost use Rattle.fx_core.specs.ColumnLists as lists;
-ghost use Rattle.fx_typing.specs.Answers.{Answers};
+ghost use Rattle.fx_typing.specs.Answers.{IsAnswerOf};
 ghost use Rattle.fx_typing.specs.TypedView.{typed};
-ghost use Rattle.fx_node_typing.specs.Fields.{field_view, place_in};
+ghost use Rattle.fx_node_typing.specs.Fields.{field_view, field_index};
 
 use crate::limits::check_limits;
 use fx_base::Memory;
@@ -32,7 +32,7 @@ pub fn is_one_of(name: &Words, names: &[Words]) -> bool
 
 /// Whether no name stands twice.
 pub fn are_distinct(names: &[Words]) -> bool
-    ensures { result ≡ builds.are_distinct names.now }
+    ensures { result ≡ builds.are_names_distinct names.now }
 {
     for (place, name) in names.iter().enumerate() {
         if is_one_of(name, &names[place + 1..]) {
@@ -44,7 +44,7 @@ pub fn are_distinct(names: &[Words]) -> bool
 
 // The place of a name among fields: where it is, or where it would stand.
 fn place_of(name: &Words, fields: &[(Words, Typed)]) -> Result<usize, usize>
-    ensures { result ≡ place_in name.now fields.now }
+    ensures { result ≡ field_index name.now fields.now }
 {
     for (place, (other, _)) in fields.iter().enumerate() {
         match name.compare(other) {
@@ -93,7 +93,7 @@ fn put_fields(
 
 // A record of fields with rising names.
 fn record_by(alloc: Global, fields: Vec<(Words, Typed)>) -> Result<Typed, Memory>
-    requires { AreRising (map field_view fields.items) }
+    requires { AreNamesRising (map field_view fields.items) }
     ensures { IfOk result (λ t. typed t ≡ builds.record_by (map field_view fields.items)) }
 {
     let mut parts = CoreFields::new(alloc);
@@ -110,7 +110,7 @@ fn record_by(alloc: Global, fields: Vec<(Words, Typed)>) -> Result<Typed, Memory
 
 /// A record of these parts under these names, or the rule `NameTwice` or `LimitPassed`.
 pub fn record_of(alloc: Global, names: Vec<Words>, parts: Vec<Typed>) -> Result<Typed, Wrong>
-    ensures { Answers typed (builds.record_of names.items (map typed parts.items)) result }
+    ensures { IsAnswerOf typed (builds.typed_record names.items (map typed parts.items)) result }
 {
     if !are_distinct(names.as_slice()) {
         return Err(Wrong::Refused(Rule::NameTwice));

@@ -8,7 +8,7 @@ use Rattle.std.proofs.Math.Bool.{beq}
 use Rattle.fx_number.specs.declared.NumErr.{NumErr}
 use Rattle.fx_number.specs.declared.Way.{Way}
 use Rattle.fx_number.specs.declared.Way.TheVariants.{Near, Up, Down, Floor}
-use Rattle.fx_number.specs.Decimal.{nearest, signed, by_magnitude, quotient_of, remainder_of, floor_of_quotient, steps_of, IsInRange, Checked, greatest, step_of, power_of, ArePowersInRange}
+use Rattle.fx_number.specs.Decimal.{nearest, signed, by_magnitude, quotient_of, remainder_of, floor_of_quotient, divided, IsInRange, Checked, greatest, step_of, power_of, ArePowersInRange}
 
 pub nearest-zero : (d : ℕ) → 0 < d → nearest 0 d ≡ 0
 nearest-zero d h = div-eq_of_lt (omega arith)
@@ -142,7 +142,7 @@ step_count Down negative n d = n / d
 step_count Floor true n d = div_ceil n d
 step_count Floor false n d = n / d
 
-pub steps_of-signed : (way : Way) (p : Bool) (n d : ℕ) → 0 < d → steps_of way (signed p n) d ≡ signed p (step_count way p n d)
+pub steps_of-signed : (way : Way) (p : Bool) (n d : ℕ) → 0 < d → divided way (signed p n) d ≡ signed p (step_count way p n d)
 steps_of-signed Near p n d h = sym (signed-by_magnitude (λ k. nearest k d) p n (nearest-zero d h))
 steps_of-signed Up p n d h = sym (signed-by_magnitude (λ k. div_ceil k d) p n (div_ceil-zero d))
 steps_of-signed Down p n d h = sym (signed-by_magnitude (λ k. k / d) p n (zero-div d))
@@ -167,7 +167,7 @@ step_count-wide Down p n d e h k = div-wide n d h ∙ sym (div-wide n e k)
 step_count-wide Floor true n d e h k = div_ceil-wide n d h ∙ sym (div_ceil-wide n e k)
 step_count-wide Floor false n d e h k = div-wide n d h ∙ sym (div-wide n e k)
 
-steps_of-wide : (way : Way) (p : Bool) (n d e : ℕ) → 2 * n < d → 2 * n < e → steps_of way (signed p n) d ≡ steps_of way (signed p n) e
+steps_of-wide : (way : Way) (p : Bool) (n d e : ℕ) → 2 * n < d → 2 * n < e → divided way (signed p n) d ≡ divided way (signed p n) e
 steps_of-wide way p n d e h k =
     steps_of-signed way p n d (omega arith) ∙ ap (λ m. signed p m) (step_count-wide way p n d e h k) ∙ sym (steps_of-signed way p n e (omega arith))
 
@@ -183,9 +183,9 @@ no-steps : (p : Bool) (d : ℕ) → signed (differ p false) (0 * d) ≡ signed p
 no-steps p d = grind arith
 
 -- steps of 10^20 answer for all wider ones
-wide-steps : (way : Way) (p : Bool) (n k d : ℕ) (r : Result ℤ NumErr) → n ≤ greatest → signed p k ≡ steps_of way (signed p n) (10 ^ 20) → 10 ^ 20 < d → Checked (signed p (k * 10 ^ 20)) r → Checked (steps_of way (signed p n) d *ℤ pos d) r
+wide-steps : (way : Way) (p : Bool) (n k d : ℕ) (r : Result ℤ NumErr) → n ≤ greatest → signed p k ≡ divided way (signed p n) (10 ^ 20) → 10 ^ 20 < d → Checked (signed p (k * 10 ^ 20)) r → Checked (divided way (signed p n) d *ℤ pos d) r
 wide-steps way p n zero d r h e wide checked =
-    let none : signed p 0 ≡ steps_of way (signed p n) d *ℤ pos d = sym (rw (steps_of-wide way p n d (10 ^ 20) (omega arith) (omega arith), ← e, signed-*ℤ p false 0 d) (no-steps p d)) in
+    let none : signed p 0 ≡ divided way (signed p n) d *ℤ pos d = sym (rw (steps_of-wide way p n d (10 ^ 20) (omega arith) (omega arith), ← e, signed-*ℤ p false 0 d) (no-steps p d)) in
     let P : ℤ → Type 0 = λ z. Checked z r in subst P none checked
 wide-steps way p n (suc k) d r h e wide checked =
     rw (steps_of-wide way p n d (10 ^ 20) (omega arith) (omega arith), ← e, signed-*ℤ p false (suc k) d)
@@ -195,7 +195,7 @@ differ-false : (p : Bool) → differ p false ≡ p
 differ-false true = refl
 differ-false false = refl
 
-pub Checked-steps : (way : Way) (p : Bool) (n k d s : ℕ) (r : Result ℤ NumErr) → n ≤ greatest → 0 < s → s ≡ min d (10 ^ 20) → signed p k ≡ steps_of way (signed p n) s → Checked (signed p (k * s)) r → Checked (steps_of way (signed p n) d *ℤ pos d) r
+pub Checked-steps : (way : Way) (p : Bool) (n k d s : ℕ) (r : Result ℤ NumErr) → n ≤ greatest → 0 < s → s ≡ min d (10 ^ 20) → signed p k ≡ divided way (signed p n) s → Checked (signed p (k * s)) r → Checked (divided way (signed p n) d *ℤ pos d) r
 Checked-steps way p n k d s r h positive e steps checked = elim (cases_lt (10 ^ 20) d) [
   | inl wide ↦
       let same : s ≡ 10 ^ 20 = omega (arith, e) in

@@ -97,12 +97,12 @@ step_of (pos digits) = 10 ^ (4 - digits)
 step_of (negsuc n) = 10 ^ (5 + n)
 
 -- z / d as a whole number: half away from zero, away from zero, towards zero, down
-abbrev pub steps_of : Way → ℤ → ℕ → ℤ
-steps_of Near z d = rounded z d
-steps_of Up z d = by_magnitude (λ n. div_ceil n d) z
-steps_of Down z d = by_magnitude (λ n. n / d) z
-steps_of Floor z d = floored z d
+abbrev pub divided : Way → ℤ → ℕ → ℤ
+divided Near z d = rounded z d
+divided Up z d = by_magnitude (λ n. div_ceil n d) z
+divided Down z d = by_magnitude (λ n. n / d) z
+divided Floor z d = floored z d
 
 -- a rounded to a number of decimals, which may be negative
 abbrev pub rounded_to : ℤ → ℤ → Way → ℤ
-rounded_to a digits way = steps_of way a (step_of digits) *ℤ pos (step_of digits)
+rounded_to a digits way = divided way a (step_of digits) *ℤ pos (step_of digits)

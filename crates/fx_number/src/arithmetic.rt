@@ -1,7 +1,7 @@
 //! Arithmetic that is exact and rounds once. Products and quotients are computed in 128 bits.
 
 ghost use Rattle.std.specs.Prelude.{◌≡◌, ◌+ℤ◌, ◌-ℤ◌, ℤ, ◌+◌, ◌*◌, ◌^◌, ◌<◌, ◌≤◌, min, MatchOption, Ok};
-ghost use Rattle.fx_number.specs.Decimal.{Checked, CheckedOnWay, UnlessZero, nearest, product_of, quotient_of, remainder_of, signed, power_of, ArePowersInRange, IsPower, IsExponent, step_of, steps_of, rounded_to};
+ghost use Rattle.fx_number.specs.Decimal.{Checked, CheckedOnWay, UnlessZero, nearest, product_of, quotient_of, remainder_of, signed, power_of, ArePowersInRange, IsPower, IsExponent, step_of, divided, rounded_to};
 
 use crate::{Num, NumErr, Way};
 
@@ -126,7 +126,7 @@ fn steps(magnitude: u128, step: u128, negative: bool, way: Way) -> u128
     requires magnitude { magnitude < 2 ^ 63 }
     requires step { 0 < step }
     requires step_small { step ≤ 10 ^ 20 }
-    ensures value { signed negative result ≡ steps_of way (signed negative magnitude) step }
+    ensures value { signed negative result ≡ divided way (signed negative magnitude) step }
     ensures bound { result * step ≤ magnitude + step }
 {
     match way {

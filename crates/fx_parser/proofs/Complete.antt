@@ -15,10 +15,10 @@ use Rattle.fx_grammar.specs.declared.line.Left.{Left}
 use Rattle.fx_grammar.specs.declared.line.Left.TheVariants as left
 use Rattle.fx_grammar.specs.declared.line.Line.{Line}
 use Rattle.fx_grammar.specs.declared.line.Line.TheVariants.{Chain, Several, By, Alias, Prefix, Power, Percent, Access, Atom}
-use Rattle.fx_grammar.specs.Grammar.{separates, part_of, operator, under, sign, leaf_of, callee, Parses, plain, ended, one, many, first, next, no_alias, aliased, no_sign, signed, base, raised, no_percent, percent, no_dot, dotted, leaf, a_global, a_call, brackets, a_record, a_list, a_weave, Parts, alone, further, Args, no_args, some_args, Field, field, SomeFields, one_field, further_field, Fields, no_fields, some_fields, Strands, no_strands, piece, island}
+use Rattle.fx_grammar.specs.Grammar.{separates, part_of, operator, operand_line, sign, atom_head, callee, Parses, plain, ended, one, many, first, next, no_alias, aliased, no_sign, signed, base, raised, no_percent, percent, no_dot, dotted, leaf, a_global, a_call, brackets, a_record, a_list, a_weave, Parts, alone, further, Args, no_args, some_args, Field, field, SomeFields, one_field, further_field, Fields, no_fields, some_fields, Strands, no_strands, piece, island}
 use Rattle.std.specs.Prelude.{option_and_then}
 use Rattle.fx_grammar.specs.Grammar.{IsFormula, bare, marked}
-use Rattle.fx_grammar.specs.Formulas.{Entry, AreNamed, no_entries, last_entry, further_entry}
+use Rattle.fx_grammar.specs.Formulas.{NamedFormula, AreNamed, no_entries, last_entry, further_entry}
 use Rattle.fx_parser.specs.declared.state.Whole.{Whole}
 use Rattle.fx_parser.specs.declared.state.Whole.TheVariants as whole
 use Rattle.fx_parser.specs.declared.state.Frame.{Frame}
@@ -31,7 +31,7 @@ use Rattle.fx_parser.specs.declared.state.Follow.{Follow}
 use Rattle.fx_parser.specs.declared.state.Follow.TheVariants as follow
 use Rattle.fx_parser.specs.declared.state.Move.{Move}
 use Rattle.fx_parser.specs.declared.state.Move.TheVariants.{Stay, Stop}
-use Rattle.fx_parser.specs.Machine.{begin_of, follow_of, or_else, operand, closed, semicolon, behind_alias, behind_percent, behind_access, behind_name, name_then, turn, top, moved, run, ends, accepted}
+use Rattle.fx_parser.specs.Machine.{begin_of, follow_of, or_move, operand, closed, semicolon, behind_alias, behind_percent, behind_access, behind_name, name_then, turn, top, place_moved, run, ends, accepted}
 use Rattle.fx_parser.specs.Trees.{HasFormula, HasEntries}
 use Rattle.fx_parser.proofs.RecognizedLines.{IsInner}
 
@@ -40,16 +40,16 @@ abbrev pub Ends : Whole → State → List Frame → List Item → Type 0
 Ends w s fs ts = accepted w (run w s fs ts) ≡ true
 
 abbrev pub Goes : Whole → List Frame → List Item → Move → Type 0
-Goes w fs us k = accepted w (option_and_then (λ p. run w p.0 p.1 us) (moved fs k)) ≡ true
+Goes w fs us k = accepted w (option_and_then (λ p. run w p.0 p.1 us) (place_moved fs k)) ≡ true
 
 pub via : (w : Whole) (s : State) (fs : List Frame) (x : Item) (us : List Item) (k : Meaning) → x.meaning ≡ k → Goes w fs us (turn w s (top fs) k) → Ends w s fs (x ∷ us)
-via w s fs x us k e h = ap (λ k. accepted w (option_and_then (λ p. run w p.0 p.1 us) (moved fs (turn w s (top fs) k)))) e ∙ h
+via w s fs x us k e h = ap (λ k. accepted w (option_and_then (λ p. run w p.0 p.1 us) (place_moved fs (turn w s (top fs) k)))) e ∙ h
 
 begins : (w : Whole) (fs : List Frame) (x : Item) (us : List Item) (b : Begin) → begin_of x.meaning ≡ b → Goes w fs us (operand b) → Ends w state.Operand fs (x ∷ us)
-begins w fs x us b e h = ap (λ b. accepted w (option_and_then (λ p. run w p.0 p.1 us) (moved fs (operand b)))) e ∙ h
+begins w fs x us b e h = ap (λ b. accepted w (option_and_then (λ p. run w p.0 p.1 us) (place_moved fs (operand b)))) e ∙ h
 
 follows : (w : Whole) (fs : List Frame) (x : Item) (us : List Item) (f : Follow) → follow_of x.meaning ≡ f → Goes w fs us (behind_alias w (top fs) f) → Ends w state.AfterAlias fs (x ∷ us)
-follows w fs x us f e h = ap (λ f. accepted w (option_and_then (λ p. run w p.0 p.1 us) (moved fs (behind_alias w (top fs) f)))) e ∙ h
+follows w fs x us f e h = ap (λ f. accepted w (option_and_then (λ p. run w p.0 p.1 us) (place_moved fs (behind_alias w (top fs) f)))) e ∙ h
 
 -- a state that takes more
 alias_percent : (w : Whole) (fs : List Frame) (us : List Item) (f : Follow) → Goes w fs us (behind_alias w (top fs) f) → Goes w fs us (behind_percent w (top fs) f)
@@ -66,7 +66,7 @@ access_name : (w : Whole) (fs : List Frame) (us : List Item) (f : Follow) → Go
 access_name w fs us follow.Call h = cc
 access_name w fs us _ h = h
 
-else_goes : (w : Whole) (fs : List Frame) (us : List Item) (k n : Move) → Goes w fs us k → Goes w fs us (or_else k n)
+else_goes : (w : Whole) (fs : List Frame) (us : List Item) (k n : Move) → Goes w fs us k → Goes w fs us (or_move k n)
 else_goes w fs us Stop n h = cc
 else_goes w fs us _ n h = h
 
@@ -122,7 +122,7 @@ to_first w fs [] h = absurd (not_label w fs h)
 to_first w fs (x ∷ us) h = else_goes w fs us (name_then (begin_of x.meaning) state.Colon) _ h
 
 -- tokens by what they are
-leaf_begins : (k : Meaning) (h : Head) → leaf_of k ≡ Some h → (begin_of k ≡ begin.Leaf) ⊎ (begin_of k ≡ begin.Name)
+leaf_begins : (k : Meaning) (h : Head) → atom_head k ≡ Some h → (begin_of k ≡ begin.Leaf) ⊎ (begin_of k ≡ begin.Name)
 leaf_begins (m.Number z) h e = inl refl
 leaf_begins (m.Text cs) h e = inl refl
 leaf_begins (m.Name cs) h e = inr refl
@@ -200,7 +200,7 @@ Parted w (Between join.Chain) fs = InChain w fs
 Parted w Comma fs = InArgs w fs
 Parted w _ fs = Unit {0}
 
-fit_under : (w : Whole) (l : Left) (fs : List Frame) (rest : List Item) → Ends w state.AfterAlias fs rest → Fit w (under l) fs rest
+fit_under : (w : Whole) (l : Left) (fs : List Frame) (rest : List Item) → Ends w state.AfterAlias fs rest → Fit w (operand_line l) fs rest
 fit_under w left.Member fs rest h = h
 fit_under w left.Comp fs rest h = h
 fit_under w left.Sum fs rest h = h
@@ -213,11 +213,11 @@ fit_part w join.And fs rest h = (h, tt)
 fit_part w join.Cat fs rest h = (h, tt)
 
 semicolon_goes : (w : Whole) (fs : List Frame) (x : Item) (us : List Item) → x.meaning ≡ m.Symbol symbol.Semicolon → InChain w fs → Ends w state.OperandOrEnd fs us → Ends w state.AfterAlias fs (x ∷ us)
-semicolon_goes w fs x us e i h = via w state.AfterAlias fs x us (m.Symbol symbol.Semicolon) e (ap (λ k. accepted w (option_and_then (λ p. run w p.0 p.1 us) (moved fs k))) i ∙ h)
+semicolon_goes w fs x us e i h = via w state.AfterAlias fs x us (m.Symbol symbol.Semicolon) e (ap (λ k. accepted w (option_and_then (λ p. run w p.0 p.1 us) (place_moved fs k))) i ∙ h)
 
 comma_goes : (w : Whole) (fs : List Frame) (x : Item) (us : List Item) → x.meaning ≡ m.Symbol symbol.Comma → InArgs w fs → Ends w state.Operand fs us → Fit w Chain fs (x ∷ us)
 comma_goes w fs x us e i h =
-    let g = ap (λ k. accepted w (option_and_then (λ p. run w p.0 p.1 us) (moved fs k))) i.0 ∙ h in
+    let g = ap (λ k. accepted w (option_and_then (λ p. run w p.0 p.1 us) (place_moved fs k))) i.0 ∙ h in
     (via w state.AfterAlias fs x us (m.Symbol symbol.Comma) e g, via w state.OperandOrEnd fs x us (m.Symbol symbol.Comma) e g, i.1)
 
 fit_between : (w : Whole) (s : Separator) (fs : List Frame) (x : Item) (us : List Item) → Parted w s fs → separates s x.meaning ≡ true → Ends w state.Operand fs us → Fit w (part_of s) fs (x ∷ us)
@@ -305,7 +305,7 @@ formula_ends ts h = formula_by h.2
 entry_goes : (x y : Item) (cs : List ℕ) (us : List Item) → x.meaning ≡ m.Name cs → y.meaning ≡ m.Symbol symbol.Equal → Ends whole.Named state.Operand [] us → Ends whole.Named state.Entry [] (x ∷ y ∷ us)
 entry_goes x y cs us e f h = via whole.Named state.Entry [] x (y ∷ us) (m.Name cs) e (via whole.Named state.EntryEqual [] y us (m.Symbol symbol.Equal) f h)
 
-entries_by : {ts : List Item} {d : ℕ} {es : List Entry} → AreNamed ts d es → Ends whole.Named state.Entry [] ts
+entries_by : {ts : List Item} {d : ℕ} {es : List NamedFormula} → AreNamed ts d es → Ends whole.Named state.Entry [] ts
 entries_by no_entries = refl
 entries_by (last_entry x y cs ts d t e f p) = entry_goes x y cs ts e f (goes p whole.Named [] refl)
 entries_by (further_entry x y cs ts d t z rest c es e f p g h) = entry_goes x y cs (ts ++ z ∷ rest) e f (goes p whole.Named [] (via whole.Named state.AfterAlias [] z rest (m.Symbol symbol.Semicolon) g (entries_by h)))

@@ -7,18 +7,18 @@ use Rattle.fx_lexer.specs.Slices.{lexemes, AreSlicesFrom, AreSlices}
 use Rattle.fx_lexer.proofs.Cuts.{slices_of}
 use Rattle.fx_lexer.proofs.Readings.{lexemes_one}
 use Rattle.fx_grammar.specs.declared.item.Item.{Item}
-use Rattle.fx_grammar.specs.Grammar.{place}
+use Rattle.fx_grammar.specs.Grammar.{first_byte}
 use Rattle.fx_grammar.specs.Formulas.{end}
-use Rattle.fx_grammar.specs.Means.{Means, number, text, plain_name, quoted_name, word, symbol, opening, closing, piece, AllMean, no_more, one_more}
+use Rattle.fx_grammar.specs.Means.{TokenMeans, number, text, plain_name, quoted_name, word, symbol, opening, closing, piece, AllMean, no_more, one_more}
 use Rattle.fx_grammar.proofs.MeantSound.{texts}
-use Rattle.fx_parser.specs.Entries.{AreCutsFrom, AreCuts, head_of, next_of}
+use Rattle.fx_parser.specs.Entries.{AreCutsFrom, AreCuts, entry_head, next_of}
 use Rattle.fx_core.specs.Tree.{Tree}
 use Rattle.fx_grammar.specs.declared.line.Join.TheVariants as join
 use Rattle.fx_grammar.specs.declared.line.Line.TheVariants.{Several}
-use Rattle.fx_grammar.specs.Reading.{Seen, line_at}
+use Rattle.fx_grammar.specs.Reading.{Parsed, line_at}
 use Rattle.fx_parser.proofs.Firsts.{front, front_joins, head_shape, next_shape, NextIs}
 
-placed : {l : Lexeme} {x : Item} → Means l x → (x.at ≡ l.at) × (x.upto ≡ l.at + width l.text)
+placed : {l : Lexeme} {x : Item} → TokenMeans l x → (x.at ≡ l.at) × (x.upto ≡ l.at + width l.text)
 placed (number l ds es e f b) = (refl, refl)
 placed (text l cs e f) = (refl, refl)
 placed (plain_name l e f) = (refl, refl)
@@ -63,9 +63,9 @@ behind source from (x ∷ ts) us h = behind source x.upto ts us h.4
 
 -- These tokens are a slice of the source.
 pub record IsRange (source : List ℕ) (from : ℕ) (ts : List Item) : Type 0 where
-  pub begins : IsCharBoundary source (place ts)
-  pub above : from ≤ place ts
-  pub ordered : place ts ≤ end ts
+  pub begins : IsCharBoundary source (first_byte ts)
+  pub above : from ≤ first_byte ts
+  pub ordered : first_byte ts ≤ end ts
   pub ends : IsCharBoundary source (end ts)
 
 range : (source : List ℕ) (from : ℕ) (ts : List Item) → AreCutsFrom source from ts → 0 < length ts → IsRange source from ts
@@ -81,10 +81,10 @@ range source from (x ∷ y ∷ us) h n =
 pub range_of : (source : List ℕ) (ts us : List Item) → AreCuts source (ts ++ us) → 0 < length ts → IsRange source 0 ts
 range_of source ts us h n = range source 0 ts (before source 0 ts us h) n
 
-pub body_cuts : (source : List ℕ) (ts : List Item) (cs : List ℕ) (body : List Item) → AreCuts source ts → head_of ts ≡ Some (cs, body) → AreCuts source body
+pub body_cuts : (source : List ℕ) (ts : List Item) (cs : List ℕ) (body : List Item) → AreCuts source ts → entry_head ts ≡ Some (cs, body) → AreCuts source body
 body_cuts source ts cs body h e = let k = head_shape ts cs body e in behind source 0 (k.0 ∷ k.1 ∷ []) body (subst (λ (us : List Item). AreCuts source us) k.2 h)
 
-pub front_range : (source : List ℕ) (body : List Item) (s : Seen Tree) → AreCuts source body → line_at 64 (Several join.Or) body ≡ Some s → length s.2 < length body → IsRange source 0 (front body s.2)
+pub front_range : (source : List ℕ) (body : List Item) (s : Parsed Tree) → AreCuts source body → line_at 64 (Several join.Or) body ≡ Some s → length s.2 < length body → IsRange source 0 (front body s.2)
 front_range source body s h e n =
     let f = front_joins body s e in
     let l = ap length f in
@@ -94,5 +94,5 @@ next_cuts : (source : List ℕ) (ts us : List Item) → AreCuts source ts → Ne
 next_cuts source [] us h n = subst (λ (vs : List Item). AreCuts source vs) (sym n) tt
 next_cuts source (z ∷ vs) us h n = subst (λ (ws : List Item). AreCuts source ws) (sym n.1) (behind source 0 (z ∷ []) vs h)
 
-pub others_cuts : (source : List ℕ) (body : List Item) (s : Seen Tree) (us : List Item) → AreCuts source body → line_at 64 (Several join.Or) body ≡ Some s → next_of s.2 ≡ Some us → AreCuts source us
+pub others_cuts : (source : List ℕ) (body : List Item) (s : Parsed Tree) (us : List Item) → AreCuts source body → line_at 64 (Several join.Or) body ≡ Some s → next_of s.2 ≡ Some us → AreCuts source us
 others_cuts source body s us h e f = next_cuts source s.2 us (behind source 0 (front body s.2) s.2 (subst (λ (ws : List Item). AreCuts source ws) (front_joins body s e) h)) (next_shape s.2 us f)

@@ -10,9 +10,9 @@ use Rattle.fx_grammar.specs.declared.line.Join.TheVariants as join
 use Rattle.fx_grammar.specs.declared.line.Line.TheVariants.{Several}
 use Rattle.std.specs.Prelude.{slice_range}
 use Rattle.std.specs.Str.{chars}
-use Rattle.fx_grammar.specs.Grammar.{place, Parses}
-use Rattle.fx_grammar.specs.Formulas.{end, Entry, entry, AreNamed, no_entries, last_entry, further_entry, AreEntriesOf, AreDeeper}
-use Rattle.fx_grammar.specs.Reading.{Seen, line_at}
+use Rattle.fx_grammar.specs.Grammar.{first_byte, Parses}
+use Rattle.fx_grammar.specs.Formulas.{end, NamedFormula, named_formula, AreNamed, no_entries, last_entry, further_entry, AreEntriesOf, AreDeeper}
+use Rattle.fx_grammar.specs.Reading.{Parsed, line_at}
 use Rattle.fx_grammar.proofs.Tokens.{Below, rank}
 use Rattle.fx_grammar.proofs.Complete.{complete}
 use Rattle.fx_grammar.proofs.Sound.{Kept, Is, reads}
@@ -23,32 +23,32 @@ use Rattle.fx_parser.specs.Texts.{named_of}
 use Rattle.std.specs.Borrow.{Bor}
 use Rattle.fx_parser.specs.declared.descent_end.End.{End}
 use Rattle.fx_parser.specs.declared.descent_end.End.TheVariants.{Refused, Memory}
-use Rattle.fx_parser.specs.Answer.{Gives}
-use Rattle.fx_parser.specs.Entries.{head_by, head_of, next_by, next_of, IsFirst, AreThese, AreRefused}
+use Rattle.fx_parser.specs.Answer.{ParserAnswers}
+use Rattle.fx_parser.specs.Entries.{entry_head_by, entry_head, next_by, next_of, IsFirstFormula, AreThese, AreTooDeep}
 
 -- What tokens that are named formulas begin with.
 pub record Begins (ts : List Item) : Type 0 where
   pub name : List ℕ
   pub body : List Item
-  pub is_head : head_of ts ≡ Some (name, body)
-  pub seen : Seen Tree
+  pub is_head : entry_head ts ≡ Some (name, body)
+  pub seen : Parsed Tree
   pub is_tree : line_at 64 (Several join.Or) body ≡ Some seen
   pub others : List Item
   pub is_next : next_of seen.2 ≡ Some others
   pub depth : ℕ
-  pub entries : List Entry
+  pub entries : List NamedFormula
   pub rest : AreNamed others depth entries
   pub shallow : depth ≤ 64
 
 pub semicolon_below : (z : Item) (us : List Item) → z.meaning ≡ m.Symbol symbol.Semicolon → Below 11 (z ∷ us)
 semicolon_below z us e = subst (λ (n : ℕ). 11 < n) (sym (ap rank e)) (omega arith)
 
-pub begins : {ts : List Item} {d : ℕ} {es : List Entry} → AreNamed ts d es → d ≤ 64 → 0 < length ts → Begins ts
+pub begins : {ts : List Item} {d : ℕ} {es : List NamedFormula} → AreNamed ts d es → d ≤ 64 → 0 < length ts → Begins ts
 begins no_entries h n = absurd (omega arith)
 begins (last_entry x y cs ts d t e f p) h n = record {
   name = cs;
   body = ts;
-  is_head = λ i. head_by (e i) (f i) ts;
+  is_head = λ i. entry_head_by (e i) (f i) ts;
   seen = (t, d, []);
   is_tree = complete p 63 h tt;
   others = [];
@@ -61,7 +61,7 @@ begins (last_entry x y cs ts d t e f p) h n = record {
 begins (further_entry x y cs ts d t z rest e es f g p k q) h n = record {
   name = cs;
   body = ts ++ z ∷ rest;
-  is_head = λ i. head_by (f i) (g i) (ts ++ z ∷ rest);
+  is_head = λ i. entry_head_by (f i) (g i) (ts ++ z ∷ rest);
   seen = (t, d, z ∷ rest);
   is_tree = complete p 63 (omega arith) (semicolon_below z rest k);
   others = rest;
@@ -76,27 +76,27 @@ begins (further_entry x y cs ts d t z rest e es f g p k q) h n = record {
 pub unless : (ts : List Item) → 0 < length ts → (Begins ts → ⊥) → AreDeeper 64 ts
 unless ts n f d es p = above 64 d (λ h. f (begins p h n))
 
-same_head : (ts : List Item) (cs : List ℕ) (body : List Item) → head_of ts ≡ Some (cs, body) → (b : Begins ts) → b.body ≡ body
+same_head : (ts : List Item) (cs : List ℕ) (body : List Item) → entry_head ts ≡ Some (cs, body) → (b : Begins ts) → b.body ≡ body
 same_head ts cs body e b =
     let f : ◌≡◌ {A = Option (List ℕ × List Item)} (Some (b.name, b.body)) (Some (cs, body)) = sym b.is_head ∙ e in
     let g : ◌≡◌ {A = List ℕ × List Item} (b.name, b.body) (cs, body) = cc in
     ap (λ (z : List ℕ × List Item). z.1) g
 
-same_tree : (ts : List Item) (cs : List ℕ) (body : List Item) (o : Option (Seen Tree)) → head_of ts ≡ Some (cs, body) → line_at 64 (Several join.Or) body ≡ o → (b : Begins ts) → o ≡ Some b.seen
+same_tree : (ts : List Item) (cs : List ℕ) (body : List Item) (o : Option (Parsed Tree)) → entry_head ts ≡ Some (cs, body) → line_at 64 (Several join.Or) body ≡ o → (b : Begins ts) → o ≡ Some b.seen
 same_tree ts cs body o e f b = sym f ∙ ap (line_at 64 (Several join.Or)) (sym (same_head ts cs body e b)) ∙ b.is_tree
 
-pub no_tree : (ts : List Item) (cs : List ℕ) (body : List Item) → 0 < length ts → head_of ts ≡ Some (cs, body) → line_at 64 (Several join.Or) body ≡ None → AreDeeper 64 ts
+pub no_tree : (ts : List Item) (cs : List ℕ) (body : List Item) → 0 < length ts → entry_head ts ≡ Some (cs, body) → line_at 64 (Several join.Or) body ≡ None → AreDeeper 64 ts
 no_tree ts cs body n e f = unless ts n (λ b. let g = same_tree ts cs body None e f b in cc)
 
-same_seen : (ts : List Item) (cs : List ℕ) (body : List Item) (s : Seen Tree) → head_of ts ≡ Some (cs, body) → line_at 64 (Several join.Or) body ≡ Some s → (b : Begins ts) → s ≡ b.seen
+same_seen : (ts : List Item) (cs : List ℕ) (body : List Item) (s : Parsed Tree) → entry_head ts ≡ Some (cs, body) → line_at 64 (Several join.Or) body ≡ Some s → (b : Begins ts) → s ≡ b.seen
 same_seen ts cs body s e f b = let g = same_tree ts cs body (Some s) e f b in cc
 
-pub no_next : (ts : List Item) (cs : List ℕ) (body : List Item) (s : Seen Tree) → 0 < length ts → head_of ts ≡ Some (cs, body) → line_at 64 (Several join.Or) body ≡ Some s → next_of s.2 ≡ None → AreDeeper 64 ts
-no_next ts cs body s n e f g = unless ts n (λ b. let k : Some b.others ≡ None = sym b.is_next ∙ ap (λ (z : Seen Tree). next_of z.2) (sym (same_seen ts cs body s e f b)) ∙ g in cc)
+pub no_next : (ts : List Item) (cs : List ℕ) (body : List Item) (s : Parsed Tree) → 0 < length ts → entry_head ts ≡ Some (cs, body) → line_at 64 (Several join.Or) body ≡ Some s → next_of s.2 ≡ None → AreDeeper 64 ts
+no_next ts cs body s n e f g = unless ts n (λ b. let k : Some b.others ≡ None = sym b.is_next ∙ ap (λ (z : Parsed Tree). next_of z.2) (sym (same_seen ts cs body s e f b)) ∙ g in cc)
 
-pub others_deeper : (ts : List Item) (cs : List ℕ) (body : List Item) (s : Seen Tree) (us : List Item) → 0 < length ts → head_of ts ≡ Some (cs, body) → line_at 64 (Several join.Or) body ≡ Some s → next_of s.2 ≡ Some us → AreDeeper 64 us → AreDeeper 64 ts
+pub others_deeper : (ts : List Item) (cs : List ℕ) (body : List Item) (s : Parsed Tree) (us : List Item) → 0 < length ts → entry_head ts ≡ Some (cs, body) → line_at 64 (Several join.Or) body ≡ Some s → next_of s.2 ≡ Some us → AreDeeper 64 us → AreDeeper 64 ts
 others_deeper ts cs body s us n e f g h = unless ts n (λ b.
-    let k : Some us ≡ Some b.others = sym g ∙ ap (λ (z : Seen Tree). next_of z.2) (same_seen ts cs body s e f b) ∙ b.is_next in
+    let k : Some us ≡ Some b.others = sym g ∙ ap (λ (z : Parsed Tree). next_of z.2) (same_seen ts cs body s e f b) ∙ b.is_next in
     let j : us ≡ b.others = cc in
     let r : 64 < b.depth = subst (AreDeeper 64) j h b.depth b.entries b.rest in
     let l = b.shallow in omega arith)
@@ -106,11 +106,11 @@ abbrev pub HeadIs : List Item → Option (List ℕ × List Item) → Type 0
 HeadIs ts None = Unit {0}
 HeadIs ts (Some h) = (x : Item) × (y : Item) × (ts ≡ x ∷ y ∷ h.1) × (x.meaning ≡ m.Name h.0) × (y.meaning ≡ m.Symbol symbol.Equal)
 
-head_is_by : (x y : Item) (us : List Item) (j k : Meaning) → x.meaning ≡ j → y.meaning ≡ k → HeadIs (x ∷ y ∷ us) (head_by j k us)
+head_is_by : (x y : Item) (us : List Item) (j k : Meaning) → x.meaning ≡ j → y.meaning ≡ k → HeadIs (x ∷ y ∷ us) (entry_head_by j k us)
 head_is_by x y us (m.Name cs) (m.Symbol symbol.Equal) e f = (x, y, refl, e, f)
 head_is_by x y us _ _ e f = tt
 
-head_is : (ts : List Item) → HeadIs ts (head_of ts)
+head_is : (ts : List Item) → HeadIs ts (entry_head ts)
 head_is [] = tt
 head_is (x ∷ []) = tt
 head_is (x ∷ y ∷ us) = head_is_by x y us x.meaning y.meaning refl refl
@@ -129,11 +129,11 @@ next_is [] = refl
 next_is (x ∷ us) = next_is_by x us x.meaning refl
 
 -- no tokens are no named formulas
-abbrev Empty : List Item → List Entry → Type 0
+abbrev Empty : List Item → List NamedFormula → Type 0
 Empty [] es = es ≡ []
 Empty (x ∷ us) es = Unit {0}
 
-empty : {ts : List Item} {d : ℕ} {es : List Entry} → AreNamed ts d es → Empty ts es
+empty : {ts : List Item} {d : ℕ} {es : List NamedFormula} → AreNamed ts d es → Empty ts es
 empty no_entries = refl
 empty (last_entry x y cs ts d t e f p) = tt
 empty (further_entry x y cs ts d t z rest e es f g p k q) = tt
@@ -149,50 +149,50 @@ front_is body rest s =
     let f : front body rest ≡ s.front = (λ i. take (n i) (s.joined i)) ∙ take_at s.front rest (length s.front) refl in
     s.joined ∙ ap (λ xs. xs ++ rest) (sym f)
 
-onward_by : (x y : Item) (cs : List ℕ) (ts : List Item) (d : ℕ) (t : Tree) (rest us : List Item) (es : List Entry) → x.meaning ≡ m.Name cs → y.meaning ≡ m.Symbol symbol.Equal → d ≤ 64 → Parses (Several join.Or) d (ts ++ rest) t rest
-    → NextIs rest (Some us) → AreEntriesOf 64 us es → AreEntriesOf 64 (x ∷ y ∷ (ts ++ rest)) (entry cs ts t ∷ es)
+onward_by : (x y : Item) (cs : List ℕ) (ts : List Item) (d : ℕ) (t : Tree) (rest us : List Item) (es : List NamedFormula) → x.meaning ≡ m.Name cs → y.meaning ≡ m.Symbol symbol.Equal → d ≤ 64 → Parses (Several join.Or) d (ts ++ rest) t rest
+    → NextIs rest (Some us) → AreEntriesOf 64 us es → AreEntriesOf 64 (x ∷ y ∷ (ts ++ rest)) (named_formula cs ts t ∷ es)
 onward_by x y cs ts d t [] us es e f h p n q =
     let none : es ≡ [] = empty (subst (λ (vs : List Item). AreNamed vs q.0 es) n q.2) in
     let g : ts ++ [] ≡ ts = append-nil ts in
-    let r : AreNamed (x ∷ y ∷ ts) d (entry cs ts t ∷ []) = last_entry x y cs ts d t e f (subst (λ (vs : List Item). Parses (Several join.Or) d vs t []) g p) in
-    (d, h, subst (λ (vs : List Item). AreNamed (x ∷ y ∷ vs) d (entry cs ts t ∷ es)) (sym g) (subst (λ (fs : List Entry). AreNamed (x ∷ y ∷ ts) d (entry cs ts t ∷ fs)) (sym none) r))
+    let r : AreNamed (x ∷ y ∷ ts) d (named_formula cs ts t ∷ []) = last_entry x y cs ts d t e f (subst (λ (vs : List Item). Parses (Several join.Or) d vs t []) g p) in
+    (d, h, subst (λ (vs : List Item). AreNamed (x ∷ y ∷ vs) d (named_formula cs ts t ∷ es)) (sym g) (subst (λ (fs : List NamedFormula). AreNamed (x ∷ y ∷ ts) d (named_formula cs ts t ∷ fs)) (sym none) r))
 onward_by x y cs ts d t (z ∷ vs) us es e f h p n q =
     let l = q.1 in
     (max d q.0, omega arith, further_entry x y cs ts d t z vs q.0 es e f p n.0 (subst (λ (ws : List Item). AreNamed ws q.0 es) n.1 q.2))
 
-pub head_shape : (ts : List Item) (cs : List ℕ) (body : List Item) → head_of ts ≡ Some (cs, body) → HeadIs ts (Some (cs, body))
+pub head_shape : (ts : List Item) (cs : List ℕ) (body : List Item) → entry_head ts ≡ Some (cs, body) → HeadIs ts (Some (cs, body))
 head_shape ts cs body e = subst (HeadIs ts) e (head_is ts)
 
 pub next_shape : (ts us : List Item) → next_of ts ≡ Some us → NextIs ts (Some us)
 next_shape ts us e = subst (NextIs ts) e (next_is ts)
 
-read_is : (body : List Item) (s : Seen Tree) → line_at 64 (Several join.Or) body ≡ Some s → Is (Several join.Or) 64 body s
+read_is : (body : List Item) (s : Parsed Tree) → line_at 64 (Several join.Or) body ≡ Some s → Is (Several join.Or) 64 body s
 read_is body s e = subst (Kept (Is (Several join.Or) 64 body)) e (reads 64 (Several join.Or) body)
 
-pub front_joins : (body : List Item) (s : Seen Tree) → line_at 64 (Several join.Or) body ≡ Some s → body ≡ front body s.2 ++ s.2
+pub front_joins : (body : List Item) (s : Parsed Tree) → line_at 64 (Several join.Or) body ≡ Some s → body ≡ front body s.2 ++ s.2
 front_joins body s e = front_is body s.2 (suffix (read_is body s e).0)
 
-onward : (ts : List Item) (cs : List ℕ) (body : List Item) (s : Seen Tree) (us : List Item) → head_of ts ≡ Some (cs, body) → line_at 64 (Several join.Or) body ≡ Some s → next_of s.2 ≡ Some us
-    → (es : List Entry) → AreEntriesOf 64 us es → AreEntriesOf 64 ts (entry cs (front body s.2) s.0 ∷ es)
+onward : (ts : List Item) (cs : List ℕ) (body : List Item) (s : Parsed Tree) (us : List Item) → entry_head ts ≡ Some (cs, body) → line_at 64 (Several join.Or) body ≡ Some s → next_of s.2 ≡ Some us
+    → (es : List NamedFormula) → AreEntriesOf 64 us es → AreEntriesOf 64 ts (named_formula cs (front body s.2) s.0 ∷ es)
 onward ts cs body s us e f g es q =
     let h = head_shape ts cs body e in
     let n = next_shape s.2 us g in
     let p = read_is body s f in
     let k = front_joins body s f in
     let r = onward_by h.0 h.1 cs (front body s.2) s.1 s.0 s.2 us es h.3 h.4 p.1 (subst (λ (vs : List Item). Parses (Several join.Or) s.1 vs s.0 s.2) k p.0) n q in
-    subst (λ (vs : List Item). AreEntriesOf 64 vs (entry cs (front body s.2) s.0 ∷ es)) (ap (λ (vs : List Item). h.0 ∷ h.1 ∷ vs) (sym k) ∙ sym h.2) r
+    subst (λ (vs : List Item). AreEntriesOf 64 vs (named_formula cs (front body s.2) s.0 ∷ es)) (ap (λ (vs : List Item). h.0 ∷ h.1 ∷ vs) (sym k) ∙ sym h.2) r
 
-pub first_is : (source : List ℕ) (ts : List Item) (cs : List ℕ) (body : List Item) (s : Seen Tree) (us : List Item) (n : Named) → 0 < length ts → head_of ts ≡ Some (cs, body) → line_at 64 (Several join.Or) body ≡ Some s → next_of s.2 ≡ Some us
-    → n ≡ named_of source (entry cs (front body s.2) s.0) → IsFirst source ts n us
-first_is source ts cs body s us n l e f g i = record { entry = entry cs (front body s.2) s.0; is_it = i; onward = onward ts cs body s us e f g; refuse = others_deeper ts cs body s us l e f g }
+pub first_is : (source : List ℕ) (ts : List Item) (cs : List ℕ) (body : List Item) (s : Parsed Tree) (us : List Item) (n : Named) → 0 < length ts → entry_head ts ≡ Some (cs, body) → line_at 64 (Several join.Or) body ≡ Some s → next_of s.2 ≡ Some us
+    → n ≡ named_of source (named_formula cs (front body s.2) s.0) → IsFirstFormula source ts n us
+first_is source ts cs body s us n l e f g i = record { entry = named_formula cs (front body s.2) s.0; is_it = i; onward = onward ts cs body s us e f g; refuse = others_deeper ts cs body s us l e f g }
 
-pub named_is : (source ds cs text : List ℕ) (at : ℕ) (t : Tree) (ts : List Item) → ds ≡ cs → at ≡ place ts → text ≡ chars (slice_range source (place ts) (end ts)) → ◌≡◌ {A = Named} (record { name = ds; at = at; text = text; expr = t }) (named_of source (entry cs ts t))
+pub named_is : (source ds cs text : List ℕ) (at : ℕ) (t : Tree) (ts : List Item) → ds ≡ cs → at ≡ first_byte ts → text ≡ chars (slice_range source (first_byte ts) (end ts)) → ◌≡◌ {A = Named} (record { name = ds; at = at; text = text; expr = t }) (named_of source (named_formula cs ts t))
 named_is source ds cs text at t ts e f g = λ i. record { name = e i; at = f i; text = g i; expr = t }
 
-abbrev pub itself : Tree × ℕ × Bor (List Item) → Seen Tree
+abbrev pub itself : Tree × ℕ × Bor (List Item) → Parsed Tree
 itself x = (x.0, x.1, x.2.now)
 
-pub refused_line : (ts : List Item) (cs : List ℕ) (body : List Item) (e : End) → 0 < length ts → head_of ts ≡ Some (cs, body) → Gives itself (Err e) (line_at 64 (Several join.Or) body) → AreRefused ts e
+pub refused_line : (ts : List Item) (cs : List ℕ) (body : List Item) (e : End) → 0 < length ts → entry_head ts ≡ Some (cs, body) → ParserAnswers itself (Err e) (line_at 64 (Several join.Or) body) → AreTooDeep ts e
 refused_line ts cs body Refused n h f = no_tree ts cs body n h f
 refused_line ts cs body Memory n h f = tt
 
@@ -212,19 +212,19 @@ end_last (x ∷ y ∷ us) d h =
 
 -- What was read so far: these named formulas, behind which the rest is to be read.
 pub record SoFar (source : List ℕ) (ts : List Item) (found : List Named) (rest : List Item) : Type 0 where
-  pub entries : List Entry
+  pub entries : List NamedFormula
   pub seen : found ≡ map (named_of source) entries
-  pub onward : (es : List Entry) → AreEntriesOf 64 rest es → AreEntriesOf 64 ts (entries ++ es)
+  pub onward : (es : List NamedFormula) → AreEntriesOf 64 rest es → AreEntriesOf 64 ts (entries ++ es)
   pub refuse : AreDeeper 64 rest → AreDeeper 64 ts
 
-pub go_on : (source : List ℕ) (ts : List Item) (found more_found : List Named) (rest others : List Item) (n : Named) → SoFar source ts found rest → IsFirst source rest n others → more_found ≡ found ++ n ∷ [] → SoFar source ts more_found others
+pub go_on : (source : List ℕ) (ts : List Item) (found more_found : List Named) (rest others : List Item) (n : Named) → SoFar source ts found rest → IsFirstFormula source rest n others → more_found ≡ found ++ n ∷ [] → SoFar source ts more_found others
 go_on source ts found more_found rest others n s f e = record {
   entries = s.entries ++ f.entry ∷ [];
   seen = e ∙ (λ i. s.seen i ++ f.is_it i ∷ []) ∙ sym (map-append (named_of source) s.entries (f.entry ∷ []));
-  onward = λ es h. subst (λ (fs : List Entry). AreEntriesOf 64 ts fs) (sym (append_assoc s.entries (f.entry ∷ []) es)) (s.onward (f.entry ∷ es) (f.onward es h));
+  onward = λ es h. subst (λ (fs : List NamedFormula). AreEntriesOf 64 ts fs) (sym (append_assoc s.entries (f.entry ∷ []) es)) (s.onward (f.entry ∷ es) (f.onward es h));
   refuse = λ h. s.refuse (f.refuse h);
 }
 
 pub done : (source : List ℕ) (ts : List Item) (found : List Named) (rest : List Item) → SoFar source ts found rest → length rest ≡ 0 → AreThese source ts found
-done source ts found [] s e = record { entries = s.entries; are = subst (λ (fs : List Entry). AreEntriesOf 64 ts fs) (append-nil s.entries) (s.onward [] (0, omega arith, no_entries)); seen = s.seen }
+done source ts found [] s e = record { entries = s.entries; are = subst (λ (fs : List NamedFormula). AreEntriesOf 64 ts fs) (append-nil s.entries) (s.onward [] (0, omega arith, no_entries)); seen = s.seen }
 done source ts found (x ∷ us) s e = absurd (omega arith)

@@ -8,9 +8,9 @@ use Rattle.fx_lexer.specs.declared.element.Enclosing.{Enclosing}
 use Rattle.fx_lexer.specs.declared.element.Enclosing.TheVariants as around
 use Rattle.fx_lexer.specs.declared.element.Mode.TheVariants.{Formula}
 use Rattle.fx_lexer.specs.Spelling.{symbol_spelling}
-use Rattle.fx_lexer.specs.Lexed.{width, mode_in, after}
+use Rattle.fx_lexer.specs.Lexed.{width, mode_in, enclosing_after}
 use Rattle.fx_core.specs.declared.expr.FieldName.{FieldName}
-use Rattle.fx_core.specs.Tree.{Tree, NamedTree, node, Head, Forest, none, more, forest, names_of, places_of, parts_of}
+use Rattle.fx_core.specs.Tree.{Tree, NamedTree, node, Head, Forest, none, more, forest, tree_field_names, places_of, field_trees}
 use Rattle.fx_core.specs.Tree as tree
 use Rattle.fx_grammar.specs.declared.item.Item.{Item}
 use Rattle.fx_grammar.specs.declared.item.Meaning.{Meaning}
@@ -20,10 +20,10 @@ use Rattle.fx_grammar.specs.declared.line.Join.TheVariants as join
 use Rattle.fx_grammar.specs.declared.line.Separator.{Separator}
 use Rattle.fx_grammar.specs.declared.line.Separator.TheVariants.{Between, Comma}
 use Rattle.fx_grammar.specs.declared.line.Line.TheVariants.{Several, Atom}
-use Rattle.fx_grammar.specs.Grammar.{field_name, place, separates, part_of, head_of, callee, Parses, many, a_call, a_record, a_list, Parts, alone, further, Args, no_args, some_args, Field, field, SomeFields, one_field, further_field, Fields, no_fields, some_fields}
+use Rattle.fx_grammar.specs.Grammar.{field_name, first_byte, separates, part_of, join_head, callee, Parses, many, a_call, a_record, a_list, Parts, alone, further, Args, no_args, some_args, Field, field, SomeFields, one_field, further_field, Fields, no_fields, some_fields}
 use Rattle.fx_parser.specs.Printing.{spaced, name_text, and_text, or_text, cat_text, comma_text, chain_text, label_text, in_brackets}
 use Rattle.fx_parser.specs.SameTree.{unplaced, all_unplaced, unplaced_head}
-use Rattle.fx_parser.specs.Fewest.{count}
+use Rattle.fx_parser.specs.Fewest.{tokens_weight}
 use Rattle.fx_lexer.proofs.Follows.{SymbolEnds}
 use Rattle.fx_parser.proofs.Ahead.{Rest, tok, space_then, sign_then, name_then, Safe, safe_space, safe_open, safe_close, safe_comma, safe_colon, safe_semicolon, safe_bracket, safe_brace}
 use Rattle.fx_parser.proofs.Weaves.{no_at}
@@ -36,7 +36,7 @@ pub record Goes (w : Weight) (s : Separator) (xs : List Item) (ts : Forest) (n :
   pub trees : List Tree
   pub same : all_unplaced (forest trees) ≡ all_unplaced ts
   pub joins : (d : ℕ) (ws : List Item) (ps : List Tree) → Parts s d ws ps xs → (e : ℕ) × Parts s e ws (ps ++ trees) (n to)
-  pub counted : (i j : ℕ) → count i j xs ≡ w i j + count i j (n to)
+  pub counted : (i j : ℕ) → tokens_weight i j xs ≡ w i j + tokens_weight i j (n to)
 
 pub record SaysOn (w : Weight) (s : Separator) (es : List Enclosing) (cs : List ℕ) (ts : Forest) (n : ℕ → List Item) : Type 0 where
   pub items : ℕ → List Item
@@ -61,7 +61,7 @@ led_divided : (s : Separator) (g : Meaning) (es : List Enclosing) (cs : List ℕ
 led_divided s g es cs n e p = record { front = p.front; go = p.go; rest = p.rest; divides = λ at. ap (separates s) (p.means at) ∙ e }
 
 -- a symbol with spaces around, and one with a space behind
-spaced_divides : (s : Separator) (y : Symbol) (es : List Enclosing) → mode_in es ≡ Formula → after (kind.Symbol y) es ≡ es → ((cs : List ℕ) → SymbolEnds y (32 ∷ cs)) → separates s (m.Symbol y) ≡ true → Divides s (spaced (symbol_spelling y)) es
+spaced_divides : (s : Separator) (y : Symbol) (es : List Enclosing) → mode_in es ≡ Formula → enclosing_after (kind.Symbol y) es ≡ es → ((cs : List ℕ) → SymbolEnds y (32 ∷ cs)) → separates s (m.Symbol y) ≡ true → Divides s (spaced (symbol_spelling y)) es
 spaced_divides s y es h f ends e = record {
   safe = λ cs. safe_space ((symbol_spelling y ++ 32 ∷ []) ++ cs);
   divided = λ cs n r.
@@ -70,7 +70,7 @@ spaced_divides s y es h f ends e = record {
       led_divided s (m.Symbol y) es _ n e (subst (λ x. Led (m.Symbol y) es x n) (sym (ap (λ x. 32 ∷ x) (append_assoc (symbol_spelling y) (32 ∷ []) cs))) q);
 }
 
-ended_divides : (s : Separator) (y : Symbol) (es : List Enclosing) → mode_in es ≡ Formula → after (kind.Symbol y) es ≡ es → ((cs : List ℕ) → SymbolEnds y (32 ∷ cs)) → separates s (m.Symbol y) ≡ true → ((cs : List ℕ) → Safe ((symbol_spelling y ++ 32 ∷ []) ++ cs)) → Divides s (symbol_spelling y ++ 32 ∷ []) es
+ended_divides : (s : Separator) (y : Symbol) (es : List Enclosing) → mode_in es ≡ Formula → enclosing_after (kind.Symbol y) es ≡ es → ((cs : List ℕ) → SymbolEnds y (32 ∷ cs)) → separates s (m.Symbol y) ≡ true → ((cs : List ℕ) → Safe ((symbol_spelling y ++ 32 ∷ []) ++ cs)) → Divides s (symbol_spelling y ++ 32 ∷ []) es
 ended_divides s y es h f ends e safe = record {
   safe = safe;
   divided = λ cs n r.
@@ -138,7 +138,7 @@ pub record ToldParts (w : Weight) (s : Separator) (xs : List Item) (ts : Forest)
   pub trees : List Tree
   pub same : all_unplaced (forest trees) ≡ all_unplaced ts
   pub parts : Parts s depth xs trees (n to)
-  pub counted : (i j : ℕ) → count i j xs ≡ w i j + count i j (n to)
+  pub counted : (i j : ℕ) → tokens_weight i j xs ≡ w i j + tokens_weight i j (n to)
 
 pub record SaysParts (w : Weight) (s : Separator) (es : List Enclosing) (cs : List ℕ) (ts : Forest) (n : ℕ → List Item) : Type 0 where
   pub items : ℕ → List Item
@@ -165,12 +165,12 @@ parts_is {x = a} {y = e} s es v w t ts safe p q k n f r =
 
 -- two parts or more make one node
 several : (j : Join) (d : ℕ) (xs : List Item) (ps : List Tree) (t u : Tree) (us : Forest) (rest : List Item) → all_unplaced (forest ps) ≡ all_unplaced (more t (more u us)) → Parts (Between j) d xs ps rest
-    → Parses (Several j) (suc d) xs (node (place xs) (head_of j) (forest ps)) rest
+    → Parses (Several j) (suc d) xs (node (first_byte xs) (join_head j) (forest ps)) rest
 several j d xs [] t u us rest e p = absurd cc
 several j d xs (x ∷ []) t u us rest e p = absurd cc
 several j d xs (x ∷ y ∷ ps) t u us rest e p = many j d xs x y ps rest p
 
-pub several_is : {w : Weight} (j : Join) (es : List Enclosing) (a : ℕ) (v : List ℕ) (t u : Tree) (us : Forest) → SpeaksParts w (Between j) es v (more t (more u us)) → Speaks w (Several j) es v (node a (head_of j) (more t (more u us)))
+pub several_is : {w : Weight} (j : Join) (es : List Enclosing) (a : ℕ) (v : List ℕ) (t u : Tree) (us : Forest) → SpeaksParts w (Between j) es v (more t (more u us)) → Speaks w (Several j) es v (node a (join_head j) (more t (more u us)))
 several_is j es a v t u us p k n f r =
     let x = p k n f r in record {
       items = x.items;
@@ -178,15 +178,15 @@ several_is j es a v t u us p k n f r =
       told = λ at. let g = x.told at in record {
         to = g.to;
         depth = suc g.depth;
-        seen = node (place (x.items at)) (head_of j) (forest g.trees);
-        same = by j (place (x.items at)) a (forest g.trees) (more t (more u us)) g.same;
+        seen = node (first_byte (x.items at)) (join_head j) (forest g.trees);
+        same = by j (first_byte (x.items at)) a (forest g.trees) (more t (more u us)) g.same;
         parses = several j g.depth (x.items at) g.trees t u us (n g.to) g.same g.parts;
         counted = g.counted;
       };
     }
   where
-    by : (j : Join) (a b : ℕ) (ts us : Forest) → all_unplaced ts ≡ all_unplaced us → unplaced (node a (head_of j) ts) ≡ unplaced (node b (head_of j) us)
-    by j a b ts us e = ap (node 0 (unplaced_head (head_of j))) e
+    by : (j : Join) (a b : ℕ) (ts us : Forest) → all_unplaced ts ≡ all_unplaced us → unplaced (node a (join_head j) ts) ≡ unplaced (node b (join_head j) us)
+    by j a b ts us e = ap (node 0 (unplaced_head (join_head j))) e
 
 -- arguments, which there may be none of
 pub record ToldArgs (w : Weight) (xs : List Item) (ts : Forest) (n : ℕ → List Item) : Type 0 where
@@ -195,7 +195,7 @@ pub record ToldArgs (w : Weight) (xs : List Item) (ts : Forest) (n : ℕ → Lis
   pub trees : List Tree
   pub same : all_unplaced (forest trees) ≡ all_unplaced ts
   pub args : Args depth xs trees (n to)
-  pub counted : (i j : ℕ) → count i j xs ≡ w i j + count i j (n to)
+  pub counted : (i j : ℕ) → tokens_weight i j xs ≡ w i j + tokens_weight i j (n to)
 
 pub record SaysArgs (w : Weight) (es : List Enclosing) (cs : List ℕ) (ts : Forest) (n : ℕ → List Item) : Type 0 where
   pub items : ℕ → List Item
@@ -267,7 +267,7 @@ pub record ToldField (w : Weight) (xs : List Item) (name : List ℕ) (t : Tree) 
   pub label : FieldName
   pub labelled : label.text ≡ name
   pub parses : Field depth xs (label, seen) (n to)
-  pub counted : (i j : ℕ) → count i j xs ≡ w i j + count i j (n to)
+  pub counted : (i j : ℕ) → tokens_weight i j xs ≡ w i j + tokens_weight i j (n to)
 
 pub record SaysField (w : Weight) (es : List Enclosing) (cs : List ℕ) (name : List ℕ) (t : Tree) (n : ℕ → List Item) : Type 0 where
   pub items : ℕ → List Item
@@ -302,10 +302,10 @@ field_is {x = a} es c cs v t h p k n f r =
 pub record GoesFields (w : Weight) (xs : List Item) (ns : List (List ℕ)) (ts : Forest) (n : ℕ → List Item) : Type 0 where
   pub to : ℕ
   pub fields : List NamedTree
-  pub names : names_of fields ≡ ns
-  pub same : all_unplaced (parts_of fields) ≡ all_unplaced ts
+  pub names : tree_field_names fields ≡ ns
+  pub same : all_unplaced (field_trees fields) ≡ all_unplaced ts
   pub joins : (d : ℕ) (ws : List Item) (fs : List NamedTree) → SomeFields d ws fs xs → (e : ℕ) × SomeFields e ws (fs ++ fields) (n to)
-  pub counted : (i j : ℕ) → count i j xs ≡ w i j + count i j (n to)
+  pub counted : (i j : ℕ) → tokens_weight i j xs ≡ w i j + tokens_weight i j (n to)
 
 pub record SaysOnFields (w : Weight) (es : List Enclosing) (cs : List ℕ) (ns : List (List ℕ)) (ts : Forest) (n : ℕ → List Item) : Type 0 where
   pub items : ℕ → List Item
@@ -362,10 +362,10 @@ pub record ToldFields (w : Weight) (xs : List Item) (ns : List (List ℕ)) (ts :
   pub to : ℕ
   pub depth : ℕ
   pub fields : List NamedTree
-  pub names : names_of fields ≡ ns
-  pub same : all_unplaced (parts_of fields) ≡ all_unplaced ts
+  pub names : tree_field_names fields ≡ ns
+  pub same : all_unplaced (field_trees fields) ≡ all_unplaced ts
   pub parses : Fields depth xs fields (n to)
-  pub counted : (i j : ℕ) → count i j xs ≡ w i j + count i j (n to)
+  pub counted : (i j : ℕ) → tokens_weight i j xs ≡ w i j + tokens_weight i j (n to)
 
 pub record SaysFields (w : Weight) (es : List Enclosing) (cs : List ℕ) (ns : List (List ℕ)) (ts : Forest) (n : ℕ → List Item) : Type 0 where
   pub items : ℕ → List Item
@@ -408,7 +408,7 @@ record_is {w = c} es a v ns ps ts h p k n f r =
           let x = q.told i in record {
             to = x.to + width (125 ∷ []);
             depth = suc x.depth;
-            seen = node at (tree.rec (names_of x.fields) (places_of x.fields)) (parts_of x.fields);
+            seen = node at (tree.rec (tree_field_names x.fields) (places_of x.fields)) (field_trees x.fields);
             same = λ j. node 0 (tree.rec (x.names j) []) (x.same j);
             parses = a_record x.depth (tok (kind.Symbol symbol.OpenBrace) (123 ∷ []) (m.Symbol symbol.OpenBrace) at) (q.items i) x.fields (tok (kind.Symbol symbol.CloseBrace) (125 ∷ []) (m.Symbol symbol.CloseBrace) x.to) (n (x.to + width (125 ∷ []))) refl x.parses refl;
             counted = λ i j. let o = x.counted i j in omega (arith, o);

@@ -9,10 +9,10 @@ use Rattle.fx_lexer.specs.declared.element.Element.TheVariants.{Token}
 use Rattle.fx_lexer.specs.declared.element.Enclosing.{Enclosing}
 use Rattle.fx_lexer.specs.declared.element.Mode.{Mode}
 use Rattle.fx_lexer.specs.Spelling.{class_at, is_quote, doubled}
-use Rattle.fx_lexer.specs.Lexed.{Lexeme, mode_in, Reads, stop, skip, token}
+use Rattle.fx_lexer.specs.Lexed.{Lexeme, mode_in, LexesTo, stop, skip, token}
 use Rattle.fx_core.specs.declared.expr.Op.{Op}
 use Rattle.fx_core.specs.declared.expr.Op.TheVariants as op
-use Rattle.fx_core.specs.Tree.{Tree, NamedTree, node, Head, Forest, none, more, forest, names_of, places_of, parts_of}
+use Rattle.fx_core.specs.Tree.{Tree, NamedTree, node, Head, Forest, none, more, forest, tree_field_names, places_of, field_trees}
 use Rattle.fx_core.specs.Tree as tree
 use Rattle.fx_grammar.specs.declared.item.Item.{Item}
 use Rattle.fx_grammar.specs.declared.item.Meaning.{Meaning}
@@ -21,9 +21,9 @@ use Rattle.fx_grammar.specs.declared.line.Join.{Join}
 use Rattle.fx_grammar.specs.declared.line.Join.TheVariants as join
 use Rattle.fx_grammar.specs.declared.line.Separator.{Separator}
 use Rattle.fx_grammar.specs.declared.line.Line.{Line}
-use Rattle.fx_grammar.specs.Means.{between_quotes, Means, AllMean, no_more, one_more}
+use Rattle.fx_grammar.specs.Means.{between_quotes, TokenMeans, AllMean, no_more, one_more}
 use Rattle.fx_grammar.specs.Means as means
-use Rattle.fx_grammar.specs.Grammar.{place, head_of, sign, leaf_of, callee, Parses, plain, ended, one, many, first, next, no_alias, aliased, no_sign, signed, base, raised, no_percent, percent, no_dot, dotted, leaf, a_global, a_call, brackets, a_record, a_list, a_weave, Parts, alone, further, Args, no_args, some_args, Field, field, SomeFields, one_field, further_field, Fields, no_fields, some_fields, Strands, no_strands, piece, island}
+use Rattle.fx_grammar.specs.Grammar.{first_byte, join_head, sign, atom_head, callee, Parses, plain, ended, one, many, first, next, no_alias, aliased, no_sign, signed, base, raised, no_percent, percent, no_dot, dotted, leaf, a_global, a_call, brackets, a_record, a_list, a_weave, Parts, alone, further, Args, no_args, some_args, Field, field, SomeFields, one_field, further_field, Fields, no_fields, some_fields, Strands, no_strands, piece, island}
 use Rattle.fx_number.specs.Decimal.{greatest}
 use Rattle.fx_number.specs.Spelling.{decimal_units}
 use Rattle.fx_lexer.specs.Spelling.{Spelt, white, line_comment, block_comment, number, text, name, quoted_name, word as a_word, symbol as a_symbol, opening, closing, piece as a_piece, island as an_island}
@@ -90,9 +90,9 @@ push : (ps : List Tree) (t : Tree) → AllProper (forest ps) → Proper t → Al
 push [] t p h = proper_more t none h proper_none
 push (u ∷ ps) t p h = let s = split p in proper_more u (forest (ps ++ t ∷ [])) s.0 (push ps t s.1 h)
 
-push_field : (fs : List NamedTree) (f : NamedTree) → ProperFields (names_of fs) (parts_of fs) → HasSome f.0.text → Proper f.1 → ProperFields (names_of (fs ++ f ∷ [])) (parts_of (fs ++ f ∷ []))
+push_field : (fs : List NamedTree) (f : NamedTree) → ProperFields (tree_field_names fs) (field_trees fs) → HasSome f.0.text → Proper f.1 → ProperFields (tree_field_names (fs ++ f ∷ [])) (field_trees (fs ++ f ∷ []))
 push_field [] f p g h = proper_more_fields f.0.text [] f.1 none g h proper_no_fields
-push_field (e ∷ fs) f p g h = let s = split_fields p in proper_more_fields e.0.text (names_of (fs ++ f ∷ [])) e.1 (parts_of (fs ++ f ∷ [])) s.0 s.1 (push_field fs f s.2 g h)
+push_field (e ∷ fs) f p g h = let s = split_fields p in proper_more_fields e.0.text (tree_field_names (fs ++ f ∷ [])) e.1 (field_trees (fs ++ f ∷ [])) s.0 s.1 (push_field fs f s.2 g h)
 
 all_is : (a : ℕ) (ts : Forest) → AllProper ts → Proper (node a tree.all ts)
 all_is a none p = proper_no_all a
@@ -104,7 +104,7 @@ any_is a none p = proper_no_any a
 any_is a (more t none) p = proper_one_any a t p
 any_is a (more t (more u us)) p = let s = split p in proper_any a t u us s.0 s.1
 
-join_is : (j : Join) (a : ℕ) (t u : Tree) (us : Forest) → AllProper (more t (more u us)) → Proper (node a (head_of j) (more t (more u us)))
+join_is : (j : Join) (a : ℕ) (t u : Tree) (us : Forest) → AllProper (more t (more u us)) → Proper (node a (join_head j) (more t (more u us)))
 join_is join.Chain a t u us p = let s = split p in proper_chain a t u us s.0 s.1
 join_is join.Or a t u us p = any_is a (more t (more u us)) p
 join_is join.And a t u us p = all_is a (more t (more u us)) p
@@ -123,7 +123,7 @@ AllGood (x ∷ xs) = Good x.meaning × AllGood xs
 headed : (a : ℕ) (h k : Head) (ts : Forest) → ◌≡◌ {A = Option Head} (Some h) (Some k) → Proper (node a h ts) → Proper (node a k ts)
 headed a h k ts e p = let f : h ≡ k = cc in subst (λ x. Proper (node a x ts)) f p
 
-leaf_proper : (a : ℕ) (g : Meaning) (h : Head) → Good g → leaf_of g ≡ Some h → Proper (node a h none)
+leaf_proper : (a : ℕ) (g : Meaning) (h : Head) → Good g → atom_head g ≡ Some h → Proper (node a h none)
 leaf_proper a (m.Number z) h b e = headed a (tree.num z) h none e (subst (λ x. Proper (node a (tree.num x) none)) (sym b.1) (proper_number a b.0 b.2))
 leaf_proper a (m.Text cs) h b e = headed a (tree.text cs) h none e (proper_text a cs)
 leaf_proper a (m.Name cs) h b e = headed a (tree.name cs) h none e (proper_name a cs b)
@@ -151,24 +151,24 @@ mutual
   proper (plain d ts t rest p) b = proper p b
   proper (ended d ts t x rest p e) b = let r = proper p b in (r.0, r.1.1)
   proper (one j d ts t rest p) b = proper p b
-  proper (many j d ts p q ps rest h) b = let r = proper_parts h b in (join_is j (place ts) p q (forest ps) r.0, r.1)
+  proper (many j d ts p q ps rest h) b = let r = proper_parts h b in (join_is j (first_byte ts) p q (forest ps) r.0, r.1)
   proper (first l d ts t rest p) b = proper p b
-  proper (next l d e ts t x us o u rest p f q) b = let r = proper p b in let s = proper q r.1.1 in (proper_pair (place ts) o t u r.0 s.0, s.1)
+  proper (next l d e ts t x us o u rest p f q) b = let r = proper p b in let s = proper q r.1.1 in (proper_pair (first_byte ts) o t u r.0 s.0, s.1)
   proper (no_alias d ts t rest p) b = proper p b
-  proper (aliased d ts t x y cs rest p e f) b = let r = proper p b in let c = r.1.1 in (proper_alias (place ts) cs t (named y.meaning cs f c.0) r.0, c.1)
+  proper (aliased d ts t x y cs rest p e f) b = let r = proper p b in let c = r.1.1 in (proper_alias (first_byte ts) cs t (named y.meaning cs f c.0) r.0, c.1)
   proper (no_sign d ts t rest p) b = proper p b
   proper (signed d x h us t rest e p) b = let r = proper p b.1 in (sign_proper x.at x.meaning h t e r.0, r.1)
   proper (base d ts t rest p) b = proper p b
-  proper (raised d e ts t x us u rest p f q) b = let r = proper p b in let s = proper q r.1.1 in (proper_pair (place ts) op.Pow t u r.0 s.0, s.1)
+  proper (raised d e ts t x us u rest p f q) b = let r = proper p b in let s = proper q r.1.1 in (proper_pair (first_byte ts) op.Pow t u r.0 s.0, s.1)
   proper (no_percent d ts t rest p) b = proper p b
-  proper (percent d ts t x rest p e) b = let r = proper p b in (proper_percent (place ts) t r.0, r.1.1)
+  proper (percent d ts t x rest p e) b = let r = proper p b in (proper_percent (first_byte ts) t r.0, r.1.1)
   proper (no_dot d ts t rest p) b = proper p b
-  proper (dotted d ts t x y cs rest p e f) b = let r = proper p b in let c = r.1.1 in (proper_dot (place ts) cs t (named y.meaning cs f c.0) r.0, c.1)
+  proper (dotted d ts t x y cs rest p e f) b = let r = proper p b in let c = r.1.1 in (proper_dot (first_byte ts) cs t (named y.meaning cs f c.0) r.0, c.1)
   proper (leaf x h rest e) b = (leaf_proper x.at x.meaning h b.0 e, b.1)
   proper (a_global x y z cs rest e f g) b = let c = b.1 in let k = c.1 in (proper_global x.at cs (named y.meaning cs f c.0), k.1)
   proper (a_call d x y h us ps z rest e f k g) b = let c = b.1 in let r = proper_args k c.1 in (callee_proper x.at x.meaning h (forest ps) b.0 e r.0, r.1.1)
   proper (brackets d x us t y rest e p f) b = let r = proper p b.1 in (r.0, r.1.1)
-  proper (a_record d x us fs y rest e k f) b = let r = proper_fields k b.1 in (proper_record x.at (names_of fs) (places_of fs) (parts_of fs) r.0, r.1.1)
+  proper (a_record d x us fs y rest e k f) b = let r = proper_fields k b.1 in (proper_record x.at (tree_field_names fs) (places_of fs) (field_trees fs) r.0, r.1.1)
   proper (a_list d x us ps y rest e k f) b = let r = proper_args k b.1 in (proper_list x.at (forest ps) r.0, r.1.1)
   proper (a_weave d x us ps y rest e k f) b = let r = proper_strands k b.1 in (proper_woven x.at (forest ps) r.0, r.1.1)
 
@@ -183,11 +183,11 @@ mutual
   pub proper_field : {d : ℕ} {ts : List Item} {f : NamedTree} {rest : List Item} → Field d ts f rest → AllGood ts → (HasSome f.0.text × Proper f.1) × AllGood rest
   proper_field (field d x y cs us t rest e f p) b = let c = b.1 in let r = proper p c.1 in ((named x.meaning cs e b.0, r.0), r.1)
 
-  pub proper_some : {d : ℕ} {ts : List Item} {fs : List NamedTree} {rest : List Item} → SomeFields d ts fs rest → AllGood ts → ProperFields (names_of fs) (parts_of fs) × AllGood rest
+  pub proper_some : {d : ℕ} {ts : List Item} {fs : List NamedTree} {rest : List Item} → SomeFields d ts fs rest → AllGood ts → ProperFields (tree_field_names fs) (field_trees fs) × AllGood rest
   proper_some (one_field d ts f rest p) b = let r = proper_field p b in let q = r.0 in (proper_more_fields f.0.text [] f.1 none q.0 q.1 proper_no_fields, r.1)
   proper_some (further_field d e ts fs x us f rest h g p) b = let r = proper_some h b in let s = proper_field p r.1.1 in let q = s.0 in (push_field fs f r.0 q.0 q.1, s.1)
 
-  pub proper_fields : {d : ℕ} {ts : List Item} {fs : List NamedTree} {rest : List Item} → Fields d ts fs rest → AllGood ts → ProperFields (names_of fs) (parts_of fs) × AllGood rest
+  pub proper_fields : {d : ℕ} {ts : List Item} {fs : List NamedTree} {rest : List Item} → Fields d ts fs rest → AllGood ts → ProperFields (tree_field_names fs) (field_trees fs) × AllGood rest
   proper_fields (no_fields ts) b = (proper_no_fields, b)
   proper_fields (some_fields d ts fs rest h) b = proper_some h b
 
@@ -224,7 +224,7 @@ quoted_some : (cs xs : List ℕ) (mode : Mode) (k : TokenKind) → k ≡ kind.Na
 quoted_some [] xs mode k e f s = absurd (no_empty_name s (ap Token e) f)
 quoted_some (c ∷ cs) xs mode k e f s = tt
 
-good : {l : Lexeme} {x : Item} → Means l x → (mode : Mode) → Spelt mode (Token l.kind) l.text → Good x.meaning
+good : {l : Lexeme} {x : Item} → TokenMeans l x → (mode : Mode) → Spelt mode (Token l.kind) l.text → Good x.meaning
 good (means.number l ds es e f g) mode s = (decimal_units ds es, refl, g)
 good (means.text l cs e f) mode s = tt
 good (means.plain_name l e f) mode s = some_of l.text (spelt_long mode (Token l.kind) l.text s)
@@ -235,7 +235,7 @@ good (means.opening l e) mode s = tt
 good (means.closing l e) mode s = tt
 good (means.piece l cs e f) mode s = tt
 
-pub all_good : {es : List Enclosing} {at : ℕ} {cs : List ℕ} {ls : List Lexeme} {fs : List Enclosing} {upto : ℕ} {rest : List ℕ} → Reads es at cs ls fs upto rest → {ks : List Lexeme} {xs : List Item} → AllMean ks xs → ks ≡ ls → AllGood xs
+pub all_good : {es : List Enclosing} {at : ℕ} {cs : List ℕ} {ls : List Lexeme} {fs : List Enclosing} {upto : ℕ} {rest : List ℕ} → LexesTo es at cs ls fs upto rest → {ks : List Lexeme} {xs : List Item} → AllMean ks xs → ks ≡ ls → AllGood xs
 all_good (stop es at cs) no_more e = tt
 all_good (stop es at cs) (one_more l x ls xs h k) e = absurd cc
 all_good (skip es at ys cs ls fs upto rest p r) k e = all_good r k e

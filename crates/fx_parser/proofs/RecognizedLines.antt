@@ -16,7 +16,7 @@ use Rattle.fx_grammar.specs.declared.line.Left.{Left}
 use Rattle.fx_grammar.specs.declared.line.Left.TheVariants as left
 use Rattle.fx_grammar.specs.declared.line.Line.{Line}
 use Rattle.fx_grammar.specs.declared.line.Line.TheVariants.{Chain, Several, By, Alias, Prefix}
-use Rattle.fx_grammar.specs.Grammar.{separates, part_of, operator, under, Parses, plain, ended, one, many, first, next, no_alias, aliased, Parts, alone, further}
+use Rattle.fx_grammar.specs.Grammar.{separates, part_of, operator, operand_line, Parses, plain, ended, one, many, first, next, no_alias, aliased, Parts, alone, further}
 use Rattle.fx_parser.specs.declared.state.Follow.TheVariants as follow
 use Rattle.fx_parser.specs.Machine.{follow_of}
 
@@ -57,7 +57,7 @@ onto_alias : {d : ℕ} {us : List Item} {t : Tree} {mid : List Item} → Parses 
 onto_alias (no_alias d us t rest p) ts f = let g = f rest (d, t, p) in (g.0, g.1, no_alias g.0 ts g.1 rest g.2)
 onto_alias (aliased d us t x y cs rest p e h) ts f = let g = f (x ∷ y ∷ rest) (d, t, p) in (suc g.0, _, aliased g.0 ts g.1 x y cs rest g.2 e h)
 
-onto_by : {l : Left} {d : ℕ} {us : List Item} {t : Tree} {mid : List Item} → Parses (By l) d us t mid → (ts : List Item) → Onto (under l) us ts → Has (By l) ts mid
+onto_by : {l : Left} {d : ℕ} {us : List Item} {t : Tree} {mid : List Item} → Parses (By l) d us t mid → (ts : List Item) → Onto (operand_line l) us ts → Has (By l) ts mid
 onto_by (first l d us t rest p) ts f = let g = f rest (d, t, p) in (g.0, g.1, first l g.0 ts g.1 rest g.2)
 onto_by (next l d e us t x vs o u rest p h q) ts f = let g = onto_by p ts f in (suc (max g.0 e), _, next l g.0 e ts g.1 x vs o u rest g.2 h q)
 
@@ -72,7 +72,7 @@ onto_chain (ended d us t x rest p e) ts f = let g = f (x ∷ rest) (d, t, p) in 
 pub up_alias : (us ts : List Item) → Onto Prefix us ts → Onto Alias us ts
 up_alias us ts f mid h = onto_alias h.2 ts f
 
-pub up_by : (l : Left) (us ts : List Item) → Onto (under l) us ts → Onto (By l) us ts
+pub up_by : (l : Left) (us ts : List Item) → Onto (operand_line l) us ts → Onto (By l) us ts
 up_by l us ts f mid h = onto_by h.2 ts f
 
 pub up_several : (j : Join) (us ts : List Item) → Onto (part_of (Between j)) us ts → Onto (Several j) us ts
@@ -118,7 +118,7 @@ join_up join.And us ts i f = up_several join.Or us ts f
 join_up join.Cat us ts i f = cat_up us ts f
 
 -- an operand by itself, in each line
-lift_by : (l : Left) (ts rest : List Item) → Has (under l) ts rest → Has (By l) ts rest
+lift_by : (l : Left) (ts rest : List Item) → Has (operand_line l) ts rest → Has (By l) ts rest
 lift_by l ts rest h = (h.0, h.1, first l h.0 ts h.1 rest h.2)
 
 pub lift_several : (j : Join) (ts rest : List Item) → Has (part_of (Between j)) ts rest → Has (Several j) ts rest

@@ -10,7 +10,7 @@ use Rattle.fx_lexer.specs.declared.element.Enclosing.TheVariants as around
 use Rattle.fx_lexer.specs.declared.element.Mode.TheVariants.{Formula}
 use Rattle.fx_lexer.specs.Spelling.{word_spelling}
 use Rattle.fx_lexer.specs.Lexed.{Lexeme, width, mode_in}
-use Rattle.fx_core.specs.Tree.{Tree, node, Head, Forest, none, more, forest, names_of, parts_of}
+use Rattle.fx_core.specs.Tree.{Tree, node, Head, Forest, none, more, forest, tree_field_names, field_trees}
 use Rattle.fx_core.specs.Tree as tree
 use Rattle.fx_grammar.specs.declared.item.Item.{Item}
 use Rattle.fx_grammar.specs.declared.item.Meaning.TheVariants as m
@@ -20,10 +20,10 @@ use Rattle.fx_grammar.specs.declared.line.Separator.TheVariants.{Between, Comma}
 use Rattle.fx_grammar.specs.declared.line.Left.TheVariants as left
 use Rattle.fx_grammar.specs.declared.line.Line.{Line}
 use Rattle.fx_grammar.specs.declared.line.Line.TheVariants.{Chain, Several, By, Prefix, Percent, Access}
-use Rattle.fx_grammar.specs.Means.{between_quotes, item, Means, AllMean, no_more, one_more}
+use Rattle.fx_grammar.specs.Means.{between_quotes, item, TokenMeans, AllMean, no_more, one_more}
 use Rattle.fx_grammar.specs.Means as means
 use Rattle.fx_grammar.specs.Grammar.{part_of}
-use Rattle.fx_parser.specs.Printing.{left_line, right_line, name_text, line_of, within, is_text, and_text, or_text, cat_text, comma_text, chain_text, shown, shown_parts, shown_further, shown_fields, shown_further_fields, shown_strands}
+use Rattle.fx_parser.specs.Printing.{left_line, right_line, name_text, line_of, printed_within, is_text, and_text, or_text, cat_text, comma_text, chain_text, shown, shown_parts, shown_further, shown_fields, shown_further_fields, shown_strands}
 use Rattle.std.proofs.lemmas.Fmt.{decimal_is_IsNumeral}
 use Rattle.std.proofs.lemmas.Str.{digit_value_digit}
 use Rattle.std.specs.Char.{digit_value}
@@ -40,7 +40,7 @@ use Rattle.fx_lexer.proofs.Follows.{number_before}
 use Rattle.fx_grammar.specs.Grammar.{bare}
 use Rattle.fx_grammar.specs.Formulas.{HasTree}
 use Rattle.fx_parser.specs.SameTree.{HasTreeLike}
-use Rattle.fx_parser.specs.Fewest.{count, AreTokensOf}
+use Rattle.fx_parser.specs.Fewest.{tokens_weight, AreTokensOf}
 use Rattle.fx_parser.proofs.Ahead.{Rest, tok, at_end, token_then, in_formula, word_then, name_then, text_then, Safe, safe_end, safe_comma}
 use Rattle.fx_parser.proofs.Weights.{between_count, weight, weight_parts, weight_further, weight_strands}
 use Rattle.fx_parser.proofs.Steps.{Speaks, loosened, highest, within_is, leaf_is, pair_is, sign_is, percent_is, dot_is, alias_is, global_is}
@@ -91,13 +91,13 @@ number_then es n k i h e s r =
     refl
     (λ at.
     let l : Lexeme = record { kind = kind.Number; at = at; text = magnitude_text n } in
-    subst (λ x. Means l (item l (m.Number (pos x)))) u (means.number l (decimal (n / 10000)) (fraction_of n) refl d (subst (λ x. x ≤ greatest) (sym u) h)))
+    subst (λ x. TokenMeans l (item l (m.Number (pos x)))) u (means.number l (decimal (n / 10000)) (fraction_of n) refl d (subst (λ x. x ≤ greatest) (sym u) h)))
     r
 
 -- what stands between parts may follow a formula
 further_safe : (s : Separator) (between : List ℕ) (es : List Enclosing) → Divides s between es → (l : Line) (ts : Forest) (k : List ℕ) → Safe k → Safe (shown_further between l ts ++ k)
 further_safe s b es d l none k h = h
-further_safe s b es d l (more t ts) k h = subst Safe (sym (append_assoc b (within l t (shown t) ++ shown_further b l ts) k)) (d.safe ((within l t (shown t) ++ shown_further b l ts) ++ k))
+further_safe s b es d l (more t ts) k h = subst Safe (sym (append_assoc b (printed_within l t (shown t) ++ shown_further b l ts) k)) (d.safe ((printed_within l t (shown t) ++ shown_further b l ts) ++ k))
 
 fields_safe : {ns : List (List ℕ)} {ts : Forest} → ProperFields ns ts → (k : List ℕ) → Safe k → Safe (shown_further_fields ns ts ++ k)
 fields_safe proper_no_fields k h = h
@@ -145,44 +145,44 @@ mutual
   says (proper_global a [] h) es e = absurd h
   says (proper_global a (c ∷ cs) h) es e = global_is es a c cs e
   says (proper_dot a [] t h p) es e = absurd h
-  says (proper_dot a (c ∷ cs) t h p) es e = dot_is es a c cs (within Access t (shown t)) t e (within_is Access es t e (says p es e))
+  says (proper_dot a (c ∷ cs) t h p) es e = dot_is es a c cs (printed_within Access t (shown t)) t e (within_is Access es t e (says p es e))
   says (proper_call a [] ts h p) es e = absurd h
   says (proper_call a (c ∷ cs) ts h p) es e = call_is es a kind.Name (name_text (c ∷ cs)) (m.Name (c ∷ cs)) (tree.call (c ∷ cs)) (shown_parts comma_text Chain ts) ts e refl (λ k n s r. name_then es c cs k n e s r) (says_args p es e)
-  says (proper_neg a t p) es e = sign_is symbol.Minus tree.neg es a (within Prefix t (shown t)) t e refl refl (λ cs. tt) (within_is Prefix es t e (says p es e))
-  says (proper_opposite a t p) es e = sign_is symbol.Bang tree.opposite es a (within Prefix t (shown t)) t e refl refl (λ cs. tt) (within_is Prefix es t e (says p es e))
-  says (proper_percent a t p) es e = percent_is es a (within Percent t (shown t)) t e (within_is Percent es t e (says p es e))
-  says (proper_pair a o t u p q) es e = pair_is o es a (within (left_line o) t (shown t)) (within (right_line o) u (shown u)) t u e (within_is (left_line o) es t e (says p es e)) (within_is (right_line o) es u e (says q es e))
-  says (proper_joined a t u us p q) es e = several_is join.Cat es a (shown_parts cat_text (By left.Sum) (more t (more u us))) t u us (parts_is (Between join.Cat) es (within (By left.Sum) t (shown t)) (shown_further cat_text (By left.Sum) (more u us)) t (more u us) (further_safe (Between join.Cat) cat_text es (cats es e) (By left.Sum) (more u us)) (within_is (By left.Sum) es t e (says p es e)) (says_on q (Between join.Cat) cat_text es e (cats es e)))
+  says (proper_neg a t p) es e = sign_is symbol.Minus tree.neg es a (printed_within Prefix t (shown t)) t e refl refl (λ cs. tt) (within_is Prefix es t e (says p es e))
+  says (proper_opposite a t p) es e = sign_is symbol.Bang tree.opposite es a (printed_within Prefix t (shown t)) t e refl refl (λ cs. tt) (within_is Prefix es t e (says p es e))
+  says (proper_percent a t p) es e = percent_is es a (printed_within Percent t (shown t)) t e (within_is Percent es t e (says p es e))
+  says (proper_pair a o t u p q) es e = pair_is o es a (printed_within (left_line o) t (shown t)) (printed_within (right_line o) u (shown u)) t u e (within_is (left_line o) es t e (says p es e)) (within_is (right_line o) es u e (says q es e))
+  says (proper_joined a t u us p q) es e = several_is join.Cat es a (shown_parts cat_text (By left.Sum) (more t (more u us))) t u us (parts_is (Between join.Cat) es (printed_within (By left.Sum) t (shown t)) (shown_further cat_text (By left.Sum) (more u us)) t (more u us) (further_safe (Between join.Cat) cat_text es (cats es e) (By left.Sum) (more u us)) (within_is (By left.Sum) es t e (says p es e)) (says_on q (Between join.Cat) cat_text es e (cats es e)))
   says (proper_no_all a) es e = call_is es a (kind.Word word.And) (word_spelling word.And) (m.Word word.And) tree.all [] none e refl (by_word word.And es e) (no_args_is es)
   says (proper_one_all a t p) es e = call_is es a (kind.Word word.And) (word_spelling word.And) (m.Word word.And) tree.all (shown_parts comma_text Chain (more t none)) (more t none) e refl (by_word word.And es e) (says_args p es e)
-  says (proper_all a t u us p q) es e = several_is join.And es a (shown_parts and_text (By left.Member) (more t (more u us))) t u us (parts_is (Between join.And) es (within (By left.Member) t (shown t)) (shown_further and_text (By left.Member) (more u us)) t (more u us) (further_safe (Between join.And) and_text es (ands es e) (By left.Member) (more u us)) (within_is (By left.Member) es t e (says p es e)) (says_on q (Between join.And) and_text es e (ands es e)))
+  says (proper_all a t u us p q) es e = several_is join.And es a (shown_parts and_text (By left.Member) (more t (more u us))) t u us (parts_is (Between join.And) es (printed_within (By left.Member) t (shown t)) (shown_further and_text (By left.Member) (more u us)) t (more u us) (further_safe (Between join.And) and_text es (ands es e) (By left.Member) (more u us)) (within_is (By left.Member) es t e (says p es e)) (says_on q (Between join.And) and_text es e (ands es e)))
   says (proper_no_any a) es e = call_is es a (kind.Word word.Or) (word_spelling word.Or) (m.Word word.Or) tree.any [] none e refl (by_word word.Or es e) (no_args_is es)
   says (proper_one_any a t p) es e = call_is es a (kind.Word word.Or) (word_spelling word.Or) (m.Word word.Or) tree.any (shown_parts comma_text Chain (more t none)) (more t none) e refl (by_word word.Or es e) (says_args p es e)
-  says (proper_any a t u us p q) es e = several_is join.Or es a (shown_parts or_text (Several join.And) (more t (more u us))) t u us (parts_is (Between join.Or) es (within (Several join.And) t (shown t)) (shown_further or_text (Several join.And) (more u us)) t (more u us) (further_safe (Between join.Or) or_text es (ors es e) (Several join.And) (more u us)) (within_is (Several join.And) es t e (says p es e)) (says_on q (Between join.Or) or_text es e (ors es e)))
-  says (proper_chain a t u us p q) es e = several_is join.Chain es a (shown_parts chain_text (Several join.Or) (more t (more u us))) t u us (parts_is (Between join.Chain) es (within (Several join.Or) t (shown t)) (shown_further chain_text (Several join.Or) (more u us)) t (more u us) (further_safe (Between join.Chain) chain_text es (semicolons es e) (Several join.Or) (more u us)) (within_is (Several join.Or) es t e (says p es e)) (says_on q (Between join.Chain) chain_text es e (semicolons es e)))
+  says (proper_any a t u us p q) es e = several_is join.Or es a (shown_parts or_text (Several join.And) (more t (more u us))) t u us (parts_is (Between join.Or) es (printed_within (Several join.And) t (shown t)) (shown_further or_text (Several join.And) (more u us)) t (more u us) (further_safe (Between join.Or) or_text es (ors es e) (Several join.And) (more u us)) (within_is (Several join.And) es t e (says p es e)) (says_on q (Between join.Or) or_text es e (ors es e)))
+  says (proper_chain a t u us p q) es e = several_is join.Chain es a (shown_parts chain_text (Several join.Or) (more t (more u us))) t u us (parts_is (Between join.Chain) es (printed_within (Several join.Or) t (shown t)) (shown_further chain_text (Several join.Or) (more u us)) t (more u us) (further_safe (Between join.Chain) chain_text es (semicolons es e) (Several join.Or) (more u us)) (within_is (Several join.Or) es t e (says p es e)) (says_on q (Between join.Chain) chain_text es e (semicolons es e)))
   says (proper_alias a [] t h p) es e = absurd h
-  says (proper_alias a (c ∷ cs) t h p) es e = alias_is es a c cs (within Prefix t (shown t)) t e (within_is Prefix es t e (says p es e))
+  says (proper_alias a (c ∷ cs) t h p) es e = alias_is es a c cs (printed_within Prefix t (shown t)) t e (within_is Prefix es t e (says p es e))
   says (proper_record a ns ps ts p) es e = record_is es a (shown_fields ns ts) ns ps ts e (says_fields p (around.Brace ∷ es) refl)
   says (proper_list a ts p) es e = list_is es a (shown_parts comma_text Chain ts) ts e (says_args p es e)
   says (proper_woven a ts p) es e = woven_is es a (shown_strands false ts) ts e (says_strands p false es)
 
   says_on : {ts : Forest} → AllProper ts → (s : Separator) (between : List ℕ) (es : List Enclosing) → mode_in es ≡ Formula → Divides s between es → SpeaksOn (λ i j. weight_further i j (between_count j s) (part_of s) ts) s es (shown_further between (part_of s) ts) ts
   says_on proper_none s b es e d = no_more_is s es
-  says_on (proper_more t ts p q) s b es e d = more_is s b es (within (part_of s) t (shown t)) (shown_further b (part_of s) ts) t ts d (further_safe s b es d (part_of s) ts) (within_is (part_of s) es t e (says p es e)) (says_on q s b es e d)
+  says_on (proper_more t ts p q) s b es e d = more_is s b es (printed_within (part_of s) t (shown t)) (shown_further b (part_of s) ts) t ts d (further_safe s b es d (part_of s) ts) (within_is (part_of s) es t e (says p es e)) (says_on q s b es e d)
 
   says_args : {ts : Forest} → AllProper ts → (es : List Enclosing) → mode_in es ≡ Formula → SpeaksArgs (λ i j. weight_parts i j j Chain ts) es (shown_parts comma_text Chain ts) ts
   says_args proper_none es e = no_args_is es
-  says_args (proper_more t ts p q) es e = some_args_is es (shown_parts comma_text Chain (more t ts)) (more t ts) (parts_is Comma es (within Chain t (shown t)) (shown_further comma_text Chain ts) t ts (further_safe Comma comma_text es (commas es e) Chain ts) (within_is Chain es t e (says p es e)) (says_on q Comma comma_text es e (commas es e)))
+  says_args (proper_more t ts p q) es e = some_args_is es (shown_parts comma_text Chain (more t ts)) (more t ts) (parts_is Comma es (printed_within Chain t (shown t)) (shown_further comma_text Chain ts) t ts (further_safe Comma comma_text es (commas es e) Chain ts) (within_is Chain es t e (says p es e)) (says_on q Comma comma_text es e (commas es e)))
 
   says_fields : {ns : List (List ℕ)} {ts : Forest} → ProperFields ns ts → (es : List Enclosing) → mode_in es ≡ Formula → SpeaksFields (λ i j. weight_parts i j j (Several join.Or) ts) es (shown_fields ns ts) ns ts
   says_fields proper_no_fields es e = no_fields_is es
   says_fields (proper_more_fields [] ns t ts g p q) es e = absurd g
-  says_fields (proper_more_fields (c ∷ cs) ns t ts g p q) es e = some_fields_is es c cs (within (Several join.Or) t (shown t)) (shown_further_fields ns ts) ns t ts e (fields_safe q) (within_is (Several join.Or) es t e (says p es e)) (says_on_fields q es e)
+  says_fields (proper_more_fields (c ∷ cs) ns t ts g p q) es e = some_fields_is es c cs (printed_within (Several join.Or) t (shown t)) (shown_further_fields ns ts) ns t ts e (fields_safe q) (within_is (Several join.Or) es t e (says p es e)) (says_on_fields q es e)
 
   says_on_fields : {ns : List (List ℕ)} {ts : Forest} → ProperFields ns ts → (es : List Enclosing) → mode_in es ≡ Formula → SpeaksOnFields (λ i j. weight_further i j j (Several join.Or) ts) es (shown_further_fields ns ts) ns ts
   says_on_fields proper_no_fields es e = no_more_fields_is es
   says_on_fields (proper_more_fields [] ns t ts g p q) es e = absurd g
-  says_on_fields (proper_more_fields (c ∷ cs) ns t ts g p q) es e = more_fields_is es c cs (within (Several join.Or) t (shown t)) (shown_further_fields ns ts) ns t ts e (fields_safe q) (within_is (Several join.Or) es t e (says p es e)) (says_on_fields q es e)
+  says_on_fields (proper_more_fields (c ∷ cs) ns t ts g p q) es e = more_fields_is es c cs (printed_within (Several join.Or) t (shown t)) (shown_further_fields ns ts) ns t ts e (fields_safe q) (within_is (Several join.Or) es t e (says p es e)) (says_on_fields q es e)
 
   says_strands : {ts : Forest} → AllProper ts → (after : Bool) (es : List Enclosing) → SpeaksStrands (λ i j. weight_strands i j ts) es (shown_strands after ts) ts
   says_strands proper_none b es = no_strands_is es
@@ -192,7 +192,7 @@ mutual
 pub record Shown (t : Tree) : Type 0 where
   pub items : List Item
   pub tokens : AreTokensOf (shown t) items t
-  pub counted : (i j : ℕ) → count i j items ≡ weight i j t
+  pub counted : (i j : ℕ) → tokens_weight i j items ≡ weight i j t
 
 pub shown_is : (t : Tree) → Proper t → Shown t
 shown_is t p =

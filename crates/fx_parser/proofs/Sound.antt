@@ -1,7 +1,7 @@
 -- What is accepted has a tree.
 use Rattle.std.proofs.Common.{◌≡◌, ◌⊎◌, inl, inr, ℕ, suc, max, true, false, List, [], ◌∷◌, ◌++◌, refl, ap, sym, subst, Option, Some, None}
 use Rattle.fx_lexer.specs.declared.token.Symbol.TheVariants as symbol
-use Rattle.fx_core.specs.Tree.{Tree, NamedTree, node, Head, none, more, forest, names_of, parts_of}
+use Rattle.fx_core.specs.Tree.{Tree, NamedTree, node, Head, none, more, forest, tree_field_names, field_trees}
 use Rattle.fx_core.specs.Tree as tree
 use Rattle.fx_grammar.specs.declared.item.Item.{Item}
 use Rattle.fx_grammar.specs.declared.item.Meaning.{Meaning}
@@ -9,7 +9,7 @@ use Rattle.fx_grammar.specs.declared.item.Meaning.TheVariants as m
 use Rattle.fx_grammar.specs.declared.line.Join.TheVariants as join
 use Rattle.fx_grammar.specs.declared.line.Separator.TheVariants.{Between, Comma}
 use Rattle.fx_grammar.specs.declared.line.Line.TheVariants.{Chain, Several, Alias, Percent, Access}
-use Rattle.fx_grammar.specs.Grammar.{field_name, separates, leaf_of, callee, Parses, ended, aliased, percent, dotted, a_global, a_call, brackets, a_record, a_list, a_weave, no_args, some_args, field, SomeFields, one_field, further_field, no_fields, some_fields, Strands, no_strands, piece, island}
+use Rattle.fx_grammar.specs.Grammar.{field_name, separates, atom_head, callee, Parses, ended, aliased, percent, dotted, a_global, a_call, brackets, a_record, a_list, a_weave, no_args, some_args, field, SomeFields, one_field, further_field, no_fields, some_fields, Strands, no_strands, piece, island}
 use Rattle.fx_grammar.specs.Grammar.{bare, marked}
 use Rattle.fx_grammar.specs.Formulas.{no_entries, last_entry, further_entry}
 use Rattle.fx_parser.specs.declared.state.Whole.{Whole}
@@ -24,7 +24,7 @@ use Rattle.fx_parser.specs.declared.state.Follow.{Follow}
 use Rattle.fx_parser.specs.declared.state.Follow.TheVariants as follow
 use Rattle.fx_parser.specs.declared.state.Move.{Move}
 use Rattle.fx_parser.specs.declared.state.Move.TheVariants.{Stay, Push, Pop, Stop}
-use Rattle.fx_parser.specs.Machine.{begin_of, follow_of, or_else, operand, emptied, closed, semicolon, behind_alias, behind_percent, behind_access, behind_name, called, name_then, bracket_then, brace_then, equal_then, colon, strand, turn, top, outer, may_end, ends}
+use Rattle.fx_parser.specs.Machine.{begin_of, follow_of, or_move, operand, emptied, closed, semicolon, behind_alias, behind_percent, behind_access, behind_name, follow_move, name_then, bracket_then, brace_then, equal_then, colon, strand, turn, top, outer, may_end, ends}
 use Rattle.fx_parser.specs.Trees.{HasFormula, HasEntries}
 use Rattle.fx_parser.proofs.Complete.{Ends, Goes}
 use Rattle.fx_parser.proofs.RecognizedLines.{Has, HasParts, Onto, onto_parts, more_parts, up_chain, prefix_up, to_or, to_series, more_several, operator_onto}
@@ -76,7 +76,7 @@ operand_ok : (w : Whole) (fs : List Frame) (x : Item) (us : List Item) → Led w
 operand_ok w fs x us g = operand_by w fs x us (begin_of x.meaning) (begin_is x.meaning) g
 
 -- which of two steps was made, and at which token
-either : (w : Whole) (fs : List Frame) (us : List Item) (k n : Move) → Led w fs us (or_else k n) → Led w fs us k ⊎ Led w fs us n
+either : (w : Whole) (fs : List Frame) (us : List Item) (k n : Move) → Led w fs us (or_move k n) → Led w fs us k ⊎ Led w fs us n
 either w fs us Stop n g = inr g
 either w fs us (Stay s) n g = inl g
 either w fs us (Push f s) n g = inl g
@@ -97,7 +97,7 @@ brace_from : (w : Whole) (fs : List Frame) (us : List Item) (s : State) (f : Fol
 brace_from w fs us s follow.CloseBrace k e g = (e, g)
 brace_from w fs us s _ k e g = absurd g
 
-called_from : (w : Whole) (fs : List Frame) (us : List Item) (f : Follow) (k : Meaning) → Follows f k → Led w fs us (called f) → (k ≡ m.Symbol symbol.OpenParen) × (Fills w (frame.Call ∷ fs) us ⊎ Emptied w (frame.Call ∷ fs) us)
+called_from : (w : Whole) (fs : List Frame) (us : List Item) (f : Follow) (k : Meaning) → Follows f k → Led w fs us (follow_move f) → (k ≡ m.Symbol symbol.OpenParen) × (Fills w (frame.Call ∷ fs) us ⊎ Emptied w (frame.Call ∷ fs) us)
 called_from w fs us follow.Call k e g = (e, g)
 called_from w fs us _ k e g = absurd g
 
@@ -156,7 +156,7 @@ access_by w fs x us f e g ts h = percent_by w fs x us f e g ts (access_percent t
 
 name_by : (w : Whole) (fs : List Frame) (x : Item) (us : List Item) (f : Follow) → Follows f x.meaning → Led w fs us (behind_name w (top fs) f) → (y : Item) (cs : List ℕ) → y.meaning ≡ m.Name cs → Fills w fs (y ∷ x ∷ us)
 name_by w fs x us follow.Call e g y cs h = call_ok w fs y (tree.call cs) x us (ap callee h) e g
-name_by w fs x us f e g y cs h = access_by w fs x us f e g (y ∷ x ∷ us) (leaf_access y (tree.name cs) (x ∷ us) (ap leaf_of h))
+name_by w fs x us f e g y cs h = access_by w fs x us f e g (y ∷ x ∷ us) (leaf_access y (tree.name cs) (x ∷ us) (ap atom_head h))
 
 -- behind a `;`
 series_onto : (w : Whole) (o : Option Frame) (us ts rest : List Item) → semicolon w o ≡ Stay state.OperandOrEnd → Onto (Several join.Chain) us ts → Content (room_in o w) us rest → Content (room_in o w) ts rest
@@ -300,7 +300,7 @@ end_entries whole.Formula = tt
 end_entries whole.Named = (0, [], no_entries)
 
 nothing_left : (w : Whole) (s : State) → may_end w s ≡ true → Wants w s [] []
-nothing_left w state.AfterName e = λ x cs f. alias_end w (x ∷ []) (percent_alias (x ∷ []) [] (access_percent (x ∷ []) [] (leaf_access x (tree.name cs) [] (ap leaf_of f))))
+nothing_left w state.AfterName e = λ x cs f. alias_end w (x ∷ []) (percent_alias (x ∷ []) [] (access_percent (x ∷ []) [] (leaf_access x (tree.name cs) [] (ap atom_head f))))
 nothing_left w state.AfterAccess e = λ ts h. alias_end w ts (percent_alias ts [] (access_percent ts [] h))
 nothing_left w state.AfterPercent e = λ ts h. alias_end w ts (percent_alias ts [] h)
 nothing_left w state.AfterAlias e = λ ts h. alias_end w ts h

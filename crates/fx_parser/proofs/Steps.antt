@@ -9,11 +9,11 @@ use Rattle.fx_lexer.specs.declared.token.TokenKind.TheVariants as kind
 use Rattle.fx_lexer.specs.declared.element.Enclosing.{Enclosing}
 use Rattle.fx_lexer.specs.declared.element.Mode.TheVariants.{Formula}
 use Rattle.fx_lexer.specs.Spelling.{in_name, word_spelling, symbol_spelling}
-use Rattle.fx_lexer.specs.Lexed.{width, mode_in, after}
-use Rattle.fx_lexer.specs.Scan.{run}
+use Rattle.fx_lexer.specs.Lexed.{width, mode_in, enclosing_after}
+use Rattle.fx_lexer.specs.Scan.{run_length}
 use Rattle.fx_core.specs.declared.expr.Op.{Op}
 use Rattle.fx_core.specs.declared.expr.Op.TheVariants as op
-use Rattle.fx_core.specs.Tree.{Tree, node, Head, Forest, none, more, forest, names_of, parts_of}
+use Rattle.fx_core.specs.Tree.{Tree, node, Head, Forest, none, more, forest, tree_field_names, field_trees}
 use Rattle.fx_core.specs.Tree as tree
 use Rattle.fx_grammar.specs.declared.item.Item.{Item}
 use Rattle.fx_grammar.specs.declared.item.Meaning.{Meaning}
@@ -22,10 +22,10 @@ use Rattle.fx_grammar.specs.declared.line.Join.TheVariants as join
 use Rattle.fx_grammar.specs.declared.line.Left.TheVariants as left
 use Rattle.fx_grammar.specs.declared.line.Line.{Line}
 use Rattle.fx_grammar.specs.declared.line.Line.TheVariants.{Chain, Several, By, Alias, Prefix, Power, Percent, Access, Atom}
-use Rattle.fx_grammar.specs.Grammar.{place, operator, sign, leaf_of, Parses, next, aliased, signed, raised, percent, dotted, leaf, a_global, brackets}
-use Rattle.fx_parser.specs.Printing.{looseness, line_of_op, left_line, right_line, operator_spelling, spaced, name_text, line_of, within, shown}
+use Rattle.fx_grammar.specs.Grammar.{first_byte, operator, sign, atom_head, Parses, next, aliased, signed, raised, percent, dotted, leaf, a_global, brackets}
+use Rattle.fx_parser.specs.Printing.{looseness, line_of_op, left_line, right_line, operator_spelling, spaced, name_text, line_of, printed_within, shown}
 use Rattle.fx_parser.specs.SameTree.{unplaced, unplaced_head}
-use Rattle.fx_parser.specs.Fewest.{counts, count}
+use Rattle.fx_parser.specs.Fewest.{token_weight, tokens_weight}
 use Rattle.fx_lexer.proofs.Follows.{SymbolEnds}
 use Rattle.fx_parser.proofs.Ahead.{Rest, tok, space_then, sign_then, word_then, name_then, name_no_digit, Safe, safe_space, safe_close, safe_bracket, safe_percent, safe_dot}
 use Rattle.fx_parser.proofs.PrintedLines.{holds}
@@ -42,7 +42,7 @@ pub record Told (w : Weight) (l : Line) (xs : List Item) (t : Tree) (n : ℕ →
   pub seen : Tree
   pub same : unplaced seen ≡ unplaced t
   pub parses : Parses l depth xs seen (n to)
-  pub counted : (i j : ℕ) → count i j xs ≡ w i j + count i j (n to)
+  pub counted : (i j : ℕ) → tokens_weight i j xs ≡ w i j + tokens_weight i j (n to)
 
 -- these characters are read as tokens of the tree before n
 pub record Says (w : Weight) (l : Line) (es : List Enclosing) (cs : List ℕ) (t : Tree) (n : ℕ → List Item) : Type 0 where
@@ -61,7 +61,7 @@ pub recounted : {v w : Weight} (l : Line) (es : List Enclosing) (cs : List ℕ) 
 recounted {v = v} {w = w} l es cs t n e p = record {
   items = p.items;
   rest = p.rest;
-  told = λ at. let q = p.told at in record { to = q.to; depth = q.depth; seen = q.seen; same = q.same; parses = q.parses; counted = λ i j. q.counted i j ∙ ap (λ x. x + count i j (n q.to)) (e i j) };
+  told = λ at. let q = p.told at in record { to = q.to; depth = q.depth; seen = q.seen; same = q.same; parses = q.parses; counted = λ i j. q.counted i j ∙ ap (λ x. x + tokens_weight i j (n q.to)) (e i j) };
 }
 
 pub loosened : {w : Weight} (l k : Line) (es : List Enclosing) (cs : List ℕ) (t : Tree) (n : ℕ → List Item) → leb (looseness k) (looseness l) ≡ true → Says w k es cs t n → Says w l es cs t n
@@ -92,7 +92,7 @@ lowest : (l : Line) → leb 0 (looseness l) ≡ true
 lowest l = le-leb 0 (looseness l) (omega arith)
 
 -- a part where a line stands, in brackets where its own is looser
-pub within_is : (l : Line) (es : List Enclosing) (t : Tree) → mode_in es ≡ Formula → Speaks (λ i j. weight i j t) (line_of t) es (shown t) t → Speaks (λ i j. cost i j l t) l es (within l t (shown t)) t
+pub within_is : (l : Line) (es : List Enclosing) (t : Tree) → mode_in es ≡ Formula → Speaks (λ i j. weight i j t) (line_of t) es (shown t) t → Speaks (λ i j. cost i j l t) l es (printed_within l t (shown t)) t
 within_is l es t h f k n s r = by (leb (looseness (line_of t)) (looseness l)) refl
   where
     by : (b : Bool) → leb (looseness (line_of t)) (looseness l) ≡ b → Says (λ x y. weight x y t + cond b 0 x) l es (cond b (shown t) (40 ∷ (shown t ++ 41 ∷ [])) ++ k) t n
@@ -117,7 +117,7 @@ within_is l es t h f k n s r = by (leb (looseness (line_of t)) (looseness l)) re
         says_text l es _ (40 ∷ (shown t ++ 41 ∷ k)) t n (ap (λ x. 40 ∷ x) (append_assoc (shown t) (41 ∷ []) k)) (loosened l Atom es (40 ∷ (shown t ++ 41 ∷ k)) t n (lowest l) p)
 
 -- a token that is an atom by itself
-pub leaf_is : (es : List Enclosing) (cs : List ℕ) (a : ℕ) (h : Head) (k : TokenKind) (xs : List ℕ) (g : Meaning) (n : ℕ → List Item) → leaf_of g ≡ Some h
+pub leaf_is : (es : List Enclosing) (cs : List ℕ) (a : ℕ) (h : Head) (k : TokenKind) (xs : List ℕ) (g : Meaning) (n : ℕ → List Item) → atom_head g ≡ Some h
     → Rest es cs (λ at. tok k xs g at ∷ n (at + width xs)) → Says (λ i j. 0) Atom es cs (node a h none) n
 leaf_is es cs a h k xs g n e r = record {
   items = λ at. tok k xs g at ∷ n (at + width xs);
@@ -141,7 +141,7 @@ operator_meaning op.Ge = m.Symbol symbol.GreaterEqual
 operator_meaning op.In = m.Word word.In
 operator_meaning op.ExactIn = m.Word word.ExactIn
 
-meaning_counts : (o : Op) (b c : ℕ) → counts b c (operator_meaning o) ≡ 0
+meaning_counts : (o : Op) (b c : ℕ) → token_weight b c (operator_meaning o) ≡ 0
 meaning_counts op.Add b c = refl
 meaning_counts _ b c = refl
 
@@ -151,10 +151,10 @@ pub record Led (g : Meaning) (es : List Enclosing) (cs : List ℕ) (n : ℕ → 
   pub rest : Rest es cs (λ at. front at ∷ n (go at))
   pub means : (at : ℕ) → (front at).meaning ≡ g
 
-pub symbol_led : (s : Symbol) (es : List Enclosing) (cs : List ℕ) (n : ℕ → List Item) → mode_in es ≡ Formula → after (kind.Symbol s) es ≡ es → SymbolEnds s cs → Rest es cs n → Led (m.Symbol s) es (symbol_spelling s ++ cs) n
+pub symbol_led : (s : Symbol) (es : List Enclosing) (cs : List ℕ) (n : ℕ → List Item) → mode_in es ≡ Formula → enclosing_after (kind.Symbol s) es ≡ es → SymbolEnds s cs → Rest es cs n → Led (m.Symbol s) es (symbol_spelling s ++ cs) n
 symbol_led s es cs n h e ends r = record { front = tok (kind.Symbol s) (symbol_spelling s) (m.Symbol s); go = λ at. at + width (symbol_spelling s); rest = sign_then s es es cs n h e ends r; means = λ at. refl }
 
-word_led : (w : Word) (es : List Enclosing) (cs : List ℕ) (n : ℕ → List Item) → mode_in es ≡ Formula → run in_name cs ≡ 0 → Rest es cs n → Led (m.Word w) es (word_spelling w ++ cs) n
+word_led : (w : Word) (es : List Enclosing) (cs : List ℕ) (n : ℕ → List Item) → mode_in es ≡ Formula → run_length in_name cs ≡ 0 → Rest es cs n → Led (m.Word w) es (word_spelling w ++ cs) n
 word_led w es cs n h ends r = record { front = tok (kind.Word w) (word_spelling w) (m.Word w); go = λ at. at + width (word_spelling w); rest = word_then w es cs n h ends r; means = λ at. refl }
 
 pub spaced_led : (g : Meaning) (es : List Enclosing) (cs : List ℕ) (n : ℕ → List Item) → mode_in es ≡ Formula → Led g es cs n → Led g es (32 ∷ cs) n
@@ -186,7 +186,7 @@ between_led o es cs n h r =
     subst (λ x. Led (operator_meaning o) es x n) (sym (ap (λ x. 32 ∷ x) (append_assoc (operator_spelling o) (32 ∷ []) cs))) q
 
 pair_parses : (o : Op) (d e : ℕ) (ts : List Item) (t : Tree) (x : Item) (us : List Item) (u : Tree) (rest : List Item) → Parses (left_line o) d ts t (x ∷ us) → x.meaning ≡ operator_meaning o → Parses (right_line o) e us u rest
-    → Parses (line_of_op o) (suc (max d e)) ts (node (place ts) (tree.pair o) (more t (more u none))) rest
+    → Parses (line_of_op o) (suc (max d e)) ts (node (first_byte ts) (tree.pair o) (more t (more u none))) rest
 pair_parses op.Add d e ts t x us u rest p f q = next left.Sum d e ts t x us op.Add u rest p (ap (operator left.Sum) f) q
 pair_parses op.Sub d e ts t x us u rest p f q = next left.Sum d e ts t x us op.Sub u rest p (ap (operator left.Sum) f) q
 pair_parses op.Mul d e ts t x us u rest p f q = next left.Prod d e ts t x us op.Mul u rest p (ap (operator left.Prod) f) q
@@ -216,20 +216,20 @@ pair_is {x = c} {y = d} o es a v w t u h f g k n s r =
           record {
             to = y.to;
             depth = suc (max x.depth y.depth);
-            seen = node (place (p.items at)) (tree.pair o) (more x.seen (more y.seen none));
+            seen = node (first_byte (p.items at)) (tree.pair o) (more x.seen (more y.seen none));
             same = λ i. node 0 (tree.pair o) (more (x.same i) (more (y.same i) none));
             parses = pair_parses o x.depth y.depth (p.items at) x.seen (b.front x.to) (q.items (b.go x.to)) y.seen (n y.to) x.parses (b.means x.to) y.parses;
             counted = λ i j.
                 let e = x.counted i j in
                 let f = y.counted i j in
-                let g : counts i j (b.front x.to).meaning ≡ 0 = ap (counts i j) (b.means x.to) ∙ meaning_counts o i j in
+                let g : token_weight i j (b.front x.to).meaning ≡ 0 = ap (token_weight i j) (b.means x.to) ∙ meaning_counts o i j in
                 omega (arith, e, f, g);
           };
     } in
     says_text (line_of_op o) es _ (v ++ (spaced (operator_spelling o) ++ (w ++ k))) _ n (append_assoc v (spaced (operator_spelling o) ++ w) k ∙ ap (λ x. v ++ x) (append_assoc (spaced (operator_spelling o)) w k)) z
 
 -- `-` and `!`
-pub sign_is : {w : Weight} (y : Symbol) (hd : Head) (es : List Enclosing) (a : ℕ) (v : List ℕ) (t : Tree) → mode_in es ≡ Formula → sign (m.Symbol y) ≡ Some hd → after (kind.Symbol y) es ≡ es → ((cs : List ℕ) → SymbolEnds y cs)
+pub sign_is : {w : Weight} (y : Symbol) (hd : Head) (es : List Enclosing) (a : ℕ) (v : List ℕ) (t : Tree) → mode_in es ≡ Formula → sign (m.Symbol y) ≡ Some hd → enclosing_after (kind.Symbol y) es ≡ es → ((cs : List ℕ) → SymbolEnds y cs)
     → Speaks w Prefix es v t → Speaks w Prefix es (symbol_spelling y ++ v) (node a hd (more t none))
 sign_is {w = c} y hd es a v t h e f ends p k n s r =
     let q = p k n s r in
@@ -259,7 +259,7 @@ percent_is {w = c} es a v t h p k n s r =
       told = λ at. let x = q.told at in record {
         to = x.to + width (37 ∷ []);
         depth = suc x.depth;
-        seen = node (place (q.items at)) tree.percent (more x.seen none);
+        seen = node (first_byte (q.items at)) tree.percent (more x.seen none);
         same = λ i. node 0 tree.percent (more (x.same i) none);
         parses = percent x.depth (q.items at) x.seen (tok (kind.Symbol symbol.Percent) (37 ∷ []) (m.Symbol symbol.Percent) x.to) (n (x.to + width (37 ∷ []))) x.parses refl;
         counted = λ i j. let a = x.counted i j in omega (arith, a);
@@ -277,7 +277,7 @@ dot_is {w = d} es a c cs v t h p k n s r =
       told = λ at. let x = q.told at in record {
         to = (x.to + width (46 ∷ [])) + width w;
         depth = suc x.depth;
-        seen = node (place (q.items at)) (tree.dot (c ∷ cs)) (more x.seen none);
+        seen = node (first_byte (q.items at)) (tree.dot (c ∷ cs)) (more x.seen none);
         same = λ i. node 0 (tree.dot (c ∷ cs)) (more (x.same i) none);
         parses = dotted x.depth (q.items at) x.seen (tok (kind.Symbol symbol.Dot) (46 ∷ []) (m.Symbol symbol.Dot) x.to) (tok kind.Name w (m.Name (c ∷ cs)) (x.to + width (46 ∷ []))) (c ∷ cs) (n ((x.to + width (46 ∷ [])) + width w)) x.parses refl refl;
         counted = λ i j. let a = x.counted i j in omega (arith, a);
@@ -299,7 +299,7 @@ alias_is {w = d} es a c cs v t h p k n s r =
           let j = (i + width (65 ∷ 115 ∷ [])) + width (32 ∷ []) in record {
             to = j + width w;
             depth = suc x.depth;
-            seen = node (place (q.items at)) (tree.alias (c ∷ cs)) (more x.seen none);
+            seen = node (first_byte (q.items at)) (tree.alias (c ∷ cs)) (more x.seen none);
             same = λ i. node 0 (tree.alias (c ∷ cs)) (more (x.same i) none);
             parses = aliased x.depth (q.items at) x.seen (tok (kind.Word word.As) (65 ∷ 115 ∷ []) (m.Word word.As) i) (tok kind.Name w (m.Name (c ∷ cs)) j) (c ∷ cs) (n (j + width w)) x.parses refl refl;
             counted = λ i j. let a = x.counted i j in omega (arith, a);

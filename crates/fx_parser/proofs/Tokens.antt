@@ -7,7 +7,7 @@ use Rattle.fx_lexer.specs.declared.token.Token.{Token as Tok}
 use Rattle.fx_lexer.specs.Lexed.{Lexed}
 use Rattle.fx_lexer.specs.Slices.{IsSlice}
 use Rattle.fx_lexer.proofs.Readings.{lexed_one}
-use Rattle.fx_grammar.specs.Meant.{IsSound}
+use Rattle.fx_grammar.specs.Meant.{IsSoundToken}
 use Rattle.fx_grammar.proofs.MeantSound.{sound_at}
 use Rattle.fx_parser.specs.Details.{token_at, unexpected_by, unexpected_words}
 
@@ -28,7 +28,7 @@ found_in at (x ∷ ts) t e = by (λ f. found_in at ts t f) (eqb x.at at) e
 -- it is a slice of the source
 pub slice_at : (source : List ℕ) (at : ℕ) (ts : List Tok) (o : Option Tok) → IsUtf8 source → Lexed (chars source) ts → o ≡ token_at at ts → IfSome o (λ t. IsSlice source t)
 slice_at source at ts None u h e = tt
-slice_at source at ts (Some t) u h e = let r = found_in at ts t (sym e) in (subst (IsSound source) (sym r.2) (sound_at source ts r.0 t u h r.1)).slice
+slice_at source at ts (Some t) u h e = let r = found_in at ts t (sym e) in (subst (IsSoundToken source) (sym r.2) (sound_at source ts r.0 t u h r.1)).slice
 
 -- a text has one list of tokens
 pub words_are : (source : List ℕ) (at : ℕ) (ts us : List Tok) (o : Option Tok) → Lexed (chars source) ts → Lexed (chars source) us → o ≡ token_at at ts → unexpected_by source o ≡ unexpected_words source at us

@@ -2,7 +2,7 @@
 use Rattle.std.proofs.Common.{◌≡◌, ◌⊎◌, ℕ, suc, max, true, false, List, [], ◌∷◌, refl, Option, Some, None}
 use Rattle.fx_lexer.specs.declared.token.Symbol.TheVariants as symbol
 use Rattle.fx_lexer.specs.declared.token.Word.TheVariants as word
-use Rattle.fx_core.specs.Tree.{Tree, NamedTree, node, Head, none, more, forest, names_of, parts_of}
+use Rattle.fx_core.specs.Tree.{Tree, NamedTree, node, Head, none, more, forest, tree_field_names, field_trees}
 use Rattle.fx_core.specs.Tree as tree
 use Rattle.fx_grammar.specs.declared.item.Item.{Item}
 use Rattle.fx_grammar.specs.declared.item.Meaning.{Meaning}
@@ -10,7 +10,7 @@ use Rattle.fx_grammar.specs.declared.item.Meaning.TheVariants as m
 use Rattle.fx_grammar.specs.declared.line.Join.TheVariants as join
 use Rattle.fx_grammar.specs.declared.line.Separator.TheVariants.{Comma}
 use Rattle.fx_grammar.specs.declared.line.Line.TheVariants.{Chain, Several, Alias, Prefix, Percent, Access, Atom}
-use Rattle.fx_grammar.specs.Grammar.{sign, leaf_of, callee, plain, no_alias, no_sign, signed, base, raised, no_percent, no_dot, leaf, alone, SomeFields, Strands}
+use Rattle.fx_grammar.specs.Grammar.{sign, atom_head, callee, plain, no_alias, no_sign, signed, base, raised, no_percent, no_dot, leaf, alone, SomeFields, Strands}
 use Rattle.fx_parser.specs.declared.state.Whole.{Whole}
 use Rattle.fx_parser.specs.declared.state.Whole.TheVariants as whole
 use Rattle.fx_parser.specs.declared.state.Frame.{Frame}
@@ -133,7 +133,7 @@ Led w fs us Stop = ⊥
 
 -- tokens by what they are
 abbrev pub Begins : Begin → Meaning → Type 0
-Begins begin.Leaf k = (h : Head) × (leaf_of k ≡ Some h)
+Begins begin.Leaf k = (h : Head) × (atom_head k ≡ Some h)
 Begins begin.Name k = (cs : List ℕ) × (k ≡ m.Name cs)
 Begins begin.Callee k = (h : Head) × (callee k ≡ Some h)
 Begins begin.Sign k = (h : Head) × (sign k ≡ Some h)
@@ -242,7 +242,7 @@ percent_alias ts rest h = prefix_alias ts rest (percent_prefix ts rest h)
 pub atom_access : (ts rest : List Item) → Has Atom ts rest → Has Access ts rest
 atom_access ts rest h = (h.0, h.1, no_dot h.0 ts h.1 rest h.2)
 
-pub leaf_access : (x : Item) (h : Head) (rest : List Item) → leaf_of x.meaning ≡ Some h → Has Access (x ∷ rest) rest
+pub leaf_access : (x : Item) (h : Head) (rest : List Item) → atom_head x.meaning ≡ Some h → Has Access (x ∷ rest) rest
 leaf_access x h rest e = atom_access (x ∷ rest) rest (1, _, leaf x h rest e)
 
 -- a prefix with a sign, and one that raises

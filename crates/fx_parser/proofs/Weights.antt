@@ -14,9 +14,9 @@ use Rattle.fx_grammar.specs.declared.line.Left.{Left}
 use Rattle.fx_grammar.specs.declared.line.Left.TheVariants as left
 use Rattle.fx_grammar.specs.declared.line.Line.{Line}
 use Rattle.fx_grammar.specs.declared.line.Line.TheVariants.{Chain, Several, By, Prefix, Percent, Access}
-use Rattle.fx_grammar.specs.Grammar.{separates, operator, sign, leaf_of, callee}
+use Rattle.fx_grammar.specs.Grammar.{separates, operator, sign, atom_head, callee}
 use Rattle.fx_parser.specs.Printing.{looseness, left_line, right_line, is_several, line_of}
-use Rattle.fx_parser.specs.Fewest.{counts}
+use Rattle.fx_parser.specs.Fewest.{token_weight}
 
 -- a bracket pair where the tree's own line is looser
 abbrev pub extra : ℕ → Line → Tree → ℕ
@@ -70,20 +70,20 @@ abbrev pub cost : ℕ → ℕ → Line → Tree → ℕ
 cost b c l t = weight b c t + extra b l t
 
 -- no brackets or commas
-pub leaf_counts : (g : Meaning) (h : Head) (b c : ℕ) → leaf_of g ≡ Some h → counts b c g ≡ 0
+pub leaf_counts : (g : Meaning) (h : Head) (b c : ℕ) → atom_head g ≡ Some h → token_weight b c g ≡ 0
 leaf_counts (m.Symbol s) h b c e = absurd cc
 leaf_counts _ h b c e = refl
 
-pub sign_counts : (g : Meaning) (h : Head) (b c : ℕ) → sign g ≡ Some h → counts b c g ≡ 0
+pub sign_counts : (g : Meaning) (h : Head) (b c : ℕ) → sign g ≡ Some h → token_weight b c g ≡ 0
 sign_counts (m.Symbol symbol.OpenParen) h b c e = absurd cc
 sign_counts (m.Symbol symbol.Comma) h b c e = absurd cc
 sign_counts _ h b c e = refl
 
-pub callee_counts : (g : Meaning) (h : Head) (b c : ℕ) → callee g ≡ Some h → counts b c g ≡ 0
+pub callee_counts : (g : Meaning) (h : Head) (b c : ℕ) → callee g ≡ Some h → token_weight b c g ≡ 0
 callee_counts (m.Symbol s) h b c e = absurd cc
 callee_counts _ h b c e = refl
 
-pub operator_counts : (l : Left) (g : Meaning) (o : Op) (b c : ℕ) → operator l g ≡ Some o → counts b c g ≡ 0
+pub operator_counts : (l : Left) (g : Meaning) (o : Op) (b c : ℕ) → operator l g ≡ Some o → token_weight b c g ≡ 0
 operator_counts left.Member (m.Symbol symbol.OpenParen) o b c e = absurd cc
 operator_counts left.Member (m.Symbol symbol.Comma) o b c e = absurd cc
 operator_counts left.Comp (m.Symbol symbol.OpenParen) o b c e = absurd cc
@@ -95,7 +95,7 @@ operator_counts left.Prod (m.Symbol symbol.Comma) o b c e = absurd cc
 operator_counts _ _ o b c e = refl
 
 -- a separator
-pub divider_counts : (s : Separator) (g : Meaning) (b c : ℕ) → separates s g ≡ true → counts b c g ≡ between_count c s
+pub divider_counts : (s : Separator) (g : Meaning) (b c : ℕ) → separates s g ≡ true → token_weight b c g ≡ between_count c s
 divider_counts Comma (m.Symbol symbol.Comma) b c e = refl
 divider_counts Comma _ b c e = absurd cc
 divider_counts (Between join.Chain) (m.Symbol symbol.OpenParen) b c e = absurd cc

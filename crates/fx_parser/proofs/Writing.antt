@@ -11,12 +11,12 @@ use Rattle.std.proofs.lemmas.Str.Ascii.{IsAscii-nil, IsAscii-from_all}
 use Rattle.std.proofs.lemmas.Int.{ints}
 use Rattle.fx_number.specs.Decimal.{greatest, IsInRange}
 use Rattle.fx_number.specs.Spelling.{text_of, magnitude_text, point_and}
-use Rattle.fx_core.specs.Tree.{Tree, NamedTree, forest, names_of, parts_of}
+use Rattle.fx_core.specs.Tree.{Tree, NamedTree, forest, tree_field_names, field_trees}
 use Rattle.fx_grammar.specs.declared.line.Line.{Line}
 use Rattle.fx_grammar.specs.declared.line.Line.TheVariants.{Several}
 use Rattle.fx_grammar.specs.declared.line.Join.TheVariants as join
 use Rattle.fx_parser.proofs.Says.{is_decimal, fraction_of}
-use Rattle.fx_parser.specs.Printing.{all_in_name, is_several, within, is_text, piece_of, strand_text, comma_text, label_text, shown, shown_further, shown_further_fields, shown_strands}
+use Rattle.fx_parser.specs.Printing.{all_in_name, is_several, printed_within, is_text, printed_piece, strand_text, comma_text, label_text, shown, shown_further, shown_further_fields, shown_strands}
 
 pub appended : (old new text : List ℕ) → IsUtf8 old → new ≡ old ++ text → chars new ≡ chars old ++ chars text
 appended old new text u e = ap chars e ∙ chars-append old text u
@@ -33,21 +33,21 @@ names_end cs i h = at_drop_all all_in_name cs i h
 
 -- parts that are still to be written
 pub further_more : (b : List ℕ) (l : Line) (ps : List Tree) (i : ℕ) (d : Tree) → i < length ps
-    → shown_further b l (forest (drop i ps)) ≡ b ++ (within l (get_or ps i d) (shown (get_or ps i d)) ++ shown_further b l (forest (drop (i + 1) ps)))
+    → shown_further b l (forest (drop i ps)) ≡ b ++ (printed_within l (get_or ps i d) (shown (get_or ps i d)) ++ shown_further b l (forest (drop (i + 1) ps)))
 further_more b l ps i d h = at_drop_more (λ xs. shown_further b l (forest xs)) ps i d h
 
 pub further_end : (b : List ℕ) (l : Line) (ps : List Tree) (i : ℕ) → length ps ≤ i → shown_further b l (forest (drop i ps)) ≡ []
 further_end b l ps i h = at_drop_all (λ xs. shown_further b l (forest xs)) ps i h
 
 pub fields_more : (fs : List NamedTree) (i : ℕ) (d : NamedTree) → i < length fs
-    → shown_further_fields (names_of (drop i fs)) (parts_of (drop i fs)) ≡ comma_text ++ (label_text (get_or fs i d).0.text ++ (within (Several join.Or) (get_or fs i d).1 (shown (get_or fs i d).1) ++ shown_further_fields (names_of (drop (i + 1) fs)) (parts_of (drop (i + 1) fs))))
-fields_more fs i d h = at_drop_more (λ xs. shown_further_fields (names_of xs) (parts_of xs)) fs i d h
+    → shown_further_fields (tree_field_names (drop i fs)) (field_trees (drop i fs)) ≡ comma_text ++ (label_text (get_or fs i d).0.text ++ (printed_within (Several join.Or) (get_or fs i d).1 (shown (get_or fs i d).1) ++ shown_further_fields (tree_field_names (drop (i + 1) fs)) (field_trees (drop (i + 1) fs))))
+fields_more fs i d h = at_drop_more (λ xs. shown_further_fields (tree_field_names xs) (field_trees xs)) fs i d h
 
-pub fields_end : (fs : List NamedTree) (i : ℕ) → length fs ≤ i → shown_further_fields (names_of (drop i fs)) (parts_of (drop i fs)) ≡ []
-fields_end fs i h = at_drop_all (λ xs. shown_further_fields (names_of xs) (parts_of xs)) fs i h
+pub fields_end : (fs : List NamedTree) (i : ℕ) → length fs ≤ i → shown_further_fields (tree_field_names (drop i fs)) (field_trees (drop i fs)) ≡ []
+fields_end fs i h = at_drop_all (λ xs. shown_further_fields (tree_field_names xs) (field_trees xs)) fs i h
 
 pub strands_more : (after : Bool) (ps : List Tree) (i : ℕ) (d : Tree) → i < length ps
-    → shown_strands after (forest (drop i ps)) ≡ strand_text (piece_of after (get_or ps i d)) (shown (get_or ps i d)) ++ shown_strands (is_text (get_or ps i d)) (forest (drop (i + 1) ps))
+    → shown_strands after (forest (drop i ps)) ≡ strand_text (printed_piece after (get_or ps i d)) (shown (get_or ps i d)) ++ shown_strands (is_text (get_or ps i d)) (forest (drop (i + 1) ps))
 strands_more after ps i d h = at_drop_more (λ xs. shown_strands after (forest xs)) ps i d h
 
 pub strands_end : (after : Bool) (ps : List Tree) (i : ℕ) → length ps ≤ i → shown_strands after (forest (drop i ps)) ≡ []

@@ -8,7 +8,7 @@ use Rattle.fx_parser.specs.declared.descent_end.End.TheVariants.{Refused, Memory
 use Rattle.fx_grammar.specs.declared.item.Item.{Item}
 use Rattle.fx_grammar.specs.declared.item.Meaning.{Meaning}
 use Rattle.fx_grammar.specs.declared.item.Meaning.TheVariants as m
-use Rattle.fx_grammar.specs.Formulas.{Entry, AreEntriesOf, AreDeeper}
+use Rattle.fx_grammar.specs.Formulas.{NamedFormula, AreEntriesOf, AreDeeper}
 use Rattle.fx_parser.specs.declared.entries.Named.{Named}
 use Rattle.fx_parser.specs.Texts.{named_of}
 
@@ -21,14 +21,14 @@ abbrev pub AreCuts : List ℕ → List Item → Type 0
 AreCuts source xs = AreCutsFrom source 0 xs
 
 -- a name and `=`, and the tokens behind them
-abbrev pub head_by : Meaning → Meaning → List Item → Option (List ℕ × List Item)
-head_by (m.Name cs) (m.Symbol symbol.Equal) us = Some (cs, us)
-head_by _ _ us = None
+abbrev pub entry_head_by : Meaning → Meaning → List Item → Option (List ℕ × List Item)
+entry_head_by (m.Name cs) (m.Symbol symbol.Equal) us = Some (cs, us)
+entry_head_by _ _ us = None
 
-abbrev pub head_of : List Item → Option (List ℕ × List Item)
-head_of [] = None
-head_of (x ∷ []) = None
-head_of (x ∷ y ∷ us) = head_by x.meaning y.meaning us
+abbrev pub entry_head : List Item → Option (List ℕ × List Item)
+entry_head [] = None
+entry_head (x ∷ []) = None
+entry_head (x ∷ y ∷ us) = entry_head_by x.meaning y.meaning us
 
 abbrev pub head_seen : Option (Bor (List ℕ) × Bor (List Item)) → Option (List ℕ × List Item)
 head_seen = option_map (λ x. (x.0.now, x.1.now))
@@ -46,19 +46,19 @@ abbrev pub next_seen : Option (Bor (List Item)) → Option (List Item)
 next_seen = option_map (λ x. x.now)
 
 -- The first named formula of the tokens, where the others follow.
-pub record IsFirst (source : List ℕ) (ts : List Item) (n : Named) (others : List Item) : Type 0 where
-  pub entry : Entry
+pub record IsFirstFormula (source : List ℕ) (ts : List Item) (n : Named) (others : List Item) : Type 0 where
+  pub entry : NamedFormula
   pub is_it : n ≡ named_of source entry
-  pub onward : (es : List Entry) → AreEntriesOf 64 others es → AreEntriesOf 64 ts (entry ∷ es)
+  pub onward : (es : List NamedFormula) → AreEntriesOf 64 others es → AreEntriesOf 64 ts (entry ∷ es)
   pub refuse : AreDeeper 64 others → AreDeeper 64 ts
 
 -- The tokens are these named formulas.
 pub record AreThese (source : List ℕ) (ts : List Item) (ns : List Named) : Type 0 where
-  pub entries : List Entry
+  pub entries : List NamedFormula
   pub are : AreEntriesOf 64 ts entries
   pub seen : ns ≡ map (named_of source) entries
 
 -- why the tokens are no named formulas: one is deeper than 64
-abbrev pub AreRefused : List Item → End → Type 0
-AreRefused ts Refused = AreDeeper 64 ts
-AreRefused ts Memory = Unit {0}
+abbrev pub AreTooDeep : List Item → End → Type 0
+AreTooDeep ts Refused = AreDeeper 64 ts
+AreTooDeep ts Memory = Unit {0}

@@ -9,22 +9,22 @@ use Rattle.fx_grammar.specs.Formulas.{HasItems, IsTreeOf}
 use Rattle.fx_parser.specs.SameTree.{unplaced}
 
 -- what tokens count, where each `(` counts b and each `,` counts c
-abbrev pub counts : ℕ → ℕ → Meaning → ℕ
-counts b c (m.Symbol symbol.OpenParen) = b
-counts b c (m.Symbol symbol.Comma) = c
-counts b c _ = 0
+abbrev pub token_weight : ℕ → ℕ → Meaning → ℕ
+token_weight b c (m.Symbol symbol.OpenParen) = b
+token_weight b c (m.Symbol symbol.Comma) = c
+token_weight b c _ = 0
 
-abbrev pub count : ℕ → ℕ → List Item → ℕ
-count b c [] = 0
-count b c (x ∷ us) = counts b c x.meaning + count b c us
+abbrev pub tokens_weight : ℕ → ℕ → List Item → ℕ
+tokens_weight b c [] = 0
+tokens_weight b c (x ∷ us) = token_weight b c x.meaning + tokens_weight b c us
 
 -- how many of the tokens are `(`
 abbrev pub brackets : List Item → ℕ
-brackets xs = count 1 0 xs
+brackets xs = tokens_weight 1 0 xs
 
 -- how many of the tokens are `,`
-abbrev pub commas : List Item → ℕ
-commas xs = count 0 1 xs
+abbrev pub comma_count : List Item → ℕ
+comma_count xs = tokens_weight 0 1 xs
 
 -- these are the tokens of a text, and they are a formula of this tree, of any depth and up to positions
 abbrev pub AreTokensOf : List ℕ → List Item → Tree → Type 0
@@ -34,4 +34,4 @@ AreTokensOf cs xs t = HasItems cs xs × (n : ℕ) × (u : Tree) × (unplaced u �
 -- Conditions that are joined by `And(..)` or `Or(..)` in place of `&&` or `||` have a comma more for each further one.
 abbrev pub HasFewest : List ℕ → Tree → Type 0
 HasFewest cs t = (xs : List Item) × AreTokensOf cs xs t
-    × ((ds : List ℕ) (ys : List Item) → AreTokensOf ds ys t → (commas xs ≤ commas ys) × (commas ys ≤ commas xs → brackets xs ≤ brackets ys))
+    × ((ds : List ℕ) (ys : List Item) → AreTokensOf ds ys t → (comma_count xs ≤ comma_count ys) × (comma_count ys ≤ comma_count xs → brackets xs ≤ brackets ys))

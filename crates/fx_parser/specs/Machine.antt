@@ -71,9 +71,9 @@ follow_of (m.Word word.ExactIn) = follow.Operator
 follow_of _ = follow.Nothing
 
 -- the first step, where there is one
-abbrev pub or_else : Move → Move → Move
-or_else Stop n = n
-or_else k n = k
+abbrev pub or_move : Move → Move → Move
+or_move Stop n = n
+or_move k n = k
 
 abbrev pub operand : Begin → Move
 operand begin.Leaf = Stay state.AfterAccess
@@ -126,9 +126,9 @@ abbrev pub behind_access : Whole → Option Frame → Follow → Move
 behind_access w o follow.Dot = Stay state.FieldName
 behind_access w o k = behind_percent w o k
 
-abbrev pub called : Follow → Move
-called follow.Call = Push frame.Call state.OperandOrClose
-called _ = Stop
+abbrev pub follow_move : Follow → Move
+follow_move follow.Call = Push frame.Call state.OperandOrClose
+follow_move _ = Stop
 
 abbrev pub behind_name : Whole → Option Frame → Follow → Move
 behind_name w o follow.Call = Push frame.Call state.OperandOrClose
@@ -162,12 +162,12 @@ strand _ = Stop
 
 -- what a token does
 abbrev pub turn : Whole → State → Option Frame → Meaning → Move
-turn w state.Start o k = or_else (operand (begin_of k)) (equal_then k state.Operand)
+turn w state.Start o k = or_move (operand (begin_of k)) (equal_then k state.Operand)
 turn w state.Operand o k = operand (begin_of k)
-turn w state.OperandOrClose o k = or_else (operand (begin_of k)) (emptied (follow_of k) o)
-turn w state.OperandOrEnd o k = or_else (operand (begin_of k)) (closed (follow_of k) o)
+turn w state.OperandOrClose o k = or_move (operand (begin_of k)) (emptied (follow_of k) o)
+turn w state.OperandOrEnd o k = or_move (operand (begin_of k)) (closed (follow_of k) o)
 turn w state.AfterName o k = behind_name w o (follow_of k)
-turn w state.AfterCallee o k = called (follow_of k)
+turn w state.AfterCallee o k = follow_move (follow_of k)
 turn w state.AfterAccess o k = behind_access w o (follow_of k)
 turn w state.AfterPercent o k = behind_percent w o (follow_of k)
 turn w state.AfterAlias o k = behind_alias w o (follow_of k)
@@ -175,7 +175,7 @@ turn w state.FieldName o k = name_then (begin_of k) state.AfterAccess
 turn w state.AliasName o k = name_then (begin_of k) state.AfterAlias
 turn w state.GlobalName o k = name_then (begin_of k) state.GlobalClose
 turn w state.GlobalClose o k = bracket_then (follow_of k) state.AfterAccess
-turn w state.FirstLabel o k = or_else (name_then (begin_of k) state.Colon) (brace_then (follow_of k) state.AfterAccess)
+turn w state.FirstLabel o k = or_move (name_then (begin_of k) state.Colon) (brace_then (follow_of k) state.AfterAccess)
 turn w state.Label o k = name_then (begin_of k) state.Colon
 turn w state.Colon o k = colon k
 turn w state.Strand o k = strand k
@@ -183,8 +183,8 @@ turn w state.Entry o k = name_then (begin_of k) state.EntryEqual
 turn w state.EntryEqual o k = equal_then k state.Operand
 
 -- what may come next, and what is open
-abbrev pub Place : Type 0
-Place = State × List Frame
+abbrev pub MachinePlace : Type 0
+MachinePlace = State × List Frame
 
 abbrev pub top : List Frame → Option Frame
 top [] = None
@@ -194,20 +194,20 @@ abbrev pub outer : List Frame → List Frame
 outer [] = []
 outer (f ∷ fs) = fs
 
-abbrev pub moved : List Frame → Move → Option Place
-moved fs (Stay s) = Some (s, fs)
-moved fs (Push f s) = Some (s, f ∷ fs)
-moved fs (Pop s) = Some (s, outer fs)
-moved fs Stop = None
+abbrev pub place_moved : List Frame → Move → Option MachinePlace
+place_moved fs (Stay s) = Some (s, fs)
+place_moved fs (Push f s) = Some (s, f ∷ fs)
+place_moved fs (Pop s) = Some (s, outer fs)
+place_moved fs Stop = None
 
-abbrev pub with_stack : Option State → List Frame → Option Place
+abbrev pub with_stack : Option State → List Frame → Option MachinePlace
 with_stack None fs = None
 with_stack (Some s) fs = Some (s, fs)
 
 -- where the tokens lead
-abbrev pub run : Whole → State → List Frame → List Item → Option Place
+abbrev pub run : Whole → State → List Frame → List Item → Option MachinePlace
 run w s fs [] = Some (s, fs)
-run w s fs (x ∷ us) = option_and_then (λ p. run w p.0 p.1 us) (moved fs (turn w s (top fs) x.meaning))
+run w s fs (x ∷ us) = option_and_then (λ p. run w p.0 p.1 us) (place_moved fs (turn w s (top fs) x.meaning))
 
 abbrev pub may_end : Whole → State → Bool
 may_end _ state.AfterName = true
@@ -223,14 +223,14 @@ abbrev pub ends : Whole → State → List Frame → Bool
 ends w s [] = may_end w s
 ends w s (f ∷ fs) = false
 
-abbrev pub accepted : Whole → Option Place → Bool
+abbrev pub accepted : Whole → Option MachinePlace → Bool
 accepted w None = false
 accepted w (Some p) = ends w p.0 p.1
 
 -- The tokens before the place i lead on, and the token there does not; behind the last, they may not end.
-pub record IsLast (w : Whole) (s : State) (xs : List Item) (i : ℕ) : Type 0 where
+pub record IsLastPlace (w : Whole) (s : State) (xs : List Item) (i : ℕ) : Type 0 where
   pub within : i ≤ length xs
-  pub place : Place
+  pub place : MachinePlace
   pub so_far : run w s [] (take i xs) ≡ Some place
   pub stuck : i < length xs → run w s [] (take (suc i) xs) ≡ None
   pub open_end : accepted w (run w s [] xs) ≡ false
@@ -238,4 +238,4 @@ pub record IsLast (w : Whole) (s : State) (xs : List Item) (i : ℕ) : Type 0 wh
 -- what the reader answers
 abbrev pub Ended : Whole → State → List Item → Verdict → Type 0
 Ended w s xs HasTree = accepted w (run w s [] xs) ≡ true
-Ended w s xs (StopsAt i) = IsLast w s xs i
+Ended w s xs (StopsAt i) = IsLastPlace w s xs i

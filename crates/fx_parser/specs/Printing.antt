@@ -10,7 +10,7 @@ use Rattle.fx_lexer.specs.declared.token.Word.{Word}
 use Rattle.fx_lexer.specs.declared.token.Word.TheVariants as word
 use Rattle.fx_lexer.specs.declared.element.Class.{Class}
 use Rattle.fx_lexer.specs.declared.element.Class.TheVariants.{White, Digit, Letter, Other}
-use Rattle.fx_lexer.specs.Spelling.{class_at, in_name, is_mark, doubled, begins, word_spelling, symbol_spelling}
+use Rattle.fx_lexer.specs.Spelling.{class_at, in_name, is_mark, doubled, begins_with, word_spelling, symbol_spelling}
 use Rattle.fx_lexer.specs.Scan.{word_at}
 use Rattle.fx_grammar.specs.declared.line.Join.TheVariants as join
 use Rattle.fx_grammar.specs.declared.line.Left.TheVariants as left
@@ -106,13 +106,13 @@ is_some_word None = false
 is_some_word (Some w) = true
 
 -- A plain name: a letter, then letters, digits and `_`, and none of the words.
-abbrev pub is_plain : List ℕ → Bool
-is_plain [] = false
-is_plain (c ∷ cs) = begins_name (class_at c) && (all_in_name cs && not (is_some_word (word_at (c ∷ cs))))
+abbrev pub is_plain_name : List ℕ → Bool
+is_plain_name [] = false
+is_plain_name (c ∷ cs) = begins_name (class_at c) && (all_in_name cs && not (is_some_word (word_at (c ∷ cs))))
 
 -- a name, between quotes where it is not plain
 abbrev pub name_text : List ℕ → List ℕ
-name_text cs = if is_plain cs then cs else between_quotes 39 cs
+name_text cs = if is_plain_name cs then cs else between_quotes 39 cs
 
 -- two parts or more
 abbrev pub is_several : Forest → Bool
@@ -137,21 +137,21 @@ abbrev pub in_brackets : List ℕ → List ℕ
 in_brackets cs = symbol_spelling symbol.OpenParen ++ (cs ++ symbol_spelling symbol.CloseParen)
 
 -- the text of a tree where this line stands: in brackets where its own line is looser
-abbrev pub within : Line → Tree → List ℕ → List ℕ
-within l t cs = if nat_le (looseness (line_of t)) (looseness l) then cs else in_brackets cs
+abbrev pub printed_within : Line → Tree → List ℕ → List ℕ
+printed_within l t cs = if nat_le (looseness (line_of t)) (looseness l) then cs else in_brackets cs
 
 abbrev pub is_text : Tree → Bool
 is_text (node at (tree.text cs) ts) = true
 is_text t = false
 
 -- The piece as which a part of a weave prints: a text does, where it is not empty and no text stands before it.
-abbrev pub piece_of : Bool → Tree → Option (List ℕ)
-piece_of false (node at (tree.text (c ∷ cs)) ts) = Some (c ∷ cs)
-piece_of after t = None
+abbrev pub printed_piece : Bool → Tree → Option (List ℕ)
+printed_piece false (node at (tree.text (c ∷ cs)) ts) = Some (c ∷ cs)
+printed_piece after t = None
 
 -- an island, with a space before a text that begins with `{`
 abbrev pub island_text : List ℕ → List ℕ
-island_text cs = 123 ∷ ((if begins 123 cs then 32 ∷ cs else cs) ++ 125 ∷ [])
+island_text cs = 123 ∷ ((if begins_with 123 cs then 32 ∷ cs else cs) ++ 125 ∷ [])
 
 abbrev pub strand_text : Option (List ℕ) → List ℕ → List ℕ
 strand_text None cs = island_text cs
@@ -203,33 +203,33 @@ abbrev mutual
 
   -- the only part, where this line stands
   pub shown_part : Line → Forest → List ℕ
-  shown_part l (more t none) = within l t (shown t)
+  shown_part l (more t none) = printed_within l t (shown t)
   shown_part l ts = []
 
   -- two operands
   pub shown_pair : Op → Forest → List ℕ
-  shown_pair o (more t (more u us)) = within (left_line o) t (shown t) ++ (spaced (operator_spelling o) ++ within (right_line o) u (shown u))
+  shown_pair o (more t (more u us)) = printed_within (left_line o) t (shown t) ++ (spaced (operator_spelling o) ++ printed_within (right_line o) u (shown u))
   shown_pair o ts = []
 
   -- the parts where this line stands, with a text between each two
   pub shown_parts : List ℕ → Line → Forest → List ℕ
   shown_parts between l none = []
-  shown_parts between l (more t ts) = within l t (shown t) ++ shown_further between l ts
+  shown_parts between l (more t ts) = printed_within l t (shown t) ++ shown_further between l ts
 
   pub shown_further : List ℕ → Line → Forest → List ℕ
   shown_further between l none = []
-  shown_further between l (more t ts) = between ++ (within l t (shown t) ++ shown_further between l ts)
+  shown_further between l (more t ts) = between ++ (printed_within l t (shown t) ++ shown_further between l ts)
 
   -- the fields of a record
   pub shown_fields : List (List ℕ) → Forest → List ℕ
-  shown_fields (n ∷ ns) (more t ts) = label_text n ++ (within (Several join.Or) t (shown t) ++ shown_further_fields ns ts)
+  shown_fields (n ∷ ns) (more t ts) = label_text n ++ (printed_within (Several join.Or) t (shown t) ++ shown_further_fields ns ts)
   shown_fields ns ts = []
 
   pub shown_further_fields : List (List ℕ) → Forest → List ℕ
-  shown_further_fields (n ∷ ns) (more t ts) = comma_text ++ (label_text n ++ (within (Several join.Or) t (shown t) ++ shown_further_fields ns ts))
+  shown_further_fields (n ∷ ns) (more t ts) = comma_text ++ (label_text n ++ (printed_within (Several join.Or) t (shown t) ++ shown_further_fields ns ts))
   shown_further_fields ns ts = []
 
   -- the parts of a weave: whether a text stands before them
   pub shown_strands : Bool → Forest → List ℕ
   shown_strands after none = []
-  shown_strands after (more t ts) = strand_text (piece_of after t) (shown t) ++ shown_strands (is_text t) ts
+  shown_strands after (more t ts) = strand_text (printed_piece after t) (shown t) ++ shown_strands (is_text t) ts

@@ -4,7 +4,7 @@ use Rattle.std.specs.Str.{chars}
 use Rattle.fx_lexer.specs.declared.token.Token.{Token}
 use Rattle.fx_lexer.specs.Lexed.{Lexed, IsBadAt}
 use Rattle.fx_grammar.specs.declared.item.Item.{Item}
-use Rattle.fx_grammar.specs.Formulas.{Entry, HasItems, IsDeeper, AreEntriesOf, AreDeeper}
+use Rattle.fx_grammar.specs.Formulas.{NamedFormula, HasItems, IsDeeper, AreEntriesOf, AreDeeper}
 use Rattle.fx_parser.specs.Trees.{HasFormula, Stops}
 use Rattle.fx_parser.specs.Trees as trees
 use Rattle.fx_parser.specs.declared.end.ParseEnd.{ParseEnd}
@@ -12,16 +12,16 @@ use Rattle.fx_parser.specs.declared.end.ParseEnd.TheVariants.{Lex, Syntax, TooDe
 use Rattle.fx_parser.specs.declared.entries.Named.{Named}
 
 -- the text is these named formulas, none deeper than n
-abbrev pub HasEntries : ℕ → List ℕ → List Entry → Type 0
-HasEntries n cs es = (xs : List Item) × HasItems cs xs × AreEntriesOf n xs es
+abbrev pub TextHasEntries : ℕ → List ℕ → List NamedFormula → Type 0
+TextHasEntries n cs es = (xs : List Item) × HasItems cs xs × AreEntriesOf n xs es
 
 -- a named formula with its text, which is a slice of the source
-abbrev pub named_of : List ℕ → Entry → Named
+abbrev pub named_of : List ℕ → NamedFormula → Named
 named_of source e = record { name = e.name; at = e.begins; text = chars (slice_range source e.begins e.ends); expr = e.tree }
 
 -- the source is these named formulas, none deeper than n
 abbrev pub IsNamedText : ℕ → List ℕ → List Named → Type 0
-IsNamedText n source ns = (es : List Entry) × HasEntries n (chars source) es × (ns ≡ map (named_of source) es)
+IsNamedText n source ns = (es : List NamedFormula) × TextHasEntries n (chars source) es × (ns ≡ map (named_of source) es)
 
 -- where the first of these tokens begins, or the end where there is none
 abbrev pub place_or : ℕ → List Item → ℕ

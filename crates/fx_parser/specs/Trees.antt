@@ -3,7 +3,7 @@ use Rattle.std.specs.Prelude.{ℕ, suc, ◌<◌, ◌≤◌, List, ◌++◌, leng
 use Rattle.fx_core.specs.Tree.{Tree}
 use Rattle.fx_grammar.specs.declared.item.Item.{Item}
 use Rattle.fx_grammar.specs.Grammar.{IsFormula}
-use Rattle.fx_grammar.specs.Formulas.{Entry, AreNamed}
+use Rattle.fx_grammar.specs.Formulas.{NamedFormula, AreNamed}
 use Rattle.fx_parser.specs.declared.recognize.Verdict.{Verdict}
 use Rattle.fx_parser.specs.declared.recognize.Verdict.TheVariants.{HasTree, StopsAt}
 
@@ -13,7 +13,7 @@ HasFormula xs = (d : ℕ) × (t : Tree) × IsFormula xs d t
 
 -- the tokens are named formulas, of any depth
 abbrev pub HasEntries : List Item → Type 0
-HasEntries xs = (d : ℕ) × (es : List Entry) × AreNamed xs d es
+HasEntries xs = (d : ℕ) × (es : List NamedFormula) × AreNamed xs d es
 
 -- The tokens are none of these, those before the place i may go on to be one, and those up to and with the token at i may not, whatever follows.
 pub record Stops (P : List Item → Type 0) (xs : List Item) (i : ℕ) : Type 0 where

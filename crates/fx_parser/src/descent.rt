@@ -4,11 +4,13 @@ ghost use Rattle.std.specs.Prelude.{◌≡◌, ◌<◌, ◌≤◌, ◌-◌, ◌+
 ghost use Rattle.fx_core.specs.Tree.{Head};
 ghost use Rattle.fx_grammar.specs.Grammar as grammar;
 ghost use Rattle.fx_grammar.specs.Reading as read;
-ghost use Rattle.fx_parser.specs.Answer.{Gives, seen, strand_seen, fields_from};
+ghost use Rattle.fx_parser.specs.Answer.{ParserAnswers, parsed_view, strand_seen, fields_from};
 
 use crate::descent_end::End;
 use crate::front::{after, between, first, label_at, operator_at, part_of, place, sign_at, under};
-use crate::tails::{alias_behind, apply, dots, gather, global, percents, shut, sign_before};
+use crate::operator_tails::{
+    alias_behind, apply, dots, gather, global, percents, shut, sign_before,
+};
 use fx_core::expr::{Args, Expr, FieldName, Op, Parts};
 use fx_core::make_expr;
 use fx_grammar::{Item, Join, Left, Line, Mark, Meaning, Separator};
@@ -23,7 +25,7 @@ pub fn line<'t>(
     limit: u32,
     tokens: &'t [Item],
 ) -> Result<(Expr, u32, &'t [Item]), End>
-    ensures gives { Gives seen result (read.line_at limit line tokens.now) }
+    ensures gives { ParserAnswers parsed_view result (read.line_at limit line tokens.now) }
     ensures shallow { IfOk result (λ x. x.1 ≤ limit) }
     ensures shorter { IfOk result (λ x. length x.2.now < length tokens.now) }
 {
@@ -46,7 +48,7 @@ pub fn line<'t>(
 #[cycle(descent)]
 fn chain<'t>(alloc: Global, limit: u32, tokens: &'t [Item]) -> Result<(Expr, u32, &'t [Item]), End>
     requires { 0 < limit }
-    ensures gives { Gives seen result (read.line_at limit Line.Chain tokens.now) }
+    ensures gives { ParserAnswers parsed_view result (read.line_at limit Line.Chain tokens.now) }
     ensures shallow { IfOk result (λ x. x.1 ≤ limit) }
     ensures shorter { IfOk result (λ x. length x.2.now < length tokens.now) }
 {
@@ -66,7 +68,7 @@ fn several<'t>(
     tokens: &'t [Item],
 ) -> Result<(Expr, u32, &'t [Item]), End>
     requires { 0 < limit }
-    ensures gives { Gives seen result (read.line_at limit (Line.Several join) tokens.now) }
+    ensures gives { ParserAnswers parsed_view result (read.line_at limit (Line.Several join) tokens.now) }
     ensures shallow { IfOk result (λ x. x.1 ≤ limit) }
     ensures shorter { IfOk result (λ x. length x.2.now < length tokens.now) }
 {
@@ -82,7 +84,7 @@ fn parts<'t>(
     limit: u32,
     tokens: &'t [Item],
 ) -> Result<(Args, u32, &'t [Item]), End>
-    ensures gives { Gives seen result (read.parts_with separator (read.line_at limit (grammar.part_of separator)) tokens.now) }
+    ensures gives { ParserAnswers parsed_view result (read.parts_with separator (read.line_at limit (grammar.part_of separator)) tokens.now) }
     ensures shallow { IfOk result (λ x. x.1 ≤ limit) }
     ensures shorter { IfOk result (λ x. length x.2.now < length tokens.now) }
 {
@@ -110,7 +112,7 @@ fn by<'t>(
     tokens: &'t [Item],
 ) -> Result<(Expr, u32, &'t [Item]), End>
     requires { 0 < limit }
-    ensures gives { Gives seen result (read.line_at limit (Line.By left) tokens.now) }
+    ensures gives { ParserAnswers parsed_view result (read.line_at limit (Line.By left) tokens.now) }
     ensures shallow { IfOk result (λ x. x.1 ≤ limit) }
     ensures shorter { IfOk result (λ x. length x.2.now < length tokens.now) }
 {
@@ -136,7 +138,7 @@ fn by<'t>(
 #[cycle(descent)]
 fn alias<'t>(alloc: Global, limit: u32, tokens: &'t [Item]) -> Result<(Expr, u32, &'t [Item]), End>
     requires { 0 < limit }
-    ensures gives { Gives seen result (read.line_at limit Line.Alias tokens.now) }
+    ensures gives { ParserAnswers parsed_view result (read.line_at limit Line.Alias tokens.now) }
     ensures shallow { IfOk result (λ x. x.1 ≤ limit) }
     ensures shorter { IfOk result (λ x. length x.2.now < length tokens.now) }
 {
@@ -147,7 +149,7 @@ fn alias<'t>(alloc: Global, limit: u32, tokens: &'t [Item]) -> Result<(Expr, u32
 #[cycle(descent)]
 fn prefix<'t>(alloc: Global, limit: u32, tokens: &'t [Item]) -> Result<(Expr, u32, &'t [Item]), End>
     requires { 0 < limit }
-    ensures gives { Gives seen result (read.line_at limit Line.Prefix tokens.now) }
+    ensures gives { ParserAnswers parsed_view result (read.line_at limit Line.Prefix tokens.now) }
     ensures shallow { IfOk result (λ x. x.1 ≤ limit) }
     ensures shorter { IfOk result (λ x. length x.2.now < length tokens.now) }
 {
@@ -167,7 +169,7 @@ fn prefix<'t>(alloc: Global, limit: u32, tokens: &'t [Item]) -> Result<(Expr, u3
 #[cycle(descent)]
 fn power<'t>(alloc: Global, limit: u32, tokens: &'t [Item]) -> Result<(Expr, u32, &'t [Item]), End>
     requires { 0 < limit }
-    ensures gives { Gives seen result (read.line_at limit Line.Power tokens.now) }
+    ensures gives { ParserAnswers parsed_view result (read.line_at limit Line.Power tokens.now) }
     ensures shallow { IfOk result (λ x. x.1 ≤ limit) }
     ensures shorter { IfOk result (λ x. length x.2.now < length tokens.now) }
 {
@@ -193,7 +195,7 @@ fn percent<'t>(
     tokens: &'t [Item],
 ) -> Result<(Expr, u32, &'t [Item]), End>
     requires { 0 < limit }
-    ensures gives { Gives seen result (read.line_at limit Line.Percent tokens.now) }
+    ensures gives { ParserAnswers parsed_view result (read.line_at limit Line.Percent tokens.now) }
     ensures shallow { IfOk result (λ x. x.1 ≤ limit) }
     ensures shorter { IfOk result (λ x. length x.2.now < length tokens.now) }
 {
@@ -204,7 +206,7 @@ fn percent<'t>(
 #[cycle(descent)]
 fn access<'t>(alloc: Global, limit: u32, tokens: &'t [Item]) -> Result<(Expr, u32, &'t [Item]), End>
     requires { 0 < limit }
-    ensures gives { Gives seen result (read.line_at limit Line.Access tokens.now) }
+    ensures gives { ParserAnswers parsed_view result (read.line_at limit Line.Access tokens.now) }
     ensures shallow { IfOk result (λ x. x.1 ≤ limit) }
     ensures shorter { IfOk result (λ x. length x.2.now < length tokens.now) }
 {
@@ -215,7 +217,7 @@ fn access<'t>(alloc: Global, limit: u32, tokens: &'t [Item]) -> Result<(Expr, u3
 #[cycle(descent)]
 fn atom<'t>(alloc: Global, limit: u32, tokens: &'t [Item]) -> Result<(Expr, u32, &'t [Item]), End>
     requires { 0 < limit }
-    ensures gives { Gives seen result (read.line_at limit Line.Atom tokens.now) }
+    ensures gives { ParserAnswers parsed_view result (read.line_at limit Line.Atom tokens.now) }
     ensures shallow { IfOk result (λ x. x.1 ≤ limit) }
     ensures shorter { IfOk result (λ x. length x.2.now < length tokens.now) }
 {
@@ -234,7 +236,7 @@ fn atom_of<'t>(
     tokens: &'t [Item],
 ) -> Result<(Expr, u32, &'t [Item]), End>
     requires { 0 < limit }
-    ensures gives { Gives seen result (read.atom_by limit (read.line_at (limit - 1)) x.now tokens.now x.now.meaning) }
+    ensures gives { ParserAnswers parsed_view result (read.atom_by limit (read.line_at (limit - 1)) x.now tokens.now x.now.meaning) }
     ensures shallow { IfOk result (λ y. y.1 ≤ limit) }
     ensures shorter { IfOk result (λ y. length y.2.now ≤ length tokens.now) }
 {
@@ -266,7 +268,7 @@ fn call<'t>(
     tokens: &'t [Item],
 ) -> Result<(Expr, u32, &'t [Item]), End>
     requires { 0 < limit }
-    ensures gives { (h : Head) → grammar.callee x.now.meaning ≡ Some h → Gives seen result (read.call_of x.now.at h (read.line_at (limit - 1) Line.Chain) tokens.now) }
+    ensures gives { (h : Head) → grammar.callee x.now.meaning ≡ Some h → ParserAnswers parsed_view result (read.call_of x.now.at h (read.line_at (limit - 1) Line.Chain) tokens.now) }
     ensures shallow { IfOk result (λ y. y.1 ≤ limit) }
     ensures shorter { IfOk result (λ y. length y.2.now < length tokens.now) }
 {
@@ -284,7 +286,7 @@ fn bracket<'t>(
     tokens: &'t [Item],
 ) -> Result<(Expr, u32, &'t [Item]), End>
     requires { 0 < limit }
-    ensures gives { Gives seen result (read.atom_by limit (read.line_at (limit - 1)) x.now tokens.now (Meaning.Symbol symbol)) }
+    ensures gives { ParserAnswers parsed_view result (read.atom_by limit (read.line_at (limit - 1)) x.now tokens.now (Meaning.Symbol symbol)) }
     ensures shallow { IfOk result (λ y. y.1 ≤ limit) }
     ensures shorter { IfOk result (λ y. length y.2.now < length tokens.now) }
 {
@@ -314,7 +316,7 @@ fn args<'t>(
     limit: u32,
     tokens: &'t [Item],
 ) -> Result<(Args, u32, &'t [Item]), End>
-    ensures gives { Gives seen result (read.args_with mark (read.line_at limit Line.Chain) tokens.now) }
+    ensures gives { ParserAnswers parsed_view result (read.args_with mark (read.line_at limit Line.Chain) tokens.now) }
     ensures shallow { IfOk result (λ x. x.1 ≤ limit) }
     ensures shorter { IfOk result (λ x. length x.2.now < length tokens.now) }
 {
@@ -334,7 +336,7 @@ fn fields<'t>(
     limit: u32,
     tokens: &'t [Item],
 ) -> Result<(Parts, u32, &'t [Item]), End>
-    ensures gives { Gives seen result (read.fields_with (read.line_at limit (Line.Several Join.Or)) tokens.now) }
+    ensures gives { ParserAnswers parsed_view result (read.fields_with (read.line_at limit (Line.Several Join.Or)) tokens.now) }
     ensures shallow { IfOk result (λ x. x.1 ≤ limit) }
     ensures shorter { IfOk result (λ x. length x.2.now < length tokens.now) }
 {
@@ -354,7 +356,7 @@ fn some_fields<'t>(
     limit: u32,
     tokens: &'t [Item],
 ) -> Result<(Parts, u32, &'t [Item]), End>
-    ensures gives { Gives seen result (fields_from (read.line_at limit (Line.Several Join.Or)) tokens.now) }
+    ensures gives { ParserAnswers parsed_view result (fields_from (read.line_at limit (Line.Several Join.Or)) tokens.now) }
     ensures shallow { IfOk result (λ x. x.1 ≤ limit) }
     ensures shorter { IfOk result (λ x. length x.2.now < length tokens.now) }
 {
@@ -378,7 +380,7 @@ fn field<'t>(
     limit: u32,
     tokens: &'t [Item],
 ) -> Result<((FieldName, Expr), u32, &'t [Item]), End>
-    ensures gives { Gives seen result (read.field_with (read.line_at limit (Line.Several Join.Or)) tokens.now) }
+    ensures gives { ParserAnswers parsed_view result (read.field_with (read.line_at limit (Line.Several Join.Or)) tokens.now) }
     ensures shallow { IfOk result (λ x. x.1 ≤ limit) }
     ensures shorter { IfOk result (λ x. length x.2.now < length tokens.now) }
 {
@@ -404,7 +406,7 @@ fn weave<'t>(
     tokens: &'t [Item],
 ) -> Result<(Expr, u32, &'t [Item]), End>
     requires { 0 < limit }
-    ensures gives { Gives seen result (read.atom_by limit (read.line_at (limit - 1)) x.now tokens.now Meaning.Opening) }
+    ensures gives { ParserAnswers parsed_view result (read.atom_by limit (read.line_at (limit - 1)) x.now tokens.now Meaning.Opening) }
     ensures shallow { IfOk result (λ y. y.1 ≤ limit) }
     ensures shorter { IfOk result (λ y. length y.2.now < length tokens.now) }
 {
@@ -431,7 +433,7 @@ fn strand<'t>(
     limit: u32,
     tokens: &'t [Item],
 ) -> Result<Option<(Expr, u32, &'t [Item])>, End>
-    ensures gives { Gives strand_seen result (read.strand_at (read.line_at limit Line.Chain) tokens.now) }
+    ensures gives { ParserAnswers strand_seen result (read.strand_at (read.line_at limit Line.Chain) tokens.now) }
     ensures shallow { IfOk result (λ o. IfSome o (λ x. x.1 ≤ limit + 1)) }
     ensures shorter { IfOk result (λ o. IfSome o (λ x. length x.2.now < length tokens.now)) }
 {
@@ -449,7 +451,7 @@ fn strand_of<'t>(
     x: &Item,
     tokens: &'t [Item],
 ) -> Result<Option<(Expr, u32, &'t [Item])>, End>
-    ensures gives { Gives strand_seen result (read.strand_by (read.line_at limit Line.Chain) x.now tokens.now x.now.meaning) }
+    ensures gives { ParserAnswers strand_seen result (read.strand_by (read.line_at limit Line.Chain) x.now tokens.now x.now.meaning) }
     ensures shallow { IfOk result (λ o. IfSome o (λ y. y.1 ≤ limit + 1)) }
     ensures shorter { IfOk result (λ o. IfSome o (λ y. length y.2.now ≤ length tokens.now)) }
 {

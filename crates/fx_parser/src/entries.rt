@@ -2,7 +2,7 @@
 ghost use Rattle.std.specs.Prelude.{◌≡◌, ◌<◌, IfOk, IfErr, IfSome, length};
 ghost use Rattle.fx_grammar.specs.Grammar as grammar;
 ghost use Rattle.fx_grammar.specs.Formulas as formulas;
-ghost use Rattle.fx_parser.specs.Entries.{AreCuts, head_of, head_seen, next_of, next_seen, IsFirst, AreThese, AreRefused};
+ghost use Rattle.fx_parser.specs.Entries.{AreCuts, entry_head, head_seen, next_of, next_seen, IsFirstFormula, AreThese, AreTooDeep};
 
 use crate::descent::line;
 use crate::descent_end::End;
@@ -26,7 +26,7 @@ pub struct Named {
 
 /// The name of a named formula, and what follows its `=`.
 fn head(tokens: &[Item]) -> Option<(&Words, &[Item])>
-    ensures value { head_seen result ≡ head_of tokens.now }
+    ensures value { head_seen result ≡ entry_head tokens.now }
     ensures shorter { IfSome result (λ x. length x.1.now < length tokens.now) }
 {
     match tokens {
@@ -52,7 +52,7 @@ fn next(tokens: &[Item]) -> Option<&[Item]>
 }
 
 fn begin_of(tokens: &[Item]) -> u32
-    ensures { result ≡ grammar.place tokens.now }
+    ensures { result ≡ grammar.first_byte tokens.now }
 {
     match tokens {
         [] => 0,
@@ -73,10 +73,10 @@ fn end_of(tokens: &[Item]) -> u32
 fn entry<'t>(alloc: Global, source: &str, tokens: &'t [Item]) -> Result<(Named, &'t [Item]), End>
     requires cuts { AreCuts source.now tokens.now }
     requires some { 0 < length tokens.now }
-    ensures first { IfOk result (λ x. IsFirst source.now tokens.now x.0 x.1.now) }
+    ensures first { IfOk result (λ x. IsFirstFormula source.now tokens.now x.0 x.1.now) }
     ensures cuts { IfOk result (λ x. AreCuts source.now x.1.now) }
     ensures shorter { IfOk result (λ x. length x.1.now < length tokens.now) }
-    ensures refused { IfErr result (AreRefused tokens.now) }
+    ensures refused { IfErr result (AreTooDeep tokens.now) }
 {
     let Some((name, body)) = head(tokens) else {
         return Err(End::Refused);
@@ -101,7 +101,7 @@ fn entry<'t>(alloc: Global, source: &str, tokens: &'t [Item]) -> Result<(Named, 
 pub fn entries(alloc: Global, source: &str, tokens: &[Item]) -> Result<Vec<Named>, End>
     requires { AreCuts source.now tokens.now }
     ensures these { IfOk result (λ v. AreThese source.now tokens.now v.items) }
-    ensures refused { IfErr result (AreRefused tokens.now) }
+    ensures refused { IfErr result (AreTooDeep tokens.now) }
 {
     let mut found = Vec::new(alloc);
     let mut rest = tokens;

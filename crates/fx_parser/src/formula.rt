@@ -1,7 +1,7 @@
 //! The tree of a formula's tokens.
 ghost use Rattle.std.specs.Prelude.{◌≡◌, IfOk, IfErr};
 ghost use Rattle.fx_grammar.specs.Formulas.{IsTreeOf};
-ghost use Rattle.fx_parser.specs.Answer.{IsRefused};
+ghost use Rattle.fx_parser.specs.Answer.{IsTooDeep};
 ghost use Rattle.fx_parser.specs.Answer as answer;
 
 use crate::descent::line;
@@ -27,7 +27,7 @@ fn body(tokens: &[Item]) -> &[Item]
 /// The tree of a formula's tokens, where one is no deeper than 64.
 pub fn parse(alloc: Global, tokens: &[Item]) -> Result<Expr, End>
     ensures tree { IfOk result (λ e. IsTreeOf 64 tokens.now e) }
-    ensures refused { IfErr result (IsRefused tokens.now) }
+    ensures refused { IfErr result (IsTooDeep tokens.now) }
 {
     let (tree, _, rest) = line(alloc, Line::Chain, DEEPEST, body(tokens))?;
     if rest.is_empty() {

@@ -2,7 +2,7 @@
 ghost use Rattle.std.specs.Prelude.{◌≡◌, ◌<◌, Option, IfSome, option_map, length};
 ghost use Rattle.fx_grammar.specs.Grammar as grammar;
 ghost use Rattle.fx_grammar.specs.Reading as read;
-ghost use Rattle.fx_parser.specs.Answer.{label_of, rest_of, name_of, sign_of, first_of, first_seen};
+ghost use Rattle.fx_parser.specs.Answer.{label_found, rest_of, name_found, sign_found, first_token, first_seen};
 
 use fx_core::expr::Op;
 use fx_grammar::{Item, Join, Left, Line, Mark, Meaning, Separator};
@@ -18,7 +18,7 @@ pub enum Sign {
 
 /// Where the tokens begin, or 0 where there are none.
 pub fn place(tokens: &[Item]) -> u32
-    ensures { result ≡ grammar.place tokens.now }
+    ensures { result ≡ grammar.first_byte tokens.now }
 {
     match tokens {
         [] => 0,
@@ -28,7 +28,7 @@ pub fn place(tokens: &[Item]) -> u32
 
 /// The first token, and those after it.
 pub fn first(tokens: &[Item]) -> Option<(&Item, &[Item])>
-    ensures value { first_seen result ≡ first_of tokens.now }
+    ensures value { first_seen result ≡ first_token tokens.now }
     ensures shorter { IfSome result (λ x. length x.1.now < length tokens.now) }
 {
     match tokens {
@@ -59,7 +59,7 @@ fn operator_of(left: Left, meaning: &Meaning) -> Option<Op>
 }
 
 fn is_mark(mark: Mark, meaning: &Meaning) -> bool
-    ensures { result ≡ read.is_mark mark meaning.now }
+    ensures { result ≡ read.is_this_mark mark meaning.now }
 {
     match (mark, meaning) {
         (Mark::OpenParen, Meaning::Symbol(Symbol::OpenParen)) => true,
@@ -81,7 +81,7 @@ fn is_mark(mark: Mark, meaning: &Meaning) -> bool
 
 /// The tokens after this mark, where it is at the front.
 pub fn after(mark: Mark, tokens: &[Item]) -> Option<&[Item]>
-    ensures value { rest_of result ≡ read.after mark tokens.now }
+    ensures value { rest_of result ≡ read.after_mark mark tokens.now }
     ensures shorter { IfSome result (λ x. length x.now < length tokens.now) }
 {
     match tokens {
@@ -98,7 +98,7 @@ pub fn after(mark: Mark, tokens: &[Item]) -> Option<&[Item]>
 
 /// The name at the front, and the tokens after it.
 pub fn name_at(tokens: &[Item]) -> Option<(&Words, &[Item])>
-    ensures value { name_of result ≡ read.name_at tokens.now }
+    ensures value { name_found result ≡ read.name_in_front tokens.now }
     ensures shorter { IfSome result (λ x. length x.1.now < length tokens.now) }
 {
     match tokens {
@@ -112,7 +112,7 @@ pub fn name_at(tokens: &[Item]) -> Option<(&Words, &[Item])>
 
 /// The name behind this mark, and the tokens after it.
 pub fn name_after(mark: Mark, tokens: &[Item]) -> Option<(&Words, &[Item])>
-    ensures value { name_of result ≡ read.name_after mark tokens.now }
+    ensures value { name_found result ≡ read.name_after mark tokens.now }
     ensures shorter { IfSome result (λ x. length x.1.now < length tokens.now) }
 {
     match after(mark, tokens) {
@@ -123,7 +123,7 @@ pub fn name_after(mark: Mark, tokens: &[Item]) -> Option<(&Words, &[Item])>
 
 /// The name of a field, and the tokens after its colon.
 pub fn label_at(tokens: &[Item]) -> Option<(&Words, &[Item])>
-    ensures value { label_of tokens.now result ≡ read.label_at tokens.now }
+    ensures value { label_found tokens.now result ≡ read.label_at tokens.now }
     ensures shorter { IfSome result (λ x. length x.1.now < length tokens.now) }
 {
     match name_at(tokens) {
@@ -166,7 +166,7 @@ fn separates(separator: Separator, meaning: &Meaning) -> bool
 }
 
 fn skip_separator(separator: Separator, tokens: &[Item]) -> Option<&[Item]>
-    ensures value { rest_of result ≡ read.separated separator tokens.now }
+    ensures value { rest_of result ≡ read.after_separator separator tokens.now }
     ensures shorter { IfSome result (λ x. length x.now < length tokens.now) }
 {
     match tokens {
@@ -218,7 +218,7 @@ pub fn operator_at(left: Left, tokens: &[Item]) -> Option<(Op, &[Item])>
 
 /// The line of the operands.
 pub fn under(left: Left) -> Line
-    ensures { result ≡ grammar.under left }
+    ensures { result ≡ grammar.operand_line left }
 {
     match left {
         Left::Member => Line::By(Left::Comp),
@@ -243,7 +243,7 @@ pub fn part_of(separator: Separator) -> Line
 
 /// The sign at the front, and the tokens after it.
 pub fn sign_at(tokens: &[Item]) -> Option<(Sign, &[Item])>
-    ensures value { sign_of result ≡ read.sign_at tokens.now }
+    ensures value { sign_found result ≡ read.sign_at tokens.now }
     ensures shorter { IfSome result (λ x. length x.1.now < length tokens.now) }
 {
     match tokens {

@@ -1,7 +1,7 @@
 //! From texts to trees, by descent, and which texts have none; and from trees to texts that are read back.
 #![tactic(auto)]
 
-mod deep;
+mod depth_scan;
 mod descent;
 mod descent_end;
 mod details;
@@ -11,13 +11,13 @@ mod formula;
 mod front;
 mod machine;
 mod names;
+mod operator_tails;
 mod parse;
 mod precedence;
 pub mod reading_back;
 mod recognize;
 mod refusal;
 mod state;
-mod tails;
 mod write;
 mod writer;
 

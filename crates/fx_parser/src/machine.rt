@@ -1,6 +1,6 @@
 //! The step that a token makes.
 ghost use Rattle.std.specs.Prelude.{◌≡◌, reverse, IfOk, Bool};
-ghost use Rattle.fx_parser.specs.Machine.{begin_of, follow_of, or_else, operand, emptied, closed, semicolon, behind_alias, behind_percent, behind_access, behind_name, called, name_then, bracket_then, brace_then, equal_then, colon, strand, turn, top, moved, with_stack, ends};
+ghost use Rattle.fx_parser.specs.Machine.{begin_of, follow_of, or_move, operand, emptied, closed, semicolon, behind_alias, behind_percent, behind_access, behind_name, follow_move, name_then, bracket_then, brace_then, equal_then, colon, strand, turn, top, place_moved, with_stack, ends};
 
 use crate::state::{Begin, Follow, Frame, Move, State, Whole};
 use fx_base::Memory;
@@ -60,7 +60,7 @@ fn follow_kind(meaning: &Meaning) -> Follow
 
 /// The first step, where there is one.
 fn either(one: Move, other: Move) -> Move
-    ensures { result ≡ or_else one other }
+    ensures { result ≡ or_move one other }
 {
     match one {
         Move::Stop => other,
@@ -165,7 +165,7 @@ fn after_name(whole: Whole, innermost: Option<Frame>, follow: Follow) -> Move
 }
 
 fn open_call(follow: Follow) -> Move
-    ensures { result ≡ called follow }
+    ensures { result ≡ follow_move follow }
 {
     match follow {
         Follow::Call => Move::Push(Frame::Call, State::OperandOrClose),
@@ -273,7 +273,7 @@ pub fn innermost_of(opened: &[Frame]) -> Option<Frame>
 
 /// Does what a token does, and says what may come next.
 pub fn perform(opened: &mut Vec<Frame>, turn: Move) -> Result<Option<State>, Memory>
-    ensures { IfOk result (λ o. with_stack o (reverse opened.new.items) ≡ moved (reverse opened.old.items) turn) }
+    ensures { IfOk result (λ o. with_stack o (reverse opened.new.items) ≡ place_moved (reverse opened.old.items) turn) }
 {
     match turn {
         Move::Stay(state) => Ok(Some(state)),

@@ -5,7 +5,7 @@ ghost use Rattle.fx_lexer.specs.Spelling.{class_at, in_name, is_mark, doubled};
 ghost use Rattle.fx_lexer.specs.Scan.{word_at};
 ghost use Rattle.fx_grammar.specs.Means.{between_quotes};
 ghost use Rattle.fx_parser.specs.Printing.{begins_name, all_in_name, is_some_word, name_text};
-ghost use Rattle.fx_parser.specs.Printing.{is_plain as plain};
+ghost use Rattle.fx_parser.specs.Printing.{is_plain_name as plain};
 
 use crate::writer::{Doubling, Writer, push_doubled};
 use fx_base::Memory;

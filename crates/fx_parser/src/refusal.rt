@@ -6,7 +6,7 @@ ghost use Rattle.fx_parser.specs.Trees as trees;
 ghost use Rattle.fx_parser.specs.Entries.{AreCuts};
 ghost use Rattle.fx_parser.specs.Texts.{place_or, IsItemsEnd, IsLexEnd};
 
-use crate::deep::deepest;
+use crate::depth_scan::deepest;
 use crate::end::ParseEnd;
 use crate::recognize::{Verdict, formula, named_formulas};
 use fx_grammar::{Item, items};

@@ -2,11 +2,11 @@
 ghost use Rattle.std.specs.Prelude.{◌≡◌, ◌++◌, ◌∷◌, [], ℕ, List, IfOk, OnOk, IsTrue, ◌↔◌, MatchOption, Some, None, false, string_bytes, encode_utf8_all, if◌then◌else◌};
 ghost use Rattle.std.specs.Str.{chars, IsAscii};
 ghost use Rattle.fx_number.specs.Spelling.{text_of};
-ghost use Rattle.fx_core.specs.Tree.{node, forest, names_of, parts_of};
+ghost use Rattle.fx_core.specs.Tree.{node, forest, tree_field_names, field_trees};
 ghost use Rattle.fx_core.specs.Tree as tree;
-ghost use Rattle.fx_lexer.specs.Spelling.{begins, word_spelling};
+ghost use Rattle.fx_lexer.specs.Spelling.{begins_with, word_spelling};
 ghost use Rattle.fx_grammar.specs.Formulas.{HasTree};
-ghost use Rattle.fx_parser.specs.Printing.{shown, shown_parts, shown_further, shown_fields, shown_further_fields, shown_strands, island_text, label_text, strand_text, piece_of, name_text, operator_spelling, spaced, in_brackets, comma_text, within};
+ghost use Rattle.fx_parser.specs.Printing.{shown, shown_parts, shown_further, shown_fields, shown_further_fields, shown_strands, island_text, label_text, strand_text, printed_piece, name_text, operator_spelling, spaced, in_brackets, comma_text, printed_within};
 ghost use Rattle.fx_parser.specs.Printing.{is_text as is_text_tree, left_line as left_of, right_line as right_of};
 ghost use Rattle.fx_parser.specs.SameTree.{HasTreeLike};
 ghost use Rattle.fx_parser.specs.Fewest.{HasFewest};
@@ -108,7 +108,7 @@ fn write_global(alloc: Global, name: &Words, out: &mut Writer) -> Result<(), Mem
 /// Adds a tree where this line stands: in brackets where its own line is looser.
 #[cycle(print)]
 fn write_within(alloc: Global, line: Line, expr: &Expr, out: &mut Writer) -> Result<(), Memory>
-    ensures { OnOk result (out.new ≡ out.old ++ within line expr.now (shown expr.now)) }
+    ensures { OnOk result (out.new ≡ out.old ++ printed_within line expr.now (shown expr.now)) }
 {
     if looseness(line_of(expr)) <= looseness(line) {
         return write(alloc, expr, out);
@@ -121,7 +121,7 @@ fn write_within(alloc: Global, line: Line, expr: &Expr, out: &mut Writer) -> Res
 /// Adds a field of a tree.
 #[cycle(print)]
 fn write_dot(alloc: Global, part: &Expr, name: &Words, out: &mut Writer) -> Result<(), Memory>
-    ensures { OnOk result (out.new ≡ out.old ++ (within Line.Access part.now (shown part.now) ++ 46 ∷ name_text name.now)) }
+    ensures { OnOk result (out.new ≡ out.old ++ (printed_within Line.Access part.now (shown part.now) ++ 46 ∷ name_text name.now)) }
 {
     write_within(alloc, Line::Access, part, out)?;
     out.push_plain(".")?;
@@ -131,7 +131,7 @@ fn write_dot(alloc: Global, part: &Expr, name: &Words, out: &mut Writer) -> Resu
 /// Adds a tree under a name for its rows.
 #[cycle(print)]
 fn write_alias(alloc: Global, part: &Expr, name: &Words, out: &mut Writer) -> Result<(), Memory>
-    ensures { OnOk result (out.new ≡ out.old ++ (within Line.Prefix part.now (shown part.now) ++ (spaced (word_spelling Word.As) ++ name_text name.now))) }
+    ensures { OnOk result (out.new ≡ out.old ++ (printed_within Line.Prefix part.now (shown part.now) ++ (spaced (word_spelling Word.As) ++ name_text name.now))) }
 {
     write_within(alloc, Line::Prefix, part, out)?;
     out.push_plain(" As ")?;
@@ -147,7 +147,7 @@ fn write_pair(
     right: &Expr,
     out: &mut Writer,
 ) -> Result<(), Memory>
-    ensures { OnOk result (out.new ≡ out.old ++ (within (left_of op) left.now (shown left.now) ++ (spaced (operator_spelling op) ++ within (right_of op) right.now (shown right.now)))) }
+    ensures { OnOk result (out.new ≡ out.old ++ (printed_within (left_of op) left.now (shown left.now) ++ (spaced (operator_spelling op) ++ printed_within (right_of op) right.now (shown right.now)))) }
 {
     write_within(alloc, left_line(op), left, out)?;
     out.push_plain(operator_text(op))?;
@@ -243,7 +243,7 @@ fn write_list(alloc: Global, parts: &[Expr], out: &mut Writer) -> Result<(), Mem
 /// Adds a record.
 #[cycle(print)]
 fn write_record(alloc: Global, fields: &[(FieldName, Expr)], out: &mut Writer) -> Result<(), Memory>
-    ensures { OnOk result (out.new ≡ out.old ++ 123 ∷ (shown_fields (names_of fields.now) (parts_of fields.now) ++ 125 ∷ [])) }
+    ensures { OnOk result (out.new ≡ out.old ++ 123 ∷ (shown_fields (tree_field_names fields.now) (field_trees fields.now) ++ 125 ∷ [])) }
 {
     out.push_plain("{")?;
     write_fields(alloc, fields, out)?;
@@ -253,7 +253,7 @@ fn write_record(alloc: Global, fields: &[(FieldName, Expr)], out: &mut Writer) -
 /// Adds fields with commas between them.
 #[cycle(print)]
 fn write_fields(alloc: Global, fields: &[(FieldName, Expr)], out: &mut Writer) -> Result<(), Memory>
-    ensures { OnOk result (out.new ≡ out.old ++ shown_fields (names_of fields.now) (parts_of fields.now)) }
+    ensures { OnOk result (out.new ≡ out.old ++ shown_fields (tree_field_names fields.now) (field_trees fields.now)) }
 {
     match fields {
         [] => Ok(()),
@@ -272,7 +272,7 @@ fn write_further_fields(
     fields: &[(FieldName, Expr)],
     out: &mut Writer,
 ) -> Result<(), Memory>
-    ensures { OnOk result (out.new ≡ out.old ++ shown_further_fields (names_of fields.now) (parts_of fields.now)) }
+    ensures { OnOk result (out.new ≡ out.old ++ shown_further_fields (tree_field_names fields.now) (field_trees fields.now)) }
 {
     for (name, part) in fields {
         out.push_plain(", ")?;
@@ -284,7 +284,7 @@ fn write_further_fields(
 /// Adds a field with its name.
 #[cycle(print)]
 fn write_field(alloc: Global, name: &Words, part: &Expr, out: &mut Writer) -> Result<(), Memory>
-    ensures { OnOk result (out.new ≡ out.old ++ (label_text name.now ++ within (Line.Several Join.Or) part.now (shown part.now))) }
+    ensures { OnOk result (out.new ≡ out.old ++ (label_text name.now ++ printed_within (Line.Several Join.Or) part.now (shown part.now))) }
 {
     write_name(alloc, name, out)?;
     out.push_plain(": ")?;
@@ -323,7 +323,7 @@ fn write_strand(
     part: &Expr,
     out: &mut Writer,
 ) -> Result<(), Memory>
-    ensures { OnOk result (out.new ≡ out.old ++ strand_text (piece_of after_text part.now) (shown part.now)) }
+    ensures { OnOk result (out.new ≡ out.old ++ strand_text (printed_piece after_text part.now) (shown part.now)) }
 {
     match piece(after_text, part) {
         Some(words) => write_piece(alloc, words, out),
@@ -365,7 +365,7 @@ fn is_empty(words: &Words) -> bool
 
 /// The words of a part that is a piece: a text that is not empty, and behind no text.
 fn piece(after_text: bool, part: &Expr) -> Option<&Words>
-    ensures { MatchOption result (piece_of after_text part.now ≡ None) (λ w. piece_of after_text part.now ≡ Some w.now) }
+    ensures { MatchOption result (printed_piece after_text part.now ≡ None) (λ w. printed_piece after_text part.now ≡ Some w.now) }
 {
     match &part.node {
         Node::Text(words) => {

@@ -1,7 +1,7 @@
 //! A text that grows at its end.
 ghost use Rattle.std.specs.Prelude.{◌≡◌, ◌++◌, ◌∷◌, [], OnOk, IfOk, string_bytes, encode_utf8_all, if◌then◌else◌};
 ghost use Rattle.std.specs.Str.{chars, IsAscii};
-ghost use Rattle.fx_lexer.specs.Spelling.{begins, doubled};
+ghost use Rattle.fx_lexer.specs.Spelling.{begins_with, doubled};
 ghost use Rattle.fx_parser.specs.Doubling.{doubles};
 
 use fx_base::Memory;
@@ -75,7 +75,7 @@ impl Writer {
 
     /// Whether it begins with an opening brace.
     pub fn begins_with_brace(&self) -> bool
-        ensures { result ≡ begins 123 self.now }
+        ensures { result ≡ begins_with 123 self.now }
     {
         self.text.as_str().chars().next() == Some('{')
     }

@@ -5,9 +5,9 @@ use Rattle.fx_types.specs.declared.faults.Kind.{Kind}
 use Rattle.fx_types.specs.Values.{Data, blank, number, text, boolean, date, rec, tab, fault}
 use Rattle.fx_semantics.specs.Around.{Around, Meaning, AreValues, AreEach, catching, inside, record_of}
 use Rattle.fx_semantics.specs.Errors.{IsCaught}
-use Rattle.fx_semantics.specs.Forms.{IsAll, IsAny, IsIf, IsMatched, IsSwitch, IsRecovered, IsCaughtBy, IsCoalesced, IsFormed}
+use Rattle.fx_semantics.specs.Forms.{IsAll, IsAny, IsIf, IsSwitchMatch, IsSwitch, IsRecovered, IsCaughtBy, IsCoalesced, IsFormed}
 use Rattle.fx_semantics.specs.Fresh.{IsCalled, IsNode, IsWithin, OfAll, OfOne}
-use Rattle.fx_semantics.specs.Rows.{AreNames, AreNew, ArePairs, IsConcat, IsLookedUp, IsMade, IsNamed, IsOfFound, IsOver, IsTaken, IsVerdict, OfEach, OfVerdicts, rows_in}
+use Rattle.fx_semantics.specs.Rows.{AreNames, AreNew, AreRenamings, IsConcat, IsLookedUp, IsMade, MakesByNames, IsOfFound, IsTableCall, TakesRows, IsConjunction, OfEach, OfVerdicts, rows_in}
 use Rattle.fx_core.specs.declared.functions.Form.{Form}
 use Rattle.fx_core.specs.declared.functions.Form.TheVariants as form
 use Rattle.fx_core.specs.declared.functions.Fun.{Fun}
@@ -15,7 +15,7 @@ use Rattle.fx_core.specs.declared.functions.Fun.TheVariants as fun
 use Rattle.fx_tables.specs.Ends.{first_rows, last_rows}
 use Rattle.fx_tables.specs.RowCalls.{looked_up}
 use Rattle.fx_scalar.specs.LazyForms.{decision_of, equality}
-use Rattle.fx_scalar.specs.ScalarFunctions.{is_blank}
+use Rattle.fx_scalar.specs.ScalarFunctions.{is_blank_or_empty}
 use Rattle.fx_value.specs.Columns.{Row}
 use Rattle.fx_core.specs.Term.{Top}
 use Rattle.fx_core.specs.Term as top
@@ -93,19 +93,19 @@ module _ (R : Around → Around → Type 0)
   if_carries (C ∷ P ∷ Ps) k a b v m h =
       (h.0, k.0 a b h.0 m h.1, by_decision (decision_of h.0) (P a v) (P b v) (IsIf Ps a v) (IsIf Ps b v) v (k.1.0 a b v m) (if_carries Ps k.1.1 a b v m) h.2)
 
-  matched_carries : (w : Data) (Ps : List Meaning) → AllCarry Ps → Carries (IsMatched w Ps)
+  matched_carries : (w : Data) (Ps : List Meaning) → AllCarry Ps → Carries (IsSwitchMatch w Ps)
   matched_carries w [] k a b v m h = h
   matched_carries w (P ∷ []) k a b v m h = k.0 a b v m h
   matched_carries w (M ∷ P ∷ Ps) k a b v m h = (
     h.0,
     k.0 a b h.0 m h.1,
-    by_decision (decision_of (equality w h.0)) (P a v) (P b v) (IsMatched w Ps a v) (IsMatched w Ps b v) v (k.1.0 a b v m) (matched_carries w Ps k.1.1 a b v m) h.2,
+    by_decision (decision_of (equality w h.0)) (P a v) (P b v) (IsSwitchMatch w Ps a v) (IsSwitchMatch w Ps b v) v (k.1.0 a b v m) (matched_carries w Ps k.1.1 a b v m) h.2,
   )
 
   switch_carries : (Ps : List Meaning) → AllCarry Ps → Carries (IsSwitch Ps)
   switch_carries [] k a b v m h = absurd h
   switch_carries (P ∷ Ps) k a b v m h =
-      (h.0, k.0 a b h.0 m h.1, error_or h.0 (IsMatched h.0 Ps a v) (IsMatched h.0 Ps b v) v (matched_carries h.0 Ps k.1 a b v m) h.2)
+      (h.0, k.0 a b h.0 m h.1, error_or h.0 (IsSwitchMatch h.0 Ps a v) (IsSwitchMatch h.0 Ps b v) v (matched_carries h.0 Ps k.1 a b v m) h.2)
 
   recovered_carries : (d : Data) (Ps : List Meaning) → AllCarry Ps → Carries (IsRecovered d Ps)
   recovered_carries d [] k a b v m h = h
@@ -116,7 +116,7 @@ module _ (R : Around → Around → Type 0)
   coalesced_carries : (Ps : List Meaning) → AllCarry Ps → Carries (IsCoalesced Ps)
   coalesced_carries [] k a b v m h = h
   coalesced_carries (P ∷ Ps) k a b v m h =
-      (h.0, k.0 a b h.0 m h.1, passed_or (is_blank h.0) (IsCoalesced Ps a v) (IsCoalesced Ps b v) (v ≡ h.0) (coalesced_carries Ps k.1 a b v m) h.2)
+      (h.0, k.0 a b h.0 m h.1, passed_or (is_blank_or_empty h.0) (IsCoalesced Ps a v) (IsCoalesced Ps b v) (v ≡ h.0) (coalesced_carries Ps k.1 a b v m) h.2)
 
   formed_carries : (f : Form) (Ps : List Meaning) → AllCarry Ps → Carries (IsFormed f Ps)
   formed_carries form.All Ps k = all_carries Ps k
@@ -133,12 +133,12 @@ module _ (R : Around → Around → Type 0)
   of_each rows (F ∷ []) k a b m S h = (h.0, each F k.0 a b m rows h.0 h.1, h.2)
   of_each rows (F ∷ G ∷ Ps) k a b m S h = absurd h
 
-  verdict_carries : (Ps : List Meaning) → AllCarry Ps → Carries (IsVerdict Ps)
+  verdict_carries : (Ps : List Meaning) → AllCarry Ps → Carries (IsConjunction Ps)
   verdict_carries Ps k a b v m h = (h.0, values Ps k a b m h.0 h.1, h.2)
 
   of_verdicts : (rows : List Row) (Ps : List Meaning) → AllCarry Ps → (a b : Around) → R a b → (S : List Data → Type 0) →
       OfVerdicts rows Ps a S → OfVerdicts rows Ps b S
-  of_verdicts rows Ps k a b m S h = (h.0, each (IsVerdict Ps) (verdict_carries Ps k) a b m rows h.0 h.1, h.2)
+  of_verdicts rows Ps k a b m S h = (h.0, each (IsConjunction Ps) (verdict_carries Ps k) a b m rows h.0 h.1, h.2)
 
   found_carries : (d : Data) (F : Meaning) → Carries F → Carries (IsOfFound d F)
   found_carries (rec fs) F k a b v m h = k (inside a (rec fs)) (inside b (rec fs)) v (under a b (rec fs) m) h
@@ -156,7 +156,7 @@ module _ (R : Around → Around → Type 0)
   looked_up_carries rows (C ∷ F ∷ []) k a b v m h = (h.0, each C k.0 a b m rows h.0 h.1, found_carries (looked_up rows h.0) F k.1.0 a b v m h.2)
   looked_up_carries rows (C ∷ F ∷ G ∷ Ps) k a b v m h = absurd h
 
-  taken_carries : (taken : Option Data → Data) (Ps : List Meaning) → AllCarry Ps → Carries (IsTaken taken Ps)
+  taken_carries : (taken : Option Data → Data) (Ps : List Meaning) → AllCarry Ps → Carries (TakesRows taken Ps)
   taken_carries taken [] k a b v m h = h
   taken_carries taken (N ∷ []) k a b v m h = (h.0, k.0 a b h.0 m h.1, h.2)
   taken_carries taken (N ∷ M ∷ Ps) k a b v m h = absurd h
@@ -173,7 +173,7 @@ module _ (R : Around → Around → Type 0)
   names_carry [] k a b m (n ∷ ns) h = absurd h
   names_carry (P ∷ Ps) k a b m [] h = absurd h
 
-  named_carries : (made : List (List ℕ) → List Row) (Ps : List Meaning) → AllCarry Ps → Carries (IsNamed made Ps)
+  named_carries : (made : List (List ℕ) → List Row) (Ps : List Meaning) → AllCarry Ps → Carries (MakesByNames made Ps)
   named_carries made Ps k a b v m h = (h.0, names_carry Ps k a b m h.0 h.1, h.2)
 
   new_carry : (rows : List Row) (Ps : List Meaning) → AllCarry Ps → (a b : Around) → R a b → (cs : List (List ℕ × List Data)) →
@@ -184,7 +184,7 @@ module _ (R : Around → Around → Type 0)
   new_carry rows (N ∷ []) k a b m cs h = absurd h
   new_carry rows (N ∷ F ∷ Ps) k a b m [] h = absurd h
 
-  pairs_carry : (Ps : List Meaning) → AllCarry Ps → (a b : Around) → R a b → (ps : List (List ℕ × List ℕ)) → ArePairs Ps a ps → ArePairs Ps b ps
+  pairs_carry : (Ps : List Meaning) → AllCarry Ps → (a b : Around) → R a b → (ps : List (List ℕ × List ℕ)) → AreRenamings Ps a ps → AreRenamings Ps b ps
   pairs_carry [] k a b m [] h = tt
   pairs_carry (N ∷ M ∷ Ps) k a b m (p ∷ ps) h = (k.0 a b (text p.0) m h.0, k.1.0 a b (text p.1) m h.1, pairs_carry Ps k.1.1 a b m ps h.2)
   pairs_carry [] k a b m (p ∷ ps) h = absurd h
@@ -215,7 +215,7 @@ module _ (R : Around → Around → Type 0)
   made_carries fun.Concat rows Ps k a b v m h = concat_carries rows Ps k a b v m h
   made_carries f rows Ps k a b v m h = absurd h
 
-  over_carries : (f : Fun) (Ps : List Meaning) → AllCarry Ps → Carries (IsOver f Ps)
+  over_carries : (f : Fun) (Ps : List Meaning) → AllCarry Ps → Carries (IsTableCall f Ps)
   over_carries f [] k a b v m h = absurd h
   over_carries f (P ∷ Ps) k a b v m h =
       (h.0, k.0 a b h.0 m h.1, error_or h.0 (IsMade f (rows_in h.0) Ps a v) (IsMade f (rows_in h.0) Ps b v) v (made_carries f (rows_in h.0) Ps k.1 a b v m) h.2)

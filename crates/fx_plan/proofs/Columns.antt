@@ -7,20 +7,20 @@ use Rattle.std.specs.Cmp.Lexicographic.{slice_cmp}
 use Rattle.std.specs.Ordering.{is_lt, nat_cmp}
 use Rattle.std.proofs.lemmas.Slice.Eq.{bytes_eq-Decides}
 use Rattle.fx_types.specs.Values.{Data, blank, field_list}
-use Rattle.fx_plan.specs.QueryExpressions.{column_named}
+use Rattle.fx_plan.specs.QueryExpressions.{column_number}
 use Rattle.fx_value.specs.Columns.{with_field}
 use Rattle.fx_value.specs.Columns.{Row as Fields}
 use Rattle.fx_core.specs.declared.schema.Column.{Column}
 use Rattle.fx_core.specs.declared.schema.TableShape.{TableShape}
 use Rattle.fx_core.specs.Lawful.{AreDistinct, DiffersFromAll, IsLawfulTable, id_name}
-use Rattle.fx_value.specs.Coercion.{value_in}
+use Rattle.fx_value.specs.Coercion.{field_or_blank}
 use Rattle.row_queries.specs.declared.rows.Row.{Row}
-use Rattle.row_queries.specs.TableRows.{AreCellsOf, IsRowOf, id_value, record_of, value_at, values_of, with_cells}
+use Rattle.row_queries.specs.TableRows.{AreCellsOf, IsRowOf, id_value, record_of_row, value_at, values_of, cells_by_name}
 use Rattle.row_queries.proofs.Lacking.{AllLack, Lacks, all_lack_one, all_lack_put, names_of}
 
 -- the value under a name
 abbrev under : List ℕ → Fields → Data
-under n fs = value_in n (field_list fs)
+under n fs = field_or_blank n (field_list fs)
 
 -- the place of what passes first, element by element
 pub position_step : {A : Type 0} (p : A → Bool) (x : A) (xs : List A) → position p (x ∷ xs) ≡ (if p x then Some 0 else option_map suc (position p xs))
@@ -82,7 +82,7 @@ next_place None d ds x = refl
 next_place (Some i) d ds x = refl
 
 cells_under : (n : List ℕ) (cs : List Column) (ds : List Data) (fs : Fields) → AreCellsOf cs ds → AreDistinct (names_of cs) → AllLack cs fs →
-    under n (with_cells cs ds fs) ≡ at_place (place_of n cs) ds (under n fs)
+    under n (cells_by_name cs ds fs) ≡ at_place (place_of n cs) ds (under n fs)
 cells_under n [] [] fs a x l = refl
 cells_under n (c ∷ cs) (d ∷ ds) fs a x l =
     cells_under n cs ds (with_field c.name d fs) a.2 x.1 (all_lack_put c.name d cs fs x.0 l.1)
@@ -98,7 +98,7 @@ cells_under n [] (d ∷ ds) fs a x l = absurd a
 cells_under n (c ∷ cs) [] fs a x l = absurd a
 
 -- a column under its name is the value at its number
-pub column_worth : (t : TableShape) (r : Row) (n : List ℕ) (i : ℕ) → IsLawfulTable t → IsRowOf t r → column_named t n ≡ Some i → under n (record_of t r) ≡ value_at (values_of r) i
+pub column_worth : (t : TableShape) (r : Row) (n : List ℕ) (i : ℕ) → IsLawfulTable t → IsRowOf t r → column_number t n ≡ Some i → under n (record_of_row t r) ≡ value_at (values_of r) i
 column_worth t r n i l h e =
     cells_under n t.columns r.cells ((id_name, id_value r.id) ∷ []) h.1 l.2.1 (all_lack_one id_name (id_value r.id) t.columns l.2.0)
     ∙ by (bytes_eq n id_name) refl e

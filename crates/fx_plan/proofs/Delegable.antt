@@ -3,21 +3,21 @@ use Rattle.std.proofs.Common.{◌≡◌, ℕ, zero, suc, ◌<◌, ◌≤◌, tru
 use Rattle.std.specs.Prelude.{option_map, option_and_then, if◌then◌else◌}
 use Rattle.fx_plan.specs.declared.plans.Sketch.{Sketch}
 use Rattle.fx_plan.specs.Outlines.{Outline, constant}
-use Rattle.fx_plan.specs.QueryExpressions.{called, called_with_two, compared, comparison_by, is_constant, negated, pattern_by, pattern_of, patterns_of, sorted, with_constant}
+use Rattle.fx_plan.specs.QueryExpressions.{call_pattern, called_with_two, comparison_pattern, comparison_by, is_constant, negated, pattern_by, pattern_of, patterns_of, sorted, with_constant}
 use Rattle.fx_core.specs.declared.functions.Fun.{Fun}
 use Rattle.fx_core.specs.declared.functions.Fun.TheVariants as fun
 use Rattle.fx_core.specs.declared.literals.SortOrder.{SortOrder}
 use Rattle.fx_core.specs.declared.schema.TableShape.{TableShape}
-use Rattle.fx_core.specs.Term.{Term, of, cons, all, parts_of, term_size, terms_size}
+use Rattle.fx_core.specs.Term.{Term, of, cons, all, field_terms, term_size, terms_size}
 
 pub part_falls : (cs : List Term) (i : ℕ) (c : Term) → i < length cs → c ≡ get_or cs i c → term_size c < terms_size (all cs)
 part_falls [] i c l e = absurd (omega (arith, l))
 part_falls (d ∷ cs) zero c l e = let P : Term → Type 0 = λ x. term_size x < terms_size (all (d ∷ cs)) in subst P (sym e) (omega arith)
 part_falls (d ∷ cs) (suc i) c l e = let h = part_falls cs i c (omega (arith, l)) e in omega (arith, h)
 
-pub field_falls : (fs : List (List ℕ × Term)) (i : ℕ) (f : List ℕ × Term) → i < length fs → f ≡ get_or fs i f → term_size f.1 < terms_size (parts_of fs)
+pub field_falls : (fs : List (List ℕ × Term)) (i : ℕ) (f : List ℕ × Term) → i < length fs → f ≡ get_or fs i f → term_size f.1 < terms_size (field_terms fs)
 field_falls [] i f l e = absurd (omega (arith, l))
-field_falls (g ∷ fs) zero f l e = let P : List ℕ × Term → Type 0 = λ x. term_size x.1 < terms_size (parts_of (g ∷ fs)) in subst P (sym e) (omega arith)
+field_falls (g ∷ fs) zero f l e = let P : List ℕ × Term → Type 0 = λ x. term_size x.1 < terms_size (field_terms (g ∷ fs)) in subst P (sym e) (omega arith)
 field_falls (g ∷ fs) (suc i) f l e = let h = field_falls fs i f (omega (arith, l)) e in omega (arith, h)
 
 -- a constant is kept behind those so far
@@ -49,7 +49,7 @@ no_negation t k (c ∷ d ∷ cs) ds h = first (pattern_of t k c ds)
     first (Some p) = second p.0 (pattern_of t k d p.1)
 
 -- no call of more than a column and a constant is delegable
-pub called_none : (t : TableShape) (k : ℕ) (f : Fun) (cs : List Term) (ds : List Term) → 3 ≤ length cs → None ≡ called t k f (all cs) ds
+pub called_none : (t : TableShape) (k : ℕ) (f : Fun) (cs : List Term) (ds : List Term) → 3 ≤ length cs → None ≡ call_pattern t k f (all cs) ds
 called_none t k f [] ds h = absurd (omega (arith, h))
 called_none t k f (a ∷ []) ds h = absurd (omega (arith, h))
 called_none t k f (a ∷ b ∷ []) ds h = absurd (omega (arith, h))
@@ -63,7 +63,7 @@ sorted_none ts k o (a ∷ b ∷ cs) s h = refl
 
 -- other functions than these two compare, if they are delegable at all
 pub compared_else : (t : TableShape) (k : ℕ) (f : Fun) (a b : Term) (ds : List Term) → (f ≡ fun.StartsWith → ⊥) → (f ≡ fun.In → ⊥) →
-    compared t k (comparison_by f) a b ds ≡ called_with_two t k f a b ds
+    comparison_pattern t k (comparison_by f) a b ds ≡ called_with_two t k f a b ds
 compared_else t k fun.StartsWith a b ds g h = absurd (g refl)
 compared_else t k fun.In a b ds g h = absurd (h refl)
 compared_else t k f a b ds g h = refl

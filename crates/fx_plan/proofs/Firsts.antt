@@ -8,13 +8,13 @@ use Rattle.fx_value.specs.Columns.{Row as Fields}
 use Rattle.fx_tables.specs.Ends.{first_rows as taken}
 use Rattle.fx_core.specs.Term.{Term}
 use Rattle.fx_plan.proofs.Wholes.{rows_back}
-use Rattle.fx_plan.specs.Limited.{FirstRowsAre, first_rows}
-use Rattle.fx_plan.specs.Settings.{around}
+use Rattle.fx_plan.specs.Limited.{FirstRowsAre, first_rows_of}
+use Rattle.fx_plan.specs.Settings.{setting_around}
 
 whole_count : (n : ℕ) → (n * 10000) / 10000 ≡ n
 whole_count n = omega arith
 
-pub first_of_table : (a : Around) (n : ℕ) (t : Term) (rows : List Fields) → IsValue a t (table_of rows) → IsValue a (first_rows n t) (table_of (take n rows))
+pub first_of_table : (a : Around) (n : ℕ) (t : Term) (rows : List Fields) → IsValue a t (table_of rows) → IsValue a (first_rows_of n t) (table_of (take n rows))
 first_of_table a n t rows h =
     let count = number (pos (n * 10000)) in
     let is : table_of (take n rows) ≡ taken (rows_of (row_list rows)) (Some count) =
@@ -22,4 +22,4 @@ first_of_table a n t rows h =
     (table_of rows, h, (count, refl, is))
 
 pub first_rows_are : FirstRowsAre
-first_rows_are s n t = (λ rows h. first_of_table (around s) n t rows h, λ k cs h. (fault k cs, h, refl))
+first_rows_are s n t = (λ rows h. first_of_table (setting_around s) n t rows h, λ k cs h. (fault k cs, h, refl))

@@ -7,14 +7,14 @@ use Rattle.std.proofs.lemmas.Option.{same_Some}
 use Rattle.fx_types.specs.declared.comparisons.Cmp.{Cmp}
 use Rattle.fx_types.specs.Values.{Data, boolean}
 use Rattle.fx_plan.specs.declared.plans.Sketch.{Sketch}
-use Rattle.fx_plan.specs.Outlines.{Outline, value_at, always, flag, constant, compares, is_blank, starts, contains, all_of, any_of, outline_list}
-use Rattle.fx_plan.specs.QueryExpressions.{along, behind, beside, called, called_with_one, called_with_two, column_of, compared, compared_with, comparison_by, filtered, is_constant, is_falling, negated, pattern_by, pattern_of, patterns_of, plain_column, sketch_of, sorted, sorted_by, turned, with_constant}
+use Rattle.fx_plan.specs.Outlines.{Outline, constant_at, always, flag, constant, compares, is_blank, starts, contains, all_of, any_of, outline_list}
+use Rattle.fx_plan.specs.QueryExpressions.{along, patterns_behind, beside, call_pattern, called_with_one, called_with_two, column_of, comparison_pattern, compared_with, comparison_by, filter_sketch, is_constant, is_falling, negated, pattern_by, pattern_of, patterns_of, plain_column, sketch_of, sorted, sorted_by, flipped, with_constant}
 use Rattle.fx_scalar.specs.LazyForms.{decision_of}
-use Rattle.fx_scalar.specs.ScalarFunctions.{is_blank as is_blank_value}
+use Rattle.fx_scalar.specs.ScalarFunctions.{is_blank_or_empty as is_blank_value}
 use Rattle.fx_semantics.specs.Around.{Around, Meaning, AreEach, AreValues, inside, record_of}
 use Rattle.fx_semantics.specs.Forms.{IsAll, IsAny, IsCoalesced}
 use Rattle.fx_semantics.specs.Fresh.{IsCalled, IsValue, OfAll, meaning, meanings}
-use Rattle.fx_semantics.specs.Rows.{IsMade, IsVerdict, rows_in}
+use Rattle.fx_semantics.specs.Rows.{IsMade, IsConjunction, rows_in}
 use Rattle.fx_value.specs.Columns.{Row}
 use Rattle.fx_core.specs.declared.functions.Form.TheVariants as form
 use Rattle.fx_core.specs.declared.functions.Fun.{Fun}
@@ -35,8 +35,8 @@ use Rattle.fx_plan.proofs.Constancy.{constant_stays}
 use Rattle.fx_plan.proofs.Placing.{column_typed, got_last, got_more, joined, negated_same, plain_is, some_map, some_then}
 use Rattle.fx_plan.proofs.Placing.{in_front as put_in_front}
 use Rattle.fx_plan.proofs.Testing.{values_worth}
-use Rattle.fx_plan.specs.Settings.{around}
-use Rattle.fx_plan.specs.Settled.{SearchesAreWorth, SettledAreWorth, as_value, by_head, condition_settled, conditions_settled, in_front, query_settled, search_settled, under}
+use Rattle.fx_plan.specs.Settings.{setting_around}
+use Rattle.fx_plan.specs.Settled.{SearchesAreWorth, SettledAreWorth, as_value, by_head, condition_settled, conditions_settled, in_front, query_settled, search_settled, under_head}
 use Rattle.fx_semantics.proofs.Wider.{by_decision, passed_or, error_or}
 use Rattle.fx_plan.proofs.Placing.{same_inner, two_at}
 
@@ -102,12 +102,12 @@ one_longer ds x = let e = length-append ds (x ∷ []) in omega (arith, e)
 
 module _ (k : ℕ) (vs : List Data) where
   -- a constant gives way to its value
-  constant_part : (x : Term) (n : ℕ) → is_constant k x ≡ true → condition_settled k vs x n ≡ (as_value (value_at vs n), suc n)
-  constant_part (of h cs) n e = if_true (is_constant k (of h cs)) (as_value (value_at vs n), suc n) (by_head h cs n (conditions_settled k vs cs n)) e
+  constant_part : (x : Term) (n : ℕ) → is_constant k x ≡ true → condition_settled k vs x n ≡ (as_value (constant_at vs n), suc n)
+  constant_part (of h cs) n e = if_true (is_constant k (of h cs)) (as_value (constant_at vs n), suc n) (by_head h cs n (conditions_settled k vs cs n)) e
 
   -- and what isn't one goes by its head
   other_part : (h : Top) (cs : Terms) (n : ℕ) → is_constant k (of h cs) ≡ false → condition_settled k vs (of h cs) n ≡ by_head h cs n (conditions_settled k vs cs n)
-  other_part h cs n e = if_false (is_constant k (of h cs)) (as_value (value_at vs n), suc n) (by_head h cs n (conditions_settled k vs cs n)) e
+  other_part h cs n e = if_false (is_constant k (of h cs)) (as_value (constant_at vs n), suc n) (by_head h cs n (conditions_settled k vs cs n)) e
 
   row_is_none : is_constant k (of (top.row k) nil) ≡ false
   row_is_none = ap (λ b. not b && true) (same_number k)
@@ -133,7 +133,7 @@ Joins (top.form form.Any) = Unit {0}
 Joins (top.call f) = IsPlainCall f
 Joins h = ⊥
 
-joins_under : (h : Top) (cs : Terms) (n : ℕ) (p : Terms × ℕ) → Joins h → by_head h cs n p ≡ under h p
+joins_under : (h : Top) (cs : Terms) (n : ℕ) (p : Terms × ℕ) → Joins h → by_head h cs n p ≡ under_head h p
 joins_under (top.form form.All) cs n p j = refl
 joins_under (top.form form.Any) cs n p j = refl
 joins_under (top.call f) cs n p j = refl
@@ -179,7 +179,7 @@ module _ (k : ℕ) (vs : List Data) (Kept : List Term → Term → Term → Type
   AllKept es xs ys = ⊥
 
   pub record IsKeeping : Type 0 where
-    pub constants : (es : List Term) (x : Term) (i : ℕ) → is_constant k x ≡ true → slice_get es i ≡ Some x → Kept es x (as_value (value_at vs i))
+    pub constants : (es : List Term) (x : Term) (i : ℕ) → is_constant k x ≡ true → slice_get es i ≡ Some x → Kept es x (as_value (constant_at vs i))
     pub stays : (es : List Term) (x : Term) → Kept es x x
     pub joins : (es : List Term) (h : Top) (cs xs : Terms) → Joins h → AllKept es cs xs → Kept es (of h cs) (of h xs)
 
@@ -269,13 +269,13 @@ module _ (k : ℕ) (vs : List Data) (Kept : List Term → Term → Term → Type
         two_settle x y ds es es (constant_settles x ds es q.0 (ap (λ (p : Outline × List Term). p.1) m.2)) (column_settles t y m.0 es q.1)
 
     compared_settles : (t : TableShape) (f : Fun) (p : Option (Cmp × Scalar)) (x y : Term) (ds : List Term) (o : Outline) (es : List Term) → OfComparison f p →
-        is_constant k (of (top.call f) (cons x (cons y nil))) ≡ false → compared t k p x y ds ≡ Some (o, es) → Settles (of (top.call f) (cons x (cons y nil))) ds es
+        is_constant k (of (top.call f) (cons x (cons y nil))) ≡ false → comparison_pattern t k p x y ds ≡ Some (o, es) → Settles (of (top.call f) (cons x (cons y nil))) ds es
     compared_settles t f None x y ds o es g c e = absurd cc
     compared_settles t f (Some p) x y ds o es g c e = by (is_constant k y) e
       where
-        by : (b : Bool) → (if b then compared_with t k p.0 p.1 x y ds else compared_with t k (turned p.0) p.1 y x ds) ≡ Some (o, es) → Settles (of (top.call f) (cons x (cons y nil))) ds es
+        by : (b : Bool) → (if b then compared_with t k p.0 p.1 x y ds else compared_with t k (flipped p.0) p.1 y x ds) ≡ Some (o, es) → Settles (of (top.call f) (cons x (cons y nil))) ds es
         by true q = join_settles (top.call f) (cons x (cons y nil)) ds es (plain_two f p.1 g) c (ahead_settles t p.1 (compares p.0) x y ds o es q)
-        by false q = join_settles (top.call f) (cons x (cons y nil)) ds es (plain_two f p.1 g) c (behind_settles t p.1 (compares (turned p.0)) x y ds o es q)
+        by false q = join_settles (top.call f) (cons x (cons y nil)) ds es (plain_two f p.1 g) c (behind_settles t p.1 (compares (flipped p.0)) x y ds o es q)
 
     pair_settles : (t : TableShape) (f : Fun) (x y : Term) (ds : List Term) (o : Outline) (es : List Term) → is_constant k (of (top.call f) (cons x (cons y nil))) ≡ false →
         called_with_two t k f x y ds ≡ Some (o, es) → Settles (of (top.call f) (cons x (cons y nil))) ds es
@@ -297,7 +297,7 @@ module _ (k : ℕ) (vs : List Data) (Kept : List Term → Term → Term → Type
     blank_settles t x i ds e c =
         stays_so (of (top.call fun.IsBlank) (cons x nil)) ds
         (other_part k vs (top.call fun.IsBlank) (cons x nil) (length ds) c
-        ∙ ap (λ (p : Term × ℕ). under (top.call fun.IsBlank) (in_front p.0 (nil, p.1))) (column_part k vs t x i (length ds) e))
+        ∙ ap (λ (p : Term × ℕ). under_head (top.call fun.IsBlank) (in_front p.0 (nil, p.1))) (column_part k vs t x i (length ds) e))
 
     single_settles : (t : TableShape) (f : Fun) (x : Term) (ds : List Term) (o : Outline) (es : List Term) → is_constant k (of (top.call f) (cons x nil)) ≡ false →
         called_with_one t k f x ds ≡ Some (o, es) → Settles (of (top.call f) (cons x nil)) ds es
@@ -306,7 +306,7 @@ module _ (k : ℕ) (vs : List Data) (Kept : List Term → Term → Term → Type
         subst (λ (zs : List Term). Settles (of (top.call fun.IsBlank) (cons x nil)) ds zs) m.2 (blank_settles t x m.0 ds m.1 c)
     single_settles t f x ds o es c e = absurd cc
 
-    call_settles : (t : TableShape) (f : Fun) (cs : Terms) (ds : List Term) (o : Outline) (es : List Term) → is_constant k (of (top.call f) cs) ≡ false → called t k f cs ds ≡ Some (o, es) →
+    call_settles : (t : TableShape) (f : Fun) (cs : Terms) (ds : List Term) (o : Outline) (es : List Term) → is_constant k (of (top.call f) cs) ≡ false → call_pattern t k f cs ds ≡ Some (o, es) →
         Settles (of (top.call f) cs) ds es
     call_settles t f nil ds o es c e = absurd cc
     call_settles t f (cons x nil) ds o es c e = single_settles t f x ds o es c e
@@ -360,7 +360,7 @@ module _ (a : Around) (place : Data) (vs : List Data) where
 
   -- the constants have these values, by their places
   abbrev Worth : List Term → Type 0
-  Worth es = (i : ℕ) (c : Term) → slice_get es i ≡ Some c → IsValue (inside a place) c (value_at vs i)
+  Worth es = (i : ℕ) (c : Term) → slice_get es i ≡ Some c → IsValue (inside a place) c (constant_at vs i)
 
   -- what the settled condition is worth for a row, the condition is
   abbrev Kept : List Term → Term → Term → Type 0
@@ -380,7 +380,7 @@ module _ (a : Around) (place : Data) (vs : List Data) where
 
   keeps : IsKeeping k vs Kept
   keeps = record {
-    constants = λ es x i c at w d v m. subst (meaning x (inside a d)) (sym m) (constant_stays a place d x (value_at vs i) c (w i x at));
+    constants = λ es x i c at w d v m. subst (meaning x (inside a d)) (sym m) (constant_stays a place d x (constant_at vs i) c (w i x at));
     stays = λ es x w d v m. m;
     joins = joins_worth;
   }
@@ -407,7 +407,7 @@ module _ (a : Around) (place : Data) (vs : List Data) where
 
   filter_made : (cs : Terms) (Ps : List Meaning) (rows : List Row) (v : Data) → ((d : Data) → Implies (inside a d) Ps (meanings cs)) → IsMade fun.Filter rows Ps a v → IsMade fun.Filter rows (meanings cs) a v
   filter_made cs Ps rows v i h =
-      (h.0, each_implies a (IsVerdict Ps) (IsVerdict (meanings cs)) (λ d w m. (m.0, values_imply (inside a d) Ps (meanings cs) (i d) m.0 m.1, m.2)) rows h.0 h.1, h.2)
+      (h.0, each_implies a (IsConjunction Ps) (IsConjunction (meanings cs)) (λ d w m. (m.0, values_imply (inside a d) Ps (meanings cs) (i d) m.0 m.1, m.2)) rows h.0 h.1, h.2)
 
   sort_made : (o : SortOrder) (x : Term) (Ps : List Meaning) (rows : List Row) (v : Data) → ((d : Data) → Implies (inside a d) Ps (meaning x ∷ [])) → IsMade (fun.Sort o) rows Ps a v →
       IsMade (fun.Sort o) rows (meaning x ∷ []) a v
@@ -415,11 +415,11 @@ module _ (a : Around) (place : Data) (vs : List Data) where
   sort_made o x (P ∷ []) rows v i h = (h.0, each_implies a P (meaning x) (λ d. (i d).0) rows h.0 h.1, h.2)
   sort_made o x (P ∷ Q ∷ Ps) rows v i h = absurd h
 
-  filtered_settles : (ts : List TableShape) (q : Term) (cs : Terms) (s z : Sketch) → QuerySettles q s.constants → filtered ts k cs s ≡ Some z → QuerySettles (of (top.over fun.Filter) (cons q cs)) z.constants
+  filtered_settles : (ts : List TableShape) (q : Term) (cs : Terms) (s z : Sketch) → QuerySettles q s.constants → filter_sketch ts k cs s ≡ Some z → QuerySettles (of (top.over fun.Filter) (cons q cs)) z.constants
   filtered_settles ts q cs s z table e =
       let With : List Outline × List Term → Sketch = λ p. record s { test = all_of (outline_list p.0); constants = p.1 } in
-      let m = some_then (λ (t : TableShape). option_map With (behind (s.test ∷ []) (patterns_of t k cs s.constants))) (slice_get ts s.table) z e in
-      let p = some_map With (behind (s.test ∷ []) (patterns_of m.0 k cs s.constants)) z m.2 in
+      let m = some_then (λ (t : TableShape). option_map With (patterns_behind (s.test ∷ []) (patterns_of t k cs s.constants))) (slice_get ts s.table) z e in
+      let p = some_map With (patterns_behind (s.test ∷ []) (patterns_of m.0 k cs s.constants)) z m.2 in
       let b = some_map (λ (x : List Outline × List Term). (s.test ∷ [] ++ x.0, x.1)) (patterns_of m.0 k cs s.constants) p.0 p.1 in
       let same : b.0.1 ≡ z.constants = ap (λ (x : List Outline × List Term). x.1) b.2 ∙ ap (λ (x : Sketch). x.constants) p.2 in
       subst (QuerySettles (of (top.over fun.Filter) (cons q cs))) same
@@ -450,7 +450,7 @@ module _ (a : Around) (place : Data) (vs : List Data) where
       let same : [] ≡ s.constants = ap (λ (x : Sketch). x.constants) m.2 in
       subst (QuerySettles (of (top.read (source.Table t)) nil)) same (record { next = refl; worth = λ w v h. h })
   query_settles ts (of (top.over fun.Filter) (cons q cs)) s e =
-      let m = some_then (filtered ts k cs) (sketch_of ts k q) s e in
+      let m = some_then (filter_sketch ts k cs) (sketch_of ts k q) s e in
       filtered_settles ts q cs m.0 s (query_settles ts q m.0 m.1) m.2
   query_settles ts (of (top.over (fun.Sort o)) (cons q cs)) s e =
       let m = some_then (sorted ts k o cs) (sketch_of ts k q) s e in
@@ -464,12 +464,12 @@ module _ (a : Around) (place : Data) (vs : List Data) where
   looked_up x y (cons f nil) rows v i h = (h.0, each_implies a (meaning y) (meaning x) i rows h.0 h.1, h.2)
   looked_up x y (cons f (cons g gs)) rows v i h = absurd h
 
-  search_settles : (ts : List TableShape) (q x : Term) (cs : Terms) (s z : Sketch) → QuerySettles q s.constants → filtered ts k (cons x nil) s ≡ Some z → Worth z.constants → (v : Data) →
+  search_settles : (ts : List TableShape) (q x : Term) (cs : Terms) (s z : Sketch) → QuerySettles q s.constants → filter_sketch ts k (cons x nil) s ≡ Some z → Worth z.constants → (v : Data) →
       IsValue a (search_settled k vs (of (top.over fun.LookUp) (cons q (cons x cs)))) v → IsValue a (of (top.over fun.LookUp) (cons q (cons x cs))) v
   search_settles ts q x cs s z table e w v h =
       let With : List Outline × List Term → Sketch = λ p. record s { test = all_of (outline_list p.0); constants = p.1 } in
-      let m = some_then (λ (t : TableShape). option_map With (behind (s.test ∷ []) (patterns_of t k (cons x nil) s.constants))) (slice_get ts s.table) z e in
-      let p = some_map With (behind (s.test ∷ []) (patterns_of m.0 k (cons x nil) s.constants)) z m.2 in
+      let m = some_then (λ (t : TableShape). option_map With (patterns_behind (s.test ∷ []) (patterns_of t k (cons x nil) s.constants))) (slice_get ts s.table) z e in
+      let p = some_map With (patterns_behind (s.test ∷ []) (patterns_of m.0 k (cons x nil) s.constants)) z m.2 in
       let b = some_map (put_in_front s.test) (patterns_of m.0 k (cons x nil) s.constants) p.0 p.1 in
       let same : b.0.1 ≡ z.constants = ap (λ (y : List Outline × List Term). y.1) b.2 ∙ ap (λ (y : Sketch). y.constants) p.2 in
       let parts = patterns_settle k vs Kept keeps m.0 (cons x nil) s.constants b.0.0 b.0.1 b.1 in
@@ -486,9 +486,9 @@ module _ (a : Around) (place : Data) (vs : List Data) where
 
 pub settled_worth : SettledAreWorth
 settled_worth a ts q s ds v e values h =
-    (query_settles (around a) values.0 ds ts q s e).worth (values_worth (inside (around a) values.0) s.constants ds values.1) v h
+    (query_settles (setting_around a) values.0 ds ts q s e).worth (values_worth (inside (setting_around a) values.0) s.constants ds values.1) v h
 
 pub searches_worth : SearchesAreWorth
 searches_worth a ts q c cs s ds v e values h =
-    let m = some_then (filtered ts (length a.rows) (cons c nil)) (sketch_of ts (length a.rows) q) s e in
-    search_settles (around a) values.0 ds ts q c cs m.0 s (query_settles (around a) values.0 ds ts q m.0 m.1) m.2 (values_worth (inside (around a) values.0) s.constants ds values.1) v h
+    let m = some_then (filter_sketch ts (length a.rows) (cons c nil)) (sketch_of ts (length a.rows) q) s e in
+    search_settles (setting_around a) values.0 ds ts q c cs m.0 s (query_settles (setting_around a) values.0 ds ts q m.0 m.1) m.2 (values_worth (inside (setting_around a) values.0) s.constants ds values.1) v h

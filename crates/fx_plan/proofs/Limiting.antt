@@ -6,8 +6,8 @@ use Rattle.std.proofs.Math.Bool.{and-false, and-true}
 use Rattle.fx_types.specs.declared.comparisons.Cmp.{Cmp}
 use Rattle.fx_plan.specs.declared.plans.Sketch.{Sketch}
 use Rattle.fx_plan.specs.Outlines.{Outline, always, flag, constant, compares, is_blank, starts, contains, all_of, any_of, opposite, outline_list}
-use Rattle.fx_plan.specs.QueryExpressions.{along, are_constant, behind, beside, called, called_with_one, called_with_two, column_named, column_of, compared, compared_with, comparison_by, filtered, is_barred, is_constant, is_falling, is_row, negated, only_of, pattern_by, pattern_of, patterns_of, plain_column, sketch_of, sorted, sorted_by, turned, with_constant}
-use Rattle.fx_plan.specs.Sites.{count_of, deeper, is_first, is_query, opens, takes_whole}
+use Rattle.fx_plan.specs.QueryExpressions.{along, are_constant, patterns_behind, beside, call_pattern, called_with_one, called_with_two, column_number, column_of, comparison_pattern, compared_with, comparison_by, filter_sketch, is_barred, is_constant, is_falling, is_row, negated, only_of, pattern_by, pattern_of, patterns_of, plain_column, sketch_of, sorted, sorted_by, flipped, with_constant}
+use Rattle.fx_plan.specs.Sites.{terms_count, deeper, is_first, is_query, opens_row_scope, takes_whole}
 use Rattle.fx_core.specs.declared.functions.Form.TheVariants as form
 use Rattle.fx_core.specs.declared.functions.Fun.{Fun}
 use Rattle.fx_core.specs.declared.functions.Fun.TheVariants as fun
@@ -23,37 +23,37 @@ use Rattle.fx_core.specs.Term.{Term, Terms, of, nil, cons, Top}
 use Rattle.fx_core.specs.Term as top
 use Rattle.fx_plan.specs.Sites.{is_formula}
 use Rattle.fx_plan.proofs.Placing.{condition_behind, in_front, joined, some_map, some_then}
-use Rattle.fx_plan.specs.Limited.{LimitedSketches, first_rows, limited, limited_sketch, parts_limited, takes_first_whole}
+use Rattle.fx_plan.specs.Limited.{LimitedSketches, first_rows_of, limited, limited_sketch, parts_limited, takes_first_whole}
 
 module _ (ts : List TableShape) (n : ℕ) where
   -- ---- constants stay constants
 
-  constant_rows : (j : ℕ) (x : Term) → is_constant j (first_rows n x) ≡ is_constant j x
+  constant_rows : (j : ℕ) (x : Term) → is_constant j (first_rows_of n x) ≡ is_constant j x
   constant_rows j x = and-true (is_constant j x)
 
-  constant_capped : (j : ℕ) (b : Bool) (x : Term) → is_constant j (if b then first_rows n x else x) ≡ is_constant j x
+  constant_capped : (j : ℕ) (b : Bool) (x : Term) → is_constant j (if b then first_rows_of n x else x) ≡ is_constant j x
   constant_capped j true x = constant_rows j x
   constant_capped j false x = refl
 
   mutual
     pub constant_limited : (j k : ℕ) (w : Bool) (x : Term) → is_constant j (limited ts n k w x) ≡ is_constant j x
     constant_limited j k w (of h cs) =
-        constant_capped j (is_query ts k (of h cs) && not w) (of h (parts_limited ts n k h (count_of cs) (takes_first_whole ts k (of h cs)) 0 cs))
-        ∙ ap (λ b. not (is_barred j h) && b) (constants_limited j k h (count_of cs) (takes_first_whole ts k (of h cs)) 0 cs)
+        constant_capped j (is_query ts k (of h cs) && not w) (of h (parts_limited ts n k h (terms_count cs) (takes_first_whole ts k (of h cs)) 0 cs))
+        ∙ ap (λ b. not (is_barred j h) && b) (constants_limited j k h (terms_count cs) (takes_first_whole ts k (of h cs)) 0 cs)
 
     constants_limited : (j k : ℕ) (h : Top) (m : ℕ) (w : Bool) (i : ℕ) (cs : Terms) → are_constant j (parts_limited ts n k h m w i cs) ≡ are_constant j cs
     constants_limited j k h m w i nil = refl
     constants_limited j k h m w i (cons c cs) =
-        ap (λ b. b && are_constant j (parts_limited ts n k h m w (suc i) cs)) (constant_limited j (deeper (opens h m i) k) (w && is_first i) c)
+        ap (λ b. b && are_constant j (parts_limited ts n k h m w (suc i) cs)) (constant_limited j (deeper (opens_row_scope h m i) k) (w && is_first i) c)
         ∙ ap (λ b. is_constant j c && b) (constants_limited j k h m w (suc i) cs)
 
   -- ---- columns stay columns
 
-  no_row : (k : ℕ) (b : Bool) (f : Fun) (cs : Terms) → is_row k (if b then first_rows n (of (top.over f) cs) else of (top.over f) cs) ≡ false
+  no_row : (k : ℕ) (b : Bool) (f : Fun) (cs : Terms) → is_row k (if b then first_rows_of n (of (top.over f) cs) else of (top.over f) cs) ≡ false
   no_row k true f cs = refl
   no_row k false f cs = refl
 
-  no_read_row : (k : ℕ) (b : Bool) (h : Top) (cs : Terms) → is_row k (of h cs) ≡ false → is_row k (if b then first_rows n (of h cs) else of h cs) ≡ false
+  no_read_row : (k : ℕ) (b : Bool) (h : Top) (cs : Terms) → is_row k (of h cs) ≡ false → is_row k (if b then first_rows_of n (of h cs) else of h cs) ≡ false
   no_read_row k true h cs e = refl
   no_read_row k false h cs e = e
 
@@ -61,23 +61,23 @@ module _ (ts : List TableShape) (n : ℕ) where
   row_limited k j w (of (top.row i) nil) = refl
   row_limited k j w (of (top.row i) (cons c cs)) = refl
   row_limited k j w (of (top.over f) cs) =
-      no_row k (is_query ts j (of (top.over f) cs) && not w) f (parts_limited ts n j (top.over f) (count_of cs) (takes_first_whole ts j (of (top.over f) cs)) 0 cs)
+      no_row k (is_query ts j (of (top.over f) cs) && not w) f (parts_limited ts n j (top.over f) (terms_count cs) (takes_first_whole ts j (of (top.over f) cs)) 0 cs)
   row_limited k j w (of (top.read s) cs) =
-      no_read_row k (is_query ts j (of (top.read s) cs) && not w) (top.read s) (parts_limited ts n j (top.read s) (count_of cs) (takes_first_whole ts j (of (top.read s) cs)) 0 cs) refl
+      no_read_row k (is_query ts j (of (top.read s) cs) && not w) (top.read s) (parts_limited ts n j (top.read s) (terms_count cs) (takes_first_whole ts j (of (top.read s) cs)) 0 cs) refl
   row_limited k j w (of h cs) = refl
 
-  no_column : (t : TableShape) (k : ℕ) (b : Bool) (h : Top) (cs : Terms) → plain_column t k (of h cs) ≡ None → plain_column t k (if b then first_rows n (of h cs) else of h cs) ≡ None
+  no_column : (t : TableShape) (k : ℕ) (b : Bool) (h : Top) (cs : Terms) → plain_column t k (of h cs) ≡ None → plain_column t k (if b then first_rows_of n (of h cs) else of h cs) ≡ None
   no_column t k true h cs e = refl
   no_column t k false h cs e = e
 
   plain_limited : (t : TableShape) (k j : ℕ) (w : Bool) (x : Term) → plain_column t k (limited ts n j w x) ≡ plain_column t k x
-  plain_limited t k j w (of (top.dot m) (cons c nil)) = ap (λ b. if b then column_named t m else None) (row_limited k j false c)
+  plain_limited t k j w (of (top.dot m) (cons c nil)) = ap (λ b. if b then column_number t m else None) (row_limited k j false c)
   plain_limited t k j w (of (top.dot m) nil) = refl
   plain_limited t k j w (of (top.dot m) (cons c (cons d ds))) = refl
   plain_limited t k j w (of (top.over f) cs) =
-      no_column t k (is_query ts j (of (top.over f) cs) && not w) (top.over f) (parts_limited ts n j (top.over f) (count_of cs) (takes_first_whole ts j (of (top.over f) cs)) 0 cs) refl
+      no_column t k (is_query ts j (of (top.over f) cs) && not w) (top.over f) (parts_limited ts n j (top.over f) (terms_count cs) (takes_first_whole ts j (of (top.over f) cs)) 0 cs) refl
   plain_limited t k j w (of (top.read s) cs) =
-      no_column t k (is_query ts j (of (top.read s) cs) && not w) (top.read s) (parts_limited ts n j (top.read s) (count_of cs) (takes_first_whole ts j (of (top.read s) cs)) 0 cs) refl
+      no_column t k (is_query ts j (of (top.read s) cs) && not w) (top.read s) (parts_limited ts n j (top.read s) (terms_count cs) (takes_first_whole ts j (of (top.read s) cs)) 0 cs) refl
   plain_limited t k j w (of h cs) = refl
 
   column_limited : (t : TableShape) (k j : ℕ) (w : Bool) (s : Scalar) (x : Term) → column_of t k s (limited ts n j w x) ≡ column_of t k s x
@@ -94,13 +94,13 @@ module _ (ts : List TableShape) (n : ℕ) where
     lims (cons c cs) = cons (lim c) (lims cs)
 
     -- parts that stand where the whole stands
-    plain_parts : (h : Top) → ((m i : ℕ) → opens h m i ≡ false) → (m i : ℕ) (cs : Terms) → parts_limited ts n (suc k) h m false i cs ≡ lims cs
+    plain_parts : (h : Top) → ((m i : ℕ) → opens_row_scope h m i ≡ false) → (m i : ℕ) (cs : Terms) → parts_limited ts n (suc k) h m false i cs ≡ lims cs
     plain_parts h p m i nil = refl
     plain_parts h p m i (cons c cs) =
         ap (λ b. cons (limited ts n (deeper b (suc k)) false c) (parts_limited ts n (suc k) h m false (suc i) cs)) (p m i) ∙ ap (cons (lim c)) (plain_parts h p m (suc i) cs)
 
     -- conditions behind a table
-    behind_parts : (h : Top) (m : ℕ) (w : Bool) → ((i : ℕ) → opens h m (suc i) ≡ true) → (i : ℕ) (cs : Terms) → parts_limited ts n k h m w (suc i) cs ≡ lims cs
+    behind_parts : (h : Top) (m : ℕ) (w : Bool) → ((i : ℕ) → opens_row_scope h m (suc i) ≡ true) → (i : ℕ) (cs : Terms) → parts_limited ts n k h m w (suc i) cs ≡ lims cs
     behind_parts h m w p i nil = refl
     behind_parts h m w p i (cons c cs) =
         ap (λ b. cons (limited ts n (deeper b k) (w && false) c) (parts_limited ts n k h m w (suc (suc i)) cs)) (p i)
@@ -131,16 +131,16 @@ module _ (ts : List TableShape) (n : ℕ) where
         ap (option_map (λ (i : ℕ). with_constant (f i) (lim y) (map lim ds))) (beside_limited t s x y ∙ m.1) ∙ ap Some (kept_limited (f m.0) y ds o es m.2)
 
     compared_pattern : (t : TableShape) (p : Option (Cmp × Scalar)) (x y : Term) (ds : List Term) (o : Outline) (es : List Term) →
-        compared t k p x y ds ≡ Some (o, es) → compared t k p (lim x) (lim y) (map lim ds) ≡ Some (o, map lim es)
+        comparison_pattern t k p x y ds ≡ Some (o, es) → comparison_pattern t k p (lim x) (lim y) (map lim ds) ≡ Some (o, map lim es)
     compared_pattern t None x y ds o es e = absurd cc
     compared_pattern t (Some p) x y ds o es e =
-        ap (λ b. if b then compared_with t k p.0 p.1 (lim x) (lim y) (map lim ds) else compared_with t k (turned p.0) p.1 (lim y) (lim x) (map lim ds)) (constant_limited k (suc k) false y)
+        ap (λ b. if b then compared_with t k p.0 p.1 (lim x) (lim y) (map lim ds) else compared_with t k (flipped p.0) p.1 (lim y) (lim x) (map lim ds)) (constant_limited k (suc k) false y)
         ∙ by (is_constant k y) e
       where
-        by : (b : Bool) → (if b then compared_with t k p.0 p.1 x y ds else compared_with t k (turned p.0) p.1 y x ds) ≡ Some (o, es) →
-            (if b then compared_with t k p.0 p.1 (lim x) (lim y) (map lim ds) else compared_with t k (turned p.0) p.1 (lim y) (lim x) (map lim ds)) ≡ Some (o, map lim es)
+        by : (b : Bool) → (if b then compared_with t k p.0 p.1 x y ds else compared_with t k (flipped p.0) p.1 y x ds) ≡ Some (o, es) →
+            (if b then compared_with t k p.0 p.1 (lim x) (lim y) (map lim ds) else compared_with t k (flipped p.0) p.1 (lim y) (lim x) (map lim ds)) ≡ Some (o, map lim es)
         by true q = beside_pattern t p.1 (compares p.0) x y ds o es q
-        by false q = beside_pattern t p.1 (compares (turned p.0)) y x ds o es q
+        by false q = beside_pattern t p.1 (compares (flipped p.0)) y x ds o es q
 
     pair_pattern : (t : TableShape) (f : Fun) (x y : Term) (ds : List Term) (o : Outline) (es : List Term) →
         called_with_two t k f x y ds ≡ Some (o, es) → called_with_two t k f (lim x) (lim y) (map lim ds) ≡ Some (o, map lim es)
@@ -163,11 +163,11 @@ module _ (ts : List TableShape) (n : ℕ) where
         bare_pattern (option_map is_blank (plain_column t k x)) (option_map is_blank (plain_column t k (lim x))) ds o es (ap (option_map is_blank) (plain_limited t k (suc k) false x)) e
     single_pattern t f x ds o es e = absurd cc
 
-    call_pattern : (t : TableShape) (f : Fun) (cs : Terms) (ds : List Term) (o : Outline) (es : List Term) → called t k f cs ds ≡ Some (o, es) → called t k f (lims cs) (map lim ds) ≡ Some (o, map lim es)
-    call_pattern t f nil ds o es e = absurd cc
-    call_pattern t f (cons x nil) ds o es e = single_pattern t f x ds o es e
-    call_pattern t f (cons x (cons y nil)) ds o es e = pair_pattern t f x y ds o es e
-    call_pattern t f (cons x (cons y (cons z zs))) ds o es e = absurd cc
+    call_limited : (t : TableShape) (f : Fun) (cs : Terms) (ds : List Term) (o : Outline) (es : List Term) → call_pattern t k f cs ds ≡ Some (o, es) → call_pattern t k f (lims cs) (map lim ds) ≡ Some (o, map lim es)
+    call_limited t f nil ds o es e = absurd cc
+    call_limited t f (cons x nil) ds o es e = single_pattern t f x ds o es e
+    call_limited t f (cons x (cons y nil)) ds o es e = pair_pattern t f x y ds o es e
+    call_limited t f (cons x (cons y (cons z zs))) ds o es e = absurd cc
 
     negated_limited : (p : List Outline × List Term) (o : Outline) (es : List Term) → negated p ≡ Some (o, es) → negated (p.0, map lim p.1) ≡ Some (o, map lim es)
     negated_limited ([], ds) o es e = absurd cc
@@ -177,13 +177,13 @@ module _ (ts : List TableShape) (n : ℕ) where
     negated_limited (x ∷ y ∷ xs, ds) o es e = absurd cc
 
     -- where the head is no query
-    same_head : (h : Top) (cs : Terms) → is_query ts (suc k) (of h cs) ≡ false → takes_whole ts (suc k) (of h cs) ≡ false → ((m i : ℕ) → opens h m i ≡ false) → lim (of h cs) ≡ of h (lims cs)
+    same_head : (h : Top) (cs : Terms) → is_query ts (suc k) (of h cs) ≡ false → takes_whole ts (suc k) (of h cs) ≡ false → ((m i : ℕ) → opens_row_scope h m i ≡ false) → lim (of h cs) ≡ of h (lims cs)
     same_head h cs q w p =
-        ap (λ b. if b && true then first_rows n (of h (parts_limited ts n (suc k) h (count_of cs) (takes_first_whole ts (suc k) (of h cs)) 0 cs))
-        else of h (parts_limited ts n (suc k) h (count_of cs) (takes_first_whole ts (suc k) (of h cs)) 0 cs)) q
-        ∙ ap (λ b. of h (parts_limited ts n (suc k) h (count_of cs) (b || takes_whole ts (suc k) (of h cs)) 0 cs)) q
-        ∙ ap (λ b. of h (parts_limited ts n (suc k) h (count_of cs) b 0 cs)) w
-        ∙ ap (of h) (plain_parts h p (count_of cs) 0 cs)
+        ap (λ b. if b && true then first_rows_of n (of h (parts_limited ts n (suc k) h (terms_count cs) (takes_first_whole ts (suc k) (of h cs)) 0 cs))
+        else of h (parts_limited ts n (suc k) h (terms_count cs) (takes_first_whole ts (suc k) (of h cs)) 0 cs)) q
+        ∙ ap (λ b. of h (parts_limited ts n (suc k) h (terms_count cs) (b || takes_whole ts (suc k) (of h cs)) 0 cs)) q
+        ∙ ap (λ b. of h (parts_limited ts n (suc k) h (terms_count cs) b 0 cs)) w
+        ∙ ap (of h) (plain_parts h p (terms_count cs) 0 cs)
 
     constant_pattern : (t : TableShape) (x : Term) (ds : List Term) → is_constant k x ≡ true → pattern_of t k x ds ≡ Some (with_constant constant x ds)
     constant_pattern t (of h cs) ds e = ap (λ b. if b then Some (with_constant constant (of h cs) ds) else pattern_by t k h cs ds (patterns_of t k cs ds)) e
@@ -218,7 +218,7 @@ module _ (ts : List TableShape) (n : ℕ) where
               let m = some_then negated (patterns_of t k cs ds) (o, es) q in
               whole (top.call fun.Not) c (same_head (top.call fun.Not) cs refl refl (λ m i. refl)) (Some (o, map lim es))
               (ap (option_and_then negated) (go m.0.0 m.0.1 m.1) ∙ negated_limited m.0 o es m.2)
-          heads (top.call f) c go q = whole (top.call f) c (same_head (top.call f) cs refl refl (λ m i. refl)) (Some (o, map lim es)) (call_pattern t f cs ds o es q)
+          heads (top.call f) c go q = whole (top.call f) c (same_head (top.call f) cs refl refl (λ m i. refl)) (Some (o, map lim es)) (call_limited t f cs ds o es q)
           heads (top.dot m) c go q =
               let is = same_head (top.dot m) cs refl refl (λ m i. refl) in
               whole (top.dot m) c is (Some (o, map lim es))
@@ -249,33 +249,33 @@ module _ (ts : List TableShape) (n : ℕ) where
     Limited s = limited_sketch ts n k s
 
     -- the inside of a larger query expression
-    inner : (h : Top) (cs : Terms) → limited ts n k true (of h cs) ≡ of h (parts_limited ts n k h (count_of cs) (takes_first_whole ts k (of h cs)) 0 cs)
-    inner h cs = ap (λ b. if b then first_rows n (of h (parts_limited ts n k h (count_of cs) (takes_first_whole ts k (of h cs)) 0 cs))
-        else of h (parts_limited ts n k h (count_of cs) (takes_first_whole ts k (of h cs)) 0 cs)) (and-false (is_query ts k (of h cs)))
+    inner : (h : Top) (cs : Terms) → limited ts n k true (of h cs) ≡ of h (parts_limited ts n k h (terms_count cs) (takes_first_whole ts k (of h cs)) 0 cs)
+    inner h cs = ap (λ b. if b then first_rows_of n (of h (parts_limited ts n k h (terms_count cs) (takes_first_whole ts k (of h cs)) 0 cs))
+        else of h (parts_limited ts n k h (terms_count cs) (takes_first_whole ts k (of h cs)) 0 cs)) (and-false (is_query ts k (of h cs)))
 
     some_query : (h : Top) (cs : Terms) (s : Sketch) → sketch_of ts k (of h cs) ≡ Some s → takes_first_whole ts k (of h cs) ≡ true
     some_query h cs s e = ap (λ (o : Option Sketch). is_some o || takes_whole ts k (of h cs)) e
 
-    over_inner : (f : Fun) (q : Term) (cs : Terms) (s : Sketch) → ((m i : ℕ) → opens (top.over f) m (suc i) ≡ true) → sketch_of ts k (of (top.over f) (cons q cs)) ≡ Some s →
+    over_inner : (f : Fun) (q : Term) (cs : Terms) (s : Sketch) → ((m i : ℕ) → opens_row_scope (top.over f) m (suc i) ≡ true) → sketch_of ts k (of (top.over f) (cons q cs)) ≡ Some s →
         limited ts n k true (of (top.over f) (cons q cs)) ≡ of (top.over f) (cons (limited ts n k true q) (lims cs))
     over_inner f q cs s p e =
-        inner (top.over f) (cons q cs) ∙ ap (λ b. of (top.over f) (parts_limited ts n k (top.over f) (count_of (cons q cs)) b 0 (cons q cs))) (some_query (top.over f) (cons q cs) s e)
-        ∙ ap (λ xs. of (top.over f) (cons (limited ts n k true q) xs)) (behind_parts (top.over f) (count_of (cons q cs)) true (λ i. p (count_of (cons q cs)) i) 0 cs)
+        inner (top.over f) (cons q cs) ∙ ap (λ b. of (top.over f) (parts_limited ts n k (top.over f) (terms_count (cons q cs)) b 0 (cons q cs))) (some_query (top.over f) (cons q cs) s e)
+        ∙ ap (λ xs. of (top.over f) (cons (limited ts n k true q) xs)) (behind_parts (top.over f) (terms_count (cons q cs)) true (λ i. p (terms_count (cons q cs)) i) 0 cs)
 
-    condition_opens : (m i : ℕ) → opens (top.over fun.Filter) m (suc i) ≡ true
+    condition_opens : (m i : ℕ) → opens_row_scope (top.over fun.Filter) m (suc i) ≡ true
     condition_opens m i = ap is_formula (condition_behind m i)
 
-    filtered_limited : (cs : Terms) (s z : Sketch) → filtered ts k cs s ≡ Some z → filtered ts k (lims cs) (Limited s) ≡ Some (Limited z)
+    filtered_limited : (cs : Terms) (s z : Sketch) → filter_sketch ts k cs s ≡ Some z → filter_sketch ts k (lims cs) (Limited s) ≡ Some (Limited z)
     filtered_limited cs s z e =
         let With : List Outline × List Term → Sketch = λ p. record s { test = all_of (outline_list p.0); constants = p.1 } in
-        let m = some_then (λ (t : TableShape). option_map With (behind (s.test ∷ []) (patterns_of t k cs s.constants))) (slice_get ts s.table) z e in
-        let p = some_map With (behind (s.test ∷ []) (patterns_of m.0 k cs s.constants)) z m.2 in
+        let m = some_then (λ (t : TableShape). option_map With (patterns_behind (s.test ∷ []) (patterns_of t k cs s.constants))) (slice_get ts s.table) z e in
+        let p = some_map With (patterns_behind (s.test ∷ []) (patterns_of m.0 k cs s.constants)) z m.2 in
         let b = some_map (in_front s.test) (patterns_of m.0 k cs s.constants) p.0 p.1 in
         let Then : List Outline × List Term → Sketch = λ r. record (Limited s) { test = all_of (outline_list r.0); constants = r.1 } in
         let patterns = patterns_limited m.0 cs s.constants b.0.0 b.0.1 b.1 in
         let is : With (in_front s.test b.0) ≡ z = ap With b.2 ∙ p.2 in
-        ap (option_and_then (λ (t : TableShape). option_map Then (behind (s.test ∷ []) (patterns_of t k (lims cs) (map lim s.constants))))) m.1
-        ∙ ap (λ r. option_map Then (behind (s.test ∷ []) r)) patterns ∙ ap (λ (x : Sketch). Some (Limited x)) is
+        ap (option_and_then (λ (t : TableShape). option_map Then (patterns_behind (s.test ∷ []) (patterns_of t k (lims cs) (map lim s.constants))))) m.1
+        ∙ ap (λ r. option_map Then (patterns_behind (s.test ∷ []) r)) patterns ∙ ap (λ (x : Sketch). Some (Limited x)) is
 
     key_behind : (o : SortOrder) (m i : ℕ) → takes_at (row_of (fun.Sort o)) m (suc i) ≡ takes.ScalarFormula
     key_behind o m i = by (nat_eq (suc i) 0) (nat_eq (suc i) 1) (nat_eq (suc i % 2) 0) (differs (suc i) 0 (λ e. omega (arith, e)))
@@ -308,9 +308,9 @@ module _ (ts : List TableShape) (n : ℕ) where
         let m = some_map (λ (u : TableShape). record { table = t; test = always; order = None; constants = [] }) (slice_get ts t) s e in
         ap (sketch_of ts k) (inner (top.read (source.Table t)) nil) ∙ e ∙ ap (λ (x : Sketch). Some x) (sym m.2) ∙ ap (λ (x : Sketch). Some (Limited x)) m.2
     query_limited (of (top.over fun.Filter) (cons q cs)) s e =
-        let m = some_then (filtered ts k cs) (sketch_of ts k q) s e in
+        let m = some_then (filter_sketch ts k cs) (sketch_of ts k q) s e in
         ap (sketch_of ts k) (over_inner fun.Filter q cs s condition_opens e)
-        ∙ ap (option_and_then (filtered ts k (lims cs))) (query_limited q m.0 m.1) ∙ filtered_limited cs m.0 s m.2
+        ∙ ap (option_and_then (filter_sketch ts k (lims cs))) (query_limited q m.0 m.1) ∙ filtered_limited cs m.0 s m.2
     query_limited (of (top.over (fun.Sort o)) (cons q cs)) s e =
         let m = some_then (sorted ts k o cs) (sketch_of ts k q) s e in
         ap (sketch_of ts k) (over_inner (fun.Sort o) q cs s (λ m i. ap is_formula (key_behind o m i)) e)

@@ -6,15 +6,15 @@ use Rattle.fx_types.specs.Values.{Data, blank, number, text, boolean, date, rec,
 use Rattle.fx_value.specs.Operators.{holds_of}
 use Rattle.fx_plan.specs.Ranges.{NoRowIsMissed, all_comparisons, comparisons, meets_all, serves}
 use Rattle.row_queries.specs.Conditions.{Condition, ConditionList, always, flag, constant, compares, is_blank, starts, contains, all_of, any_of, opposite, no_conditions, also}
-use Rattle.row_queries.specs.RowTests.{Outcome, met, unmet, failed, all_outcome, and_then, decided, outcome, unless_fault}
+use Rattle.row_queries.specs.RowTests.{Outcome, met, unmet, failed, all_outcome, and_outcome, decided, outcome, unless_fault}
 use Rattle.row_queries.specs.TableRows.{value_at}
 
-first_met : (o p : Outcome) → and_then o p ≡ met → o ≡ met
+first_met : (o p : Outcome) → and_outcome o p ≡ met → o ≡ met
 first_met met p h = refl
 first_met unmet p h = h
 first_met (failed k cs) p h = h
 
-second_met : (o p : Outcome) → and_then o p ≡ met → p ≡ met
+second_met : (o p : Outcome) → and_outcome o p ≡ met → p ≡ met
 second_met met p h = h
 second_met unmet p h = absurd cc
 second_met (failed k cs) p h = absurd cc

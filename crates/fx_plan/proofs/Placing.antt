@@ -12,9 +12,9 @@ use Rattle.fx_types.specs.TypeView.{shape}
 use Rattle.fx_types.specs.Types.{Shape, numbers, texts, booleans, dates, tables}
 use Rattle.fx_types.specs.Values.{Data}
 use Rattle.fx_plan.specs.declared.plans.Sketch.{Sketch}
-use Rattle.fx_plan.specs.Outlines.{Outline, OutlineList, AreWithin, IsWithin, all_filled, filled, value_at, always, flag, constant, compares, is_blank, starts, contains, all_of, any_of, opposite, no_outlines, with, outline_list}
+use Rattle.fx_plan.specs.Outlines.{Outline, OutlineList, AreWithin, IsWithin, all_filled, filled, constant_at, always, flag, constant, compares, is_blank, starts, contains, all_of, any_of, opposite, no_outlines, with, outline_list}
 use Rattle.fx_plan.specs.Plans.{AllSuit, Suits}
-use Rattle.fx_plan.specs.QueryExpressions.{along, are_constant, behind, beside, called, called_with_one, called_with_two, column_named, column_of, compared, compared_with, comparison_by, filtered, is_barred, is_constant, is_falling, is_of, negated, only_of, pattern_by, pattern_of, patterns_of, plain_column, sketch_of, sorted, sorted_by, turned, whole_table, with_constant, is_row}
+use Rattle.fx_plan.specs.QueryExpressions.{along, are_constant, patterns_behind, beside, call_pattern, called_with_one, called_with_two, column_number, column_of, comparison_pattern, compared_with, comparison_by, filter_sketch, is_barred, is_constant, is_falling, is_of, negated, only_of, pattern_by, pattern_of, patterns_of, plain_column, sketch_of, sorted, sorted_by, flipped, table_sketch, with_constant, is_row}
 use Rattle.fx_plan.specs.Ranges.{Compares, column_type}
 use Rattle.fx_semantics.specs.Sound.{AreFit, AreLawfulTypings}
 use Rattle.fx_semantics.proofs.Branches.{differs}
@@ -39,7 +39,7 @@ use Rattle.fx_core.specs.SourceTypes.{columns_of}
 use Rattle.fx_core.specs.Term.{Term, Terms, of, nil, cons, Top}
 use Rattle.fx_core.specs.Term as top
 use Rattle.fx_typing.specs.Acts.{acts, any_acts, is_acting}
-use Rattle.fx_typing.specs.WellTyped.{AllStand, AreTyped, Context, Standing, Stands, answered, context_for, first_type, inside, paired, parts_count, plain, row_type, standing_at, standing_of}
+use Rattle.fx_typing.specs.WellTyped.{AllStand, AreTyped, Context, PartScope, Stands, answered_type, context_for, first_type, inside, typed_pairs, parts_count, plain, row_type, standing_at, standing_of}
 use Rattle.fx_value.specs.Fits.{fits_in}
 use Rattle.fx_plan.specs.Constants.{HasType, HaveTypes, ReadsTables, SketchesCanPlan, in_row}
 
@@ -130,7 +130,7 @@ mutual
   all_placed_more t us vs (with o os) p = (placed_more t us vs o p.0, all_placed_more t us vs os p.1)
 
 -- values that fit these types suit a pattern
-there_fits : (ds : List Data) (us : List Shape) (i : ℕ) (u : Shape) → AreFit ds us → slice_get us i ≡ Some u → (fits_in (value_at ds i) u ≡ true) × (i < length ds)
+there_fits : (ds : List Data) (us : List Shape) (i : ℕ) (u : Shape) → AreFit ds us → slice_get us i ≡ Some u → (fits_in (constant_at ds i) u ≡ true) × (i < length ds)
 there_fits [] [] i u f e = absurd cc
 there_fits [] (w ∷ us) i u f e = absurd f
 there_fits (d ∷ ds) [] i u f e = absurd f
@@ -243,7 +243,7 @@ placed_at : (cs : List Column) (n : List ℕ) (i : ℕ) → position (λ (c : Co
 placed_at [] n i e = absurd cc
 placed_at (c ∷ cs) n i e = (position-Some (λ (d : Column). bytes_eq d.name n) (c ∷ cs) i c e).0
 
-pub named_within : (t : TableShape) (n : List ℕ) (i : ℕ) → column_named t n ≡ Some i → i ≤ length t.columns
+pub named_within : (t : TableShape) (n : List ℕ) (i : ℕ) → column_number t n ≡ Some i → i ≤ length t.columns
 named_within t n i e = by (bytes_eq n id_name) e
   where
     by : (b : Bool) → (if b then Some 0 else option_map suc (position (λ (c : Column). bytes_eq c.name n) t.columns)) ≡ Some i → i ≤ length t.columns
@@ -254,7 +254,7 @@ named_within t n i e = by (bytes_eq n id_name) e
 pub record IsColumn (t : TableShape) (k : ℕ) (x : Term) (i : ℕ) : Type 0 where
   pub name : List ℕ
   pub is : x ≡ of (top.dot name) (cons (of (top.row k) nil) nil)
-  pub named : column_named t name ≡ Some i
+  pub named : column_number t name ≡ Some i
 
 row_there : (k : ℕ) (x : Term) → is_row k x ≡ true → x ≡ of (top.row k) nil
 row_there k (of (top.row j) nil) e = let same : j ≡ k = eqb-true j k e in ap (λ n. of (top.row n) nil) same
@@ -263,7 +263,7 @@ row_there k x e = absurd cc
 pub plain_is : (t : TableShape) (k : ℕ) (x : Term) (i : ℕ) → plain_column t k x ≡ Some i → IsColumn t k x i
 plain_is t k (of (top.dot n) (cons x nil)) i e = by (is_row k x) refl e
   where
-    by : (b : Bool) → is_row k x ≡ b → (if b then column_named t n else None) ≡ Some i → IsColumn t k (of (top.dot n) (cons x nil)) i
+    by : (b : Bool) → is_row k x ≡ b → (if b then column_number t n else None) ≡ Some i → IsColumn t k (of (top.dot n) (cons x nil)) i
     by true q r = record { name = n; is = ap (λ y. of (top.dot n) (cons y nil)) (row_there k x q); named = r }
     by false q r = absurd cc
 plain_is t k x i e = absurd cc
@@ -293,7 +293,7 @@ same_parts c h r s p q n m i first common (cons x xs) done us w l a =
     let at : AllStand r m i first common (w.0 ∷ w.1) = subst (AllStand r m i first common) w.2 a in
     let own : w.0 ≡ shape_of s = subst (λ (k : Takes). Stands k first common w.0) (q m i) at.0 in
     let typed : HasType (context_for (standing_at h n (length done)) c done) x w.0 = (w.3, l.0) in (
-      subst (HasType c x) own (subst (λ (z : Standing). HasType (context_for z c done) x w.0) (p n (length done)) typed),
+      subst (HasType c x) own (subst (λ (z : PartScope). HasType (context_for z c done) x w.0) (p n (length done)) typed),
       same_parts c h r s p q n m (suc i) first common xs (done ++ w.0 ∷ []) w.1 w.4 l.1 at.1,
     )
 
@@ -338,7 +338,7 @@ pair_parts c f s cs u e h =
 pub record Comparing (f : Fun) (op : Cmp) (s : Scalar) : Type 0 where
   pub row : row_of f ≡ two s s Boolean
   pub ahead : Compares op (shape_of s)
-  pub behind : Compares (turned op) (shape_of s)
+  pub behind : Compares (flipped op) (shape_of s)
 
 abbrev OfComparison : Fun → Option (Cmp × Scalar) → Type 0
 OfComparison f None = Unit {0}
@@ -386,16 +386,16 @@ compared_made t c k us ds op s a b o es h typed can e =
     beside_made t c k us ds s (compares op) a b o es h typed (λ i q vs j p. (shape_of s, q, can, p)) e
 
 either_made : (t : TableShape) (c : Context) (k : ℕ) (us : List Shape) (ds : List Term) (f : Fun) (r : Option (Cmp × Scalar)) (a b : Term) (u : Shape) (o : Outline) (es : List Term) →
-    OfComparison f r → HaveTypes c ds us → HasType c (of (top.call f) (cons a (cons b nil))) u → compared t k r a b ds ≡ Some (o, es) → IsMade t c us o es
+    OfComparison f r → HaveTypes c ds us → HasType c (of (top.call f) (cons a (cons b nil))) u → comparison_pattern t k r a b ds ≡ Some (o, es) → IsMade t c us o es
 either_made t c k us ds f None a b u o es g h typed e = absurd cc
 either_made t c k us ds f (Some p) a b u o es g h typed e = by (is_constant k b) e
   where
     parts : AllOf c (shape_of p.1) (cons a (cons b nil))
     parts = pair_parts c f p.1 (cons a (cons b nil)) u g.row typed
 
-    by : (x : Bool) → (if x then compared_with t k p.0 p.1 a b ds else compared_with t k (turned p.0) p.1 b a ds) ≡ Some (o, es) → IsMade t c us o es
+    by : (x : Bool) → (if x then compared_with t k p.0 p.1 a b ds else compared_with t k (flipped p.0) p.1 b a ds) ≡ Some (o, es) → IsMade t c us o es
     by true q = compared_made t c k us ds p.0 p.1 a b o es h parts.1.0 g.ahead q
-    by false q = compared_made t c k us ds (turned p.0) p.1 b a o es h parts.0 g.behind q
+    by false q = compared_made t c k us ds (flipped p.0) p.1 b a o es h parts.0 g.behind q
 
 pair_made : (t : TableShape) (c : Context) (k : ℕ) (us : List Shape) (ds : List Term) (f : Fun) (a b : Term) (u : Shape) (o : Outline) (es : List Term) →
     HaveTypes c ds us → HasType c (of (top.call f) (cons a (cons b nil))) u → called_with_two t k f a b ds ≡ Some (o, es) → IsMade t c us o es
@@ -424,7 +424,7 @@ single_made t c k us ds fun.IsBlank x o es h e = blank_made t c k us ds x o es h
 single_made t c k us ds f x o es h e = absurd cc
 
 call_made : (t : TableShape) (c : Context) (k : ℕ) (us : List Shape) (ds : List Term) (f : Fun) (cs : Terms) (u : Shape) (o : Outline) (es : List Term) →
-    HaveTypes c ds us → HasType c (of (top.call f) cs) u → called t k f cs ds ≡ Some (o, es) → IsMade t c us o es
+    HaveTypes c ds us → HasType c (of (top.call f) cs) u → call_pattern t k f cs ds ≡ Some (o, es) → IsMade t c us o es
 call_made t c k us ds f nil u o es h typed e = absurd cc
 call_made t c k us ds f (cons x nil) u o es h typed e = single_made t c k us ds f x o es h e
 call_made t c k us ds f (cons a (cons b nil)) u o es h typed e = pair_made t c k us ds f a b u o es h typed e
@@ -560,10 +560,10 @@ over_parts c f q cs u same p h =
     let n = suc (parts_count cs) in
     let w = h.0.1 in
     let common = h.0.2.1.1 in
-    let told : answered (row_of f).answer common (paired (cons q cs) (w.0 ∷ w.1)) ≡ as_answer u = subst (λ (us : List Shape). answered (row_of f).answer common (paired (cons q cs) us) ≡ as_answer u) w.2 h.0.2.1.3 in
-    let own : w.0 ≡ u = same_answer w.0 u (subst (λ (a : Answer). answered a common (paired (cons q cs) (w.0 ∷ w.1)) ≡ as_answer u) same told) in
+    let told : answered_type (row_of f).answer common (typed_pairs (cons q cs) (w.0 ∷ w.1)) ≡ as_answer u = subst (λ (us : List Shape). answered_type (row_of f).answer common (typed_pairs (cons q cs) us) ≡ as_answer u) w.2 h.0.2.1.3 in
+    let own : w.0 ≡ u = same_answer w.0 u (subst (λ (a : Answer). answered_type a common (typed_pairs (cons q cs) (w.0 ∷ w.1)) ≡ as_answer u) same told) in
     let first : HasType (context_for (standing_at (top.over f) n 0) c []) q w.0 = (w.3, h.1.1.0) in
-    let here : HasType c q w.0 = subst (λ (z : Standing). HasType (context_for z c []) q w.0) (p n) first in
+    let here : HasType c q w.0 = subst (λ (z : PartScope). HasType (context_for z c []) q w.0) (p n) first in
     let stand : AllStand (row_of f) (length (w.0 ∷ w.1)) 0 w.0 common (w.0 ∷ w.1) = subst (λ (us : List Shape). AllStand (row_of f) (length us) 0 (first_type us) common us) w.2 h.0.2.1.2 in
     let Rest : Shape → Type 0 = λ z. (k : AreTyped c (top.over f) n (z ∷ []) cs w.1) × AreLawfulTypings c (top.over f) n (z ∷ []) cs w.1 k in
     let rest : Rest u = subst Rest own (w.4, h.1.1.1) in
@@ -595,7 +595,7 @@ conditions_inside c t n m i u common (cons x xs) done us e w l a =
     let own : w.0 ≡ booleans = subst (λ (k : Takes). Stands k u common w.0) (condition_behind m i) at.0 in
     let typed : HasType (context_for (standing_at (top.over fun.Filter) n (suc (length done))) c (u ∷ done)) x w.0 = (w.3, l.0) in
     let stands : standing_at (top.over fun.Filter) n (suc (length done)) ≡ inside = ap standing_of (condition_behind n (length done)) in
-    let there : HasType (record c { rows = c.rows ++ row_type u ∷ [] }) x w.0 = subst (λ (z : Standing). HasType (context_for z c (u ∷ done)) x w.0) stands typed in (
+    let there : HasType (record c { rows = c.rows ++ row_type u ∷ [] }) x w.0 = subst (λ (z : PartScope). HasType (context_for z c (u ∷ done)) x w.0) stands typed in (
       subst (HasType (in_row c t) x) own (subst (λ (z : Shape). HasType (record c { rows = c.rows ++ row_type z ∷ [] }) x w.0) e there),
       conditions_inside c t n m (suc i) u common xs (done ++ w.0 ∷ []) w.1 e w.4 l.1 at.1,
     )
@@ -605,17 +605,17 @@ conditions_inside c t n m i u common (cons x xs) done us e w l a =
 same_table : (o : Option TableShape) (t u : TableShape) → o ≡ Some t → o ≡ Some u → t ≡ u
 same_table o t u e f = same_Some t u (sym e ∙ f)
 
-whole_found : (c : Context) (ts : List TableShape) (n : ℕ) (u : Shape) (s : Sketch) → ReadsTables ts c → c.sources (source.Table n) ≡ Some u → whole_table ts n ≡ Some s → IsFound c ts u s
+whole_found : (c : Context) (ts : List TableShape) (n : ℕ) (u : Shape) (s : Sketch) → ReadsTables ts c → c.sources (source.Table n) ≡ Some u → table_sketch ts n ≡ Some s → IsFound c ts u s
 whole_found c ts n u s k r e =
     let m = some_map (λ (t : TableShape). record { table = n; test = always; order = None; constants = [] }) (slice_get ts n) s e in
     subst (IsFound c ts u) m.2 (record { table = m.0; is_table = m.1; type = same_Some u (tables (columns_of m.0)) (sym r ∙ k n m.0 m.1); order = tt; types = []; constants = tt; placed = tt })
 
 filter_found : (c : Context) (ts : List TableShape) (k : ℕ) (cs : Terms) (u : Shape) (s z : Sketch) → (f : IsFound c ts u s) → AllOf (in_row c f.table) booleans cs →
-    filtered ts k cs s ≡ Some z → IsFound c ts u z
+    filter_sketch ts k cs s ≡ Some z → IsFound c ts u z
 filter_found c ts k cs u s z f own e =
     let With : List Outline × List Term → Sketch = λ p. record s { test = all_of (outline_list p.0); constants = p.1 } in
-    let m = some_then (λ (t : TableShape). option_map With (behind (s.test ∷ []) (patterns_of t k cs s.constants))) (slice_get ts s.table) z e in
-    let n = some_map With (behind (s.test ∷ []) (patterns_of m.0 k cs s.constants)) z m.2 in
+    let m = some_then (λ (t : TableShape). option_map With (patterns_behind (s.test ∷ []) (patterns_of t k cs s.constants))) (slice_get ts s.table) z e in
+    let n = some_map With (patterns_behind (s.test ∷ []) (patterns_of m.0 k cs s.constants)) z m.2 in
     let b = some_map (in_front s.test) (patterns_of m.0 k cs s.constants) n.0 n.1 in
     let same : m.0 ≡ f.table = same_table (slice_get ts s.table) m.0 f.table m.1 f.is_table in
     let made = patterns_made f.table (in_row c f.table) k f.types cs s.constants b.0.0 b.0.1 f.constants own (subst (λ (t : TableShape). patterns_of t k cs s.constants ≡ Some b.0) same b.1) in
@@ -652,7 +652,7 @@ sort_found c ts k o (cons x nil) u s z f e = by (is_some s.order) e
 pub query_found : (c : Context) (ts : List TableShape) (q : Term) (u : Shape) (s : Sketch) → ReadsTables ts c → HasType c q u → sketch_of ts (length c.rows) q ≡ Some s → IsFound c ts u s
 query_found c ts (of (top.read (source.Table n)) nil) u s k h e = whole_found c ts n u s k h.0.2 e
 query_found c ts (of (top.over fun.Filter) (cons q cs)) u s k h e =
-    let m = some_then (filtered ts (length c.rows) cs) (sketch_of ts (length c.rows) q) s e in
+    let m = some_then (filter_sketch ts (length c.rows) cs) (sketch_of ts (length c.rows) q) s e in
     let o = over_parts c fun.Filter q cs u refl (λ n. refl) h in
     let f = query_found c ts q u m.0 k o.first m.1 in
     filter_found c ts (length c.rows) cs u m.0 s f

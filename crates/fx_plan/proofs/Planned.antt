@@ -13,7 +13,7 @@ use Rattle.fx_plan.specs.Ranges.{TakesComparisons}
 use Rattle.row_queries.specs.Conditions.{Condition}
 use Rattle.row_queries.specs.declared.queries.Query.{Query}
 use Rattle.row_queries.specs.Queries.{IsIndexed, IsQuery}
-use Rattle.row_queries.specs.Ranges.{AreRising, HoldEveryKey}
+use Rattle.row_queries.specs.Ranges.{AreRangesRising, HoldEveryKey}
 
 -- the table that is found is the sketch's
 same_table : (o : Option TableShape) (t u : TableShape) → o ≡ Some t → o ≡ Some u → t ≡ u
@@ -34,7 +34,7 @@ planned_taken tables s ds r t e test f n =
     (subst (λ (c : Condition). TakesComparisons r.table c) (sym f) (takes_them r.table ds s.test r.lawful n r.within r.suits))
 
 pub planned_query : (tables : List TableShape) (s : Sketch) (ds : List Data) → CanPlan tables s ds → (t : TableShape) → slice_get tables s.table ≡ Some t → (q : Query) → q.table ≡ s.table →
-    q.test ≡ filled ds s.test → q.order ≡ s.order → q.column ≤ length t.columns → AreRising q.ranges → IsIndexed t q.column ⊎ HoldEveryKey q.ranges → IsQuery tables q
+    q.test ≡ filled ds s.test → q.order ≡ s.order → q.column ≤ length t.columns → AreRangesRising q.ranges → IsIndexed t q.column ⊎ HoldEveryKey q.ranges → IsQuery tables q
 planned_query tables s ds r t e q a b c within rises reaches =
     let same : r.table ≡ t = same_table (slice_get tables s.table) r.table t r.is_table e in
     let suits : Suits t q.test = subst (Suits t) (sym b) (subst (λ (x : TableShape). Suits x (filled ds s.test)) same r.suits) in

@@ -8,7 +8,7 @@ use Rattle.fx_types.specs.Types.{Shape, blanks, numbers, records, tables, Column
 use Rattle.fx_types.specs.Values.{Data, text}
 use Rattle.fx_plan.specs.declared.plans.Sketch.{Sketch}
 use Rattle.fx_plan.specs.QueryExpressions.{sketch_of}
-use Rattle.fx_plan.specs.Sites.{count_of, deeper, is_first, is_formula, is_query, opens}
+use Rattle.fx_plan.specs.Sites.{terms_count, deeper, is_first, is_formula, is_query, opens_row_scope}
 use Rattle.fx_semantics.specs.Sound.{AreLawfulTypings, IsLawfulType}
 use Rattle.fx_semantics.proofs.Calls.{call_quiet}
 use Rattle.fx_semantics.proofs.Forms.{IsQuiet, form_quiet}
@@ -24,12 +24,12 @@ use Rattle.fx_core.specs.SourceTypes.{columns_of}
 use Rattle.fx_core.specs.Term.{Term, Terms, of, nil, cons, Top}
 use Rattle.fx_core.specs.Term as top
 use Rattle.fx_typing.specs.Acts.{acts, any_acts, is_acting}
-use Rattle.fx_typing.specs.Columns.{added, by_label, dropped, label_of, names_there, renamed, shown}
-use Rattle.fx_core.specs.ColumnLists.{and_then, field_in, if_there, only, row_columns, value_column, with_new, with_renamed, without_all}
-use Rattle.fx_typing.specs.WellTyped.{AreTyped, Context, IsByRow, IsRuled, Standing, answered, as_table, bound, catching, context_for, head_of, inside, paired, parts_count, plain, row_type, standing_at, standing_of}
+use Rattle.fx_typing.specs.Columns.{added, by_label, dropped, label_of, names_there, columns_renamed, columns_shown}
+use Rattle.fx_core.specs.ColumnLists.{and_then, field_in, if_there, columns_only, row_columns, value_column, with_new, with_renamed, without_all}
+use Rattle.fx_typing.specs.WellTyped.{AreTyped, Context, IsByRow, IsRuled, PartScope, answered_type, as_table, bound, catching, context_for, head_of, inside, typed_pairs, parts_count, plain, row_type, standing_at, standing_of}
 use Rattle.fx_plan.proofs.Placing.{query_found}
 use Rattle.fx_plan.specs.Constants.{HasType, ReadsTables}
-use Rattle.fx_plan.specs.Limited.{LimitedTypes, first_rows, limited, parts_limited, takes_first_whole}
+use Rattle.fx_plan.specs.Limited.{LimitedTypes, first_rows_of, limited, parts_limited, takes_first_whole}
 
 -- ---- the same labels and types
 
@@ -56,10 +56,10 @@ there_same (x ∷ xs) [] h cs = absurd h
 dropped_same : (xs ys : List (Term × Shape)) → SameLabels xs ys → (cs : ColumnList) → dropped xs cs ≡ dropped ys cs
 dropped_same xs ys h cs = ap (λ r. and_then r (λ ns. Ok (without_all ns cs))) (there_same xs ys h cs)
 
-shown_same : (xs ys : List (Term × Shape)) → SameLabels xs ys → (cs : ColumnList) → shown xs cs ≡ shown ys cs
-shown_same xs ys h cs = ap (λ r. and_then r (λ ns. Ok (only ns cs))) (there_same xs ys h cs)
+shown_same : (xs ys : List (Term × Shape)) → SameLabels xs ys → (cs : ColumnList) → columns_shown xs cs ≡ columns_shown ys cs
+shown_same xs ys h cs = ap (λ r. and_then r (λ ns. Ok (columns_only ns cs))) (there_same xs ys h cs)
 
-renamed_same : (xs ys : List (Term × Shape)) → SameLabels xs ys → (cs : ColumnList) → renamed xs cs ≡ renamed ys cs
+renamed_same : (xs ys : List (Term × Shape)) → SameLabels xs ys → (cs : ColumnList) → columns_renamed xs cs ≡ columns_renamed ys cs
 renamed_same [] [] h cs = refl
 renamed_same (x ∷ []) (y ∷ []) h cs = refl
 renamed_same (x ∷ f ∷ xs) (y ∷ g ∷ ys) h cs = λ i. by_label (h.0 i) (λ n. by_label (h.2.0 i) (λ m. and_then (with_renamed n m cs) (λ ds. renamed_same xs ys h.2.2 ds i)))
@@ -80,23 +80,23 @@ by_table f g e t u q = by t ∙ ap (of_table g) q
     by (tables cs) = ap as_table (e cs)
     by x = refl
 
-added_told : (common : Shape) (x : Term × Shape) (xs : List (Term × Shape)) → answered answer.Added common (x ∷ xs) ≡ of_table (added xs) x.1
+added_told : (common : Shape) (x : Term × Shape) (xs : List (Term × Shape)) → answered_type answer.Added common (x ∷ xs) ≡ of_table (added xs) x.1
 added_told common (c, tables cs) xs = refl
 added_told common (c, t) xs = refl
 
-dropped_told : (common : Shape) (x : Term × Shape) (xs : List (Term × Shape)) → answered answer.Dropped common (x ∷ xs) ≡ of_table (dropped xs) x.1
+dropped_told : (common : Shape) (x : Term × Shape) (xs : List (Term × Shape)) → answered_type answer.Dropped common (x ∷ xs) ≡ of_table (dropped xs) x.1
 dropped_told common (c, tables cs) xs = refl
 dropped_told common (c, t) xs = refl
 
-shown_told : (common : Shape) (x : Term × Shape) (xs : List (Term × Shape)) → answered answer.Shown common (x ∷ xs) ≡ of_table (shown xs) x.1
+shown_told : (common : Shape) (x : Term × Shape) (xs : List (Term × Shape)) → answered_type answer.Shown common (x ∷ xs) ≡ of_table (columns_shown xs) x.1
 shown_told common (c, tables cs) xs = refl
 shown_told common (c, t) xs = refl
 
-renamed_told : (common : Shape) (x : Term × Shape) (xs : List (Term × Shape)) → answered answer.Renamed common (x ∷ xs) ≡ of_table (renamed xs) x.1
+renamed_told : (common : Shape) (x : Term × Shape) (xs : List (Term × Shape)) → answered_type answer.Renamed common (x ∷ xs) ≡ of_table (columns_renamed xs) x.1
 renamed_told common (c, tables cs) xs = refl
 renamed_told common (c, t) xs = refl
 
-answered_same : (a : Answer) (common : Shape) (xs ys : List (Term × Shape)) → SameLabels xs ys → answered a common xs ≡ answered a common ys
+answered_same : (a : Answer) (common : Shape) (xs ys : List (Term × Shape)) → SameLabels xs ys → answered_type a common xs ≡ answered_type a common ys
 answered_same (answer.Scalar s) common xs ys h = refl
 answered_same answer.Common common xs ys h = refl
 answered_same answer.Same common (x ∷ xs) (y ∷ ys) h = ap Ok h.1
@@ -106,8 +106,8 @@ answered_same answer.Found common (x ∷ p ∷ []) (y ∷ q ∷ []) h = ap (λ t
 answered_same answer.Found common (x ∷ p ∷ z ∷ xs) (y ∷ q ∷ w ∷ ys) h = ap Ok h.2.2.1
 answered_same answer.Added common (x ∷ xs) (y ∷ ys) h = added_told common x xs ∙ by_table (added xs) (added ys) (added_same xs ys h.2) x.1 y.1 h.1 ∙ sym (added_told common y ys)
 answered_same answer.Dropped common (x ∷ xs) (y ∷ ys) h = dropped_told common x xs ∙ by_table (dropped xs) (dropped ys) (dropped_same xs ys h.2) x.1 y.1 h.1 ∙ sym (dropped_told common y ys)
-answered_same answer.Shown common (x ∷ xs) (y ∷ ys) h = shown_told common x xs ∙ by_table (shown xs) (shown ys) (shown_same xs ys h.2) x.1 y.1 h.1 ∙ sym (shown_told common y ys)
-answered_same answer.Renamed common (x ∷ xs) (y ∷ ys) h = renamed_told common x xs ∙ by_table (renamed xs) (renamed ys) (renamed_same xs ys h.2) x.1 y.1 h.1 ∙ sym (renamed_told common y ys)
+answered_same answer.Shown common (x ∷ xs) (y ∷ ys) h = shown_told common x xs ∙ by_table (columns_shown xs) (columns_shown ys) (shown_same xs ys h.2) x.1 y.1 h.1 ∙ sym (shown_told common y ys)
+answered_same answer.Renamed common (x ∷ xs) (y ∷ ys) h = renamed_told common x xs ∙ by_table (columns_renamed xs) (columns_renamed ys) (renamed_same xs ys h.2) x.1 y.1 h.1 ∙ sym (renamed_told common y ys)
 answered_same answer.Values common (x ∷ []) (y ∷ []) h = refl
 answered_same answer.Values common (x ∷ p ∷ xs) (y ∷ q ∷ ys) h = ap (λ t. Ok (tables (value_column t))) h.2.1
 answered_same answer.Each common (x ∷ []) (y ∷ []) h = refl
@@ -125,13 +125,13 @@ answered_same a common (x ∷ p ∷ z ∷ xs) (y ∷ q ∷ []) h = absurd h.2.2
 more_deep : (xs : List Shape) (t : Shape) → length (xs ++ t ∷ []) ≡ suc (length xs)
 more_deep xs t = let e = length-append xs (t ∷ []) in omega (arith, e)
 
-quiet_deep : (c : Context) (s : Standing) (done : List Shape) → IsQuiet s → length (context_for s c done).rows ≡ length c.rows
+quiet_deep : (c : Context) (s : PartScope) (done : List Shape) → IsQuiet s → length (context_for s c done).rows ≡ length c.rows
 quiet_deep c plain done q = refl
 quiet_deep c catching done q = refl
 quiet_deep c inside done q = absurd q
 quiet_deep c bound done q = absurd q
 
-first_deep : (c : Context) (s : Standing) → length (context_for s c []).rows ≡ length c.rows
+first_deep : (c : Context) (s : PartScope) → length (context_for s c []).rows ≡ length c.rows
 first_deep c plain = refl
 first_deep c catching = refl
 first_deep c inside = refl
@@ -151,7 +151,7 @@ IsFine top.chain = ⊥
 IsFine (top.act d) = ⊥
 IsFine h = Unit {0}
 
-depth_of : (c : Context) (h : Top) → IsFine h → (m i : ℕ) (done : List Shape) → i ≡ length done → length (context_for (standing_at h m i) c done).rows ≡ deeper (opens h m i) (length c.rows)
+depth_of : (c : Context) (h : Top) → IsFine h → (m i : ℕ) (done : List Shape) → i ≡ length done → length (context_for (standing_at h m i) c done).rows ≡ deeper (opens_row_scope h m i) (length c.rows)
 depth_of c (top.over f) g m zero [] e = first_deep c (standing_at (top.over f) m zero)
 depth_of c (top.over f) g m (suc i) (t ∷ done) e = take_deep c (takes_at (row_of f) m (suc i)) t done
 depth_of c (top.over f) g m zero (t ∷ done) e = absurd (omega (arith, e))
@@ -165,7 +165,7 @@ depth_of c top.chain g m i done e = absurd g
 depth_of c (top.act d) g m i done e = absurd g
 depth_of c h g m i done e = refl
 
-reads_there : (ts : List TableShape) (s : Standing) (c : Context) (done : List Shape) → ReadsTables ts c → ReadsTables ts (context_for s c done)
+reads_there : (ts : List TableShape) (s : PartScope) (c : Context) (done : List Shape) → ReadsTables ts c → ReadsTables ts (context_for s c done)
 reads_there ts inside c (t ∷ done) r = r
 reads_there ts bound c (t ∷ done) r = r
 reads_there ts catching c done r = r
@@ -173,7 +173,7 @@ reads_there ts plain c done r = r
 reads_there ts inside c [] r = r
 reads_there ts bound c [] r = r
 
-same_count : (cs : Terms) → count_of cs ≡ parts_count cs
+same_count : (cs : Terms) → terms_count cs ≡ parts_count cs
 same_count nil = refl
 same_count (cons c cs) = ap suc (same_count cs)
 
@@ -188,25 +188,25 @@ second_quiet false b e = e
 module _ (ts : List TableShape) (n : ℕ) where
   -- ---- nothing begins to act
 
-  acts_capped : (b : Bool) (x : Term) → acts (if b then first_rows n x else x) ≡ acts x
+  acts_capped : (b : Bool) (x : Term) → acts (if b then first_rows_of n x else x) ≡ acts x
   acts_capped true x = or-false (acts x)
   acts_capped false x = refl
 
   mutual
     pub acts_limited : (k : ℕ) (w : Bool) (x : Term) → acts (limited ts n k w x) ≡ acts x
     acts_limited k w (of h cs) =
-        acts_capped (is_query ts k (of h cs) && not w) (of h (parts_limited ts n k h (count_of cs) (takes_first_whole ts k (of h cs)) 0 cs))
-        ∙ ap (λ b. is_acting h || b) (all_act_limited k h (count_of cs) (takes_first_whole ts k (of h cs)) 0 cs)
+        acts_capped (is_query ts k (of h cs) && not w) (of h (parts_limited ts n k h (terms_count cs) (takes_first_whole ts k (of h cs)) 0 cs))
+        ∙ ap (λ b. is_acting h || b) (all_act_limited k h (terms_count cs) (takes_first_whole ts k (of h cs)) 0 cs)
 
     all_act_limited : (k : ℕ) (h : Top) (m : ℕ) (w : Bool) (i : ℕ) (cs : Terms) → any_acts (parts_limited ts n k h m w i cs) ≡ any_acts cs
     all_act_limited k h m w i nil = refl
     all_act_limited k h m w i (cons c cs) =
-        ap (λ b. b || any_acts (parts_limited ts n k h m w (suc i) cs)) (acts_limited (deeper (opens h m i) k) (w && is_first i) c)
+        ap (λ b. b || any_acts (parts_limited ts n k h m w (suc i) cs)) (acts_limited (deeper (opens_row_scope h m i) k) (w && is_first i) c)
         ∙ ap (λ b. acts c || b) (all_act_limited k h m w (suc i) cs)
 
   -- ---- labels stay
 
-  no_label : (b : Bool) (x : Term) → label_of x ≡ None → label_of (if b then first_rows n x else x) ≡ None
+  no_label : (b : Bool) (x : Term) → label_of x ≡ None → label_of (if b then first_rows_of n x else x) ≡ None
   no_label true x e = refl
   no_label false x e = e
 
@@ -217,24 +217,24 @@ module _ (ts : List TableShape) (n : ℕ) where
   label_limited : (k : ℕ) (w : Bool) (x : Term) → label_of (limited ts n k w x) ≡ label_of x
   label_limited k w (of (top.const (text cs)) nil) = refl
   label_limited k w (of (top.over f) cs) =
-      no_label (is_query ts k (of (top.over f) cs) && not w) (of (top.over f) (parts_limited ts n k (top.over f) (count_of cs) (takes_first_whole ts k (of (top.over f) cs)) 0 cs)) refl
+      no_label (is_query ts k (of (top.over f) cs) && not w) (of (top.over f) (parts_limited ts n k (top.over f) (terms_count cs) (takes_first_whole ts k (of (top.over f) cs)) 0 cs)) refl
   label_limited k w (of (top.read s) cs) =
-      no_label (is_query ts k (of (top.read s) cs) && not w) (of (top.read s) (parts_limited ts n k (top.read s) (count_of cs) (takes_first_whole ts k (of (top.read s) cs)) 0 cs)) refl
+      no_label (is_query ts k (of (top.read s) cs) && not w) (of (top.read s) (parts_limited ts n k (top.read s) (terms_count cs) (takes_first_whole ts k (of (top.read s) cs)) 0 cs)) refl
   label_limited k w (of (top.const d) (cons c cs)) =
-      no_name d (limited ts n k (false && is_first 0) c) (parts_limited ts n k (top.const d) (count_of (cons c cs)) false 1 cs) ∙ sym (no_name d c cs)
+      no_name d (limited ts n k (false && is_first 0) c) (parts_limited ts n k (top.const d) (terms_count (cons c cs)) false 1 cs) ∙ sym (no_name d c cs)
   label_limited k w (of h nil) = refl
   label_limited k w (of h (cons c cs)) = refl
 
-  labels_limited : (k : ℕ) (h : Top) (m : ℕ) (w : Bool) (i : ℕ) (cs : Terms) (us : List Shape) → SameLabels (paired cs us) (paired (parts_limited ts n k h m w i cs) us)
+  labels_limited : (k : ℕ) (h : Top) (m : ℕ) (w : Bool) (i : ℕ) (cs : Terms) (us : List Shape) → SameLabels (typed_pairs cs us) (typed_pairs (parts_limited ts n k h m w i cs) us)
   labels_limited k h m w i nil us = tt
   labels_limited k h m w i (cons c cs) [] = tt
   labels_limited k h m w i (cons c cs) (u ∷ us) =
-      (sym (label_limited (deeper (opens h m i) k) (w && is_first i) c), refl, labels_limited k h m w (suc i) cs us)
+      (sym (label_limited (deeper (opens_row_scope h m i) k) (w && is_first i) c), refl, labels_limited k h m w (suc i) cs us)
 
-  by_row : (r : Row) (cs ds : Terms) (us : List Shape) (t : Shape) → SameLabels (paired cs us) (paired ds us) → IsByRow r cs us t → IsByRow r ds us t
-  by_row r cs ds us t s h = (h.0, h.1, h.2, sym (answered_same r.answer h.1 (paired cs us) (paired ds us) s) ∙ h.3)
+  by_row : (r : Row) (cs ds : Terms) (us : List Shape) (t : Shape) → SameLabels (typed_pairs cs us) (typed_pairs ds us) → IsByRow r cs us t → IsByRow r ds us t
+  by_row r cs ds us t s h = (h.0, h.1, h.2, sym (answered_same r.answer h.1 (typed_pairs cs us) (typed_pairs ds us) s) ∙ h.3)
 
-  ruled : (c : Context) (h : Top) → IsFine h → (cs ds : Terms) (us : List Shape) (t : Shape) → SameLabels (paired cs us) (paired ds us) → IsRuled c h cs us t → IsRuled c h ds us t
+  ruled : (c : Context) (h : Top) → IsFine h → (cs ds : Terms) (us : List Shape) (t : Shape) → SameLabels (typed_pairs cs us) (typed_pairs ds us) → IsRuled c h cs us t → IsRuled c h ds us t
   ruled c (top.const v) g cs ds us t s r = r
   ruled c (top.read x) g cs ds us t s r = r
   ruled c (top.row k) g cs ds us t s r = r
@@ -264,17 +264,17 @@ module _ (ts : List TableShape) (n : ℕ) where
 
   -- ---- first rows
 
-  rows_typed : (c : Context) (x : Term) (ks : ColumnList) → HasType c x (tables ks) → IsLawfulType (tables ks) → HasType c (first_rows n x) (tables ks)
+  rows_typed : (c : Context) (x : Term) (ks : ColumnList) → HasType c x (tables ks) → IsLawfulType (tables ks) → HasType c (first_rows_of n x) (tables ks)
   rows_typed c x ks h l = (
     (tables ks ∷ numbers ∷ [], (tables ks, numbers ∷ [], refl, h.0, (numbers, [], refl, ([], refl, (refl, inl tt)), refl)), (refl, (refl, blanks, ((ks, refl), (refl, tt)), refl))),
     (l, (h.1, ((tt, tt), tt))),
   )
 
-  capped_typed : (c : Context) (b : Bool) (x : Term) (u : Shape) → HasType c x u → IsLawfulType u → (b ≡ true → (ks : ColumnList) × (u ≡ tables ks)) → HasType c (if b then first_rows n x else x) u
+  capped_typed : (c : Context) (b : Bool) (x : Term) (u : Shape) → HasType c x u → IsLawfulType u → (b ≡ true → (ks : ColumnList) × (u ≡ tables ks)) → HasType c (if b then first_rows_of n x else x) u
   capped_typed c false x u h l f = h
   capped_typed c true x u h l f =
       let is = f refl in
-      subst (HasType c (first_rows n x)) (sym is.1) (rows_typed c x is.0 (subst (HasType c x) is.1 h) (subst IsLawfulType is.1 l))
+      subst (HasType c (first_rows_of n x)) (sym is.1) (rows_typed c x is.0 (subst (HasType c x) is.1 h) (subst IsLawfulType is.1 l))
 
   some_query : (o : Option Sketch) → is_some o ≡ true → (s : Sketch) × (o ≡ Some s)
   some_query None e = absurd cc
@@ -297,13 +297,13 @@ module _ (ts : List TableShape) (n : ℕ) where
         let g = fine c h cs us u (first_quiet (is_acting h) (any_acts cs) q) t.0.2 in
         let parts : HaveParts c h (parts_count cs) [] (parts_limited ts n k h (parts_count cs) first 0 cs) us =
         parts_typed c h g (parts_count cs) first 0 cs [] us r refl (t.0.1, t.1.1) (second_quiet (is_acting h) (any_acts cs) q) in
-        let counted : HaveParts c h (parts_count cs) [] (parts_limited ts n k h (count_of cs) first 0 cs) us =
+        let counted : HaveParts c h (parts_count cs) [] (parts_limited ts n k h (terms_count cs) first 0 cs) us =
         subst (λ (m : ℕ). HaveParts c h (parts_count cs) [] (parts_limited ts n k h m first 0 cs) us) (sym (same_count cs)) parts in
-        let rules = ruled c h g cs (parts_limited ts n k h (count_of cs) first 0 cs) us u (labels_limited k h (count_of cs) first 0 cs us) t.0.2 in
-        let many : parts_count cs ≡ parts_count (parts_limited ts n k h (count_of cs) first 0 cs) = sym (so_many k h (count_of cs) first 0 cs) in
-        let placed : HaveParts c h (parts_count (parts_limited ts n k h (count_of cs) first 0 cs)) [] (parts_limited ts n k h (count_of cs) first 0 cs) us =
-        subst (λ (m : ℕ). HaveParts c h m [] (parts_limited ts n k h (count_of cs) first 0 cs) us) many counted in
-        capped_typed c (is_query ts k (of h cs) && not w) (of h (parts_limited ts n k h (count_of cs) first 0 cs)) u ((us, placed.0, rules), (t.1.0, placed.1)) t.1.0
+        let rules = ruled c h g cs (parts_limited ts n k h (terms_count cs) first 0 cs) us u (labels_limited k h (terms_count cs) first 0 cs us) t.0.2 in
+        let many : parts_count cs ≡ parts_count (parts_limited ts n k h (terms_count cs) first 0 cs) = sym (so_many k h (terms_count cs) first 0 cs) in
+        let placed : HaveParts c h (parts_count (parts_limited ts n k h (terms_count cs) first 0 cs)) [] (parts_limited ts n k h (terms_count cs) first 0 cs) us =
+        subst (λ (m : ℕ). HaveParts c h m [] (parts_limited ts n k h (terms_count cs) first 0 cs) us) many counted in
+        capped_typed c (is_query ts k (of h cs) && not w) (of h (parts_limited ts n k h (terms_count cs) first 0 cs)) u ((us, placed.0, rules), (t.1.0, placed.1)) t.1.0
         (λ e.
         let s = some_query (sketch_of ts k (of h cs)) (first_so (is_query ts k (of h cs)) (not w) e) in
         let f = query_found c ts (of h cs) u s.0 r t s.1 in
@@ -315,11 +315,11 @@ module _ (ts : List TableShape) (n : ℕ) where
     parts_typed c h g m w i (cons x xs) done us r e t q =
         let there = context_for (standing_at h m (length done)) c done in
         let one : HasType there x t.0.0 = (t.0.3, t.1.0) in
-        let depth : length there.rows ≡ deeper (opens h m i) (length c.rows) =
-        subst (λ (j : ℕ). length (context_for (standing_at h m j) c done).rows ≡ deeper (opens h m i) (length c.rows)) e (depth_of c h g m i done e) in
+        let depth : length there.rows ≡ deeper (opens_row_scope h m i) (length c.rows) =
+        subst (λ (j : ℕ). length (context_for (standing_at h m j) c done).rows ≡ deeper (opens_row_scope h m i) (length c.rows)) e (depth_of c h g m i done e) in
         let typed : HasType there (limited ts n (length there.rows) (w && is_first i) x) t.0.0 =
         typed_limited there (w && is_first i) x t.0.0 (reads_there ts (standing_at h m (length done)) c done r) one (first_quiet (acts x) (any_acts xs) q) in
-        let moved : HasType there (limited ts n (deeper (opens h m i) (length c.rows)) (w && is_first i) x) t.0.0 =
+        let moved : HasType there (limited ts n (deeper (opens_row_scope h m i) (length c.rows)) (w && is_first i) x) t.0.0 =
         subst (λ (j : ℕ). HasType there (limited ts n j (w && is_first i) x) t.0.0) depth typed in
         let next : suc i ≡ length (done ++ t.0.0 ∷ []) = ap suc e ∙ sym (more_deep done t.0.0) in
         let rest = parts_typed c h g m w (suc i) xs (done ++ t.0.0 ∷ []) t.0.1 r next (t.0.4, t.1.1) (second_quiet (acts x) (any_acts xs) q) in

@@ -6,7 +6,7 @@ use Rattle.fx_types.specs.Types.{Shape, booleans, tables}
 use Rattle.fx_types.specs.Values.{Data}
 use Rattle.fx_plan.specs.declared.plans.Sketch.{Sketch}
 use Rattle.fx_plan.specs.Outlines.{Outline, always, all_of, outline_list}
-use Rattle.fx_plan.specs.QueryExpressions.{behind, filtered, is_falling, patterns_of, plain_column, sketch_of, sorted, sorted_by}
+use Rattle.fx_plan.specs.QueryExpressions.{patterns_behind, filter_sketch, is_falling, patterns_of, plain_column, sketch_of, sorted, sorted_by}
 use Rattle.fx_semantics.specs.Sound.{AreLawfulTypings, IsLawfulType}
 use Rattle.fx_core.specs.declared.functions.Form.TheVariants as form
 use Rattle.fx_core.specs.declared.functions.Fun.{Fun}
@@ -25,7 +25,7 @@ use Rattle.fx_core.specs.Rows.{form_row, row_of, shape_of, takes_at, takes_count
 use Rattle.fx_core.specs.SourceTypes.{columns_of}
 use Rattle.fx_core.specs.Term.{Term, Terms, of, nil, cons, Top}
 use Rattle.fx_core.specs.Term as top
-use Rattle.fx_typing.specs.WellTyped.{AllStand, AreTyped, Context, IsByRow, Standing, Stands, answered, context_for, first_type, inside, paired, parts_count, plain, row_type, standing_at, standing_of}
+use Rattle.fx_typing.specs.WellTyped.{AllStand, AreTyped, Context, IsByRow, PartScope, Stands, answered_type, context_for, first_type, inside, typed_pairs, parts_count, plain, row_type, standing_at, standing_of}
 use Rattle.fx_plan.proofs.Placing.{condition_behind, query_found, some_map, some_then}
 use Rattle.fx_plan.proofs.Placing.{in_front as put_in_front}
 use Rattle.fx_plan.specs.Constants.{HasType, ReadsTables, in_row}
@@ -59,7 +59,7 @@ parts_of c h r s p q n m i first common (cons x xs) done us w l a =
     let at : AllStand r m i first common (w.0 ∷ w.1) = subst (AllStand r m i first common) w.2 a in
     let own : w.0 ≡ shape_of s = subst (λ (k : Takes). Stands k first common w.0) (q m i) at.0 in
     let typed : HasType (context_for (standing_at h n (length done)) c done) x w.0 = (w.3, l.0) in (
-      subst (HasType c x) own (subst (λ (z : Standing). HasType (context_for z c done) x w.0) (p n (length done)) typed),
+      subst (HasType c x) own (subst (λ (z : PartScope). HasType (context_for z c done) x w.0) (p n (length done)) typed),
       parts_of c h r s p q n m (suc i) first common xs (done ++ w.0 ∷ []) w.1 w.4 l.1 at.1,
     )
 
@@ -69,7 +69,7 @@ HaveParts c h n done cs us = (w : AreTyped c h n done cs us) × AreLawfulTypings
 parts_back : (c : Context) (h : Top) (u : Shape) → ((n i : ℕ) → standing_at h n i ≡ plain) → (n : ℕ) (cs : Terms) (done : List Shape) → AllOf c u cs → HaveParts c h n done cs (copies u cs)
 parts_back c h u p n nil done a = (refl, tt)
 parts_back c h u p n (cons x xs) done a =
-    let there : HasType (context_for (standing_at h n (length done)) c done) x u = subst (λ (z : Standing). HasType (context_for z c done) x u) (sym (p n (length done))) a.0 in
+    let there : HasType (context_for (standing_at h n (length done)) c done) x u = subst (λ (z : PartScope). HasType (context_for z c done) x u) (sym (p n (length done))) a.0 in
     let rest = parts_back c h u p n xs (done ++ u ∷ []) a.1 in
     ((u, copies u xs, refl, there.0, rest.0), (there.1, rest.1))
 
@@ -83,11 +83,11 @@ by_row_back : (r : Row) (s b : Scalar) → ((n i : ℕ) → takes_at r n i ≡ t
 by_row_back r s b q e cs xs us t many same h =
     let vs = copies (shape_of s) xs in
     let count : length us ≡ length vs = many ∙ sym same ∙ sym (copies_many (shape_of s) xs) in
-    let told : answered (answer.Scalar b) h.1 (paired cs us) ≡ Ok t = subst (λ (a : Answer). answered a h.1 (paired cs us) ≡ Ok t) e h.3 in (
+    let told : answered_type (answer.Scalar b) h.1 (typed_pairs cs us) ≡ Ok t = subst (λ (a : Answer). answered_type a h.1 (typed_pairs cs us) ≡ Ok t) e h.3 in (
       subst (λ (n : ℕ). takes_count r n ≡ true) count h.0,
       h.1,
       copies_stand r s q (length vs) 0 (first_type vs) h.1 xs,
-      subst (λ (a : Answer). answered a h.1 (paired xs vs) ≡ Ok t) (sym e) told,
+      subst (λ (a : Answer). answered_type a h.1 (typed_pairs xs vs) ≡ Ok t) (sym e) told,
     )
 
 form_back : (c : Context) (f : Top) (r : Row) (s b : Scalar) → ((n i : ℕ) → standing_at f n i ≡ plain) → ((n i : ℕ) → takes_at r n i ≡ takes.Scalar s) → r.answer ≡ answer.Scalar b →
@@ -144,7 +144,7 @@ module _ (t : TableShape) (c : Context) (vs : List Data) where
 
 -- ---- the table of a call
 
-first_answered : (a : Answer) (common u : Shape) (q p : Term) (xs : List (Term × Shape)) → answered a common ((q, u) ∷ xs) ≡ answered a common ((p, u) ∷ xs)
+first_answered : (a : Answer) (common u : Shape) (q p : Term) (xs : List (Term × Shape)) → answered_type a common ((q, u) ∷ xs) ≡ answered_type a common ((p, u) ∷ xs)
 first_answered (answer.Scalar s) common u q p xs = refl
 first_answered answer.Same common u q p xs = refl
 first_answered answer.Row common u q p xs = refl
@@ -172,16 +172,16 @@ table_replaced c f q p cs u s g h =
     let n = suc (parts_count cs) in
     let w = h.0.1 in
     let rule = h.0.2.1 in
-    let here : HasType c q w.0 = subst (λ (z : Standing). HasType (context_for z c []) q w.0) (s n) (w.3, h.1.1.0) in
-    let there : HasType (context_for (standing_at (top.over f) n 0) c []) p w.0 = subst (λ (z : Standing). HasType (context_for z c []) p w.0) (sym (s n)) (g w.0 here) in
-    let told : answered (row_of f).answer rule.1 (paired (cons q cs) (w.0 ∷ w.1)) ≡ Ok u = subst (λ (us : List Shape). answered (row_of f).answer rule.1 (paired (cons q cs) us) ≡ Ok u) w.2 rule.3 in
-    let answer : answered (row_of f).answer rule.1 (paired (cons p cs) h.0.0) ≡ Ok u =
-    subst (λ (us : List Shape). answered (row_of f).answer rule.1 (paired (cons p cs) us) ≡ Ok u) (sym w.2)
-    (sym (first_answered (row_of f).answer rule.1 w.0 q p (paired cs w.1)) ∙ told) in
+    let here : HasType c q w.0 = subst (λ (z : PartScope). HasType (context_for z c []) q w.0) (s n) (w.3, h.1.1.0) in
+    let there : HasType (context_for (standing_at (top.over f) n 0) c []) p w.0 = subst (λ (z : PartScope). HasType (context_for z c []) p w.0) (sym (s n)) (g w.0 here) in
+    let told : answered_type (row_of f).answer rule.1 (typed_pairs (cons q cs) (w.0 ∷ w.1)) ≡ Ok u = subst (λ (us : List Shape). answered_type (row_of f).answer rule.1 (typed_pairs (cons q cs) us) ≡ Ok u) w.2 rule.3 in
+    let answer : answered_type (row_of f).answer rule.1 (typed_pairs (cons p cs) h.0.0) ≡ Ok u =
+    subst (λ (us : List Shape). answered_type (row_of f).answer rule.1 (typed_pairs (cons p cs) us) ≡ Ok u) (sym w.2)
+    (sym (first_answered (row_of f).answer rule.1 w.0 q p (typed_pairs cs w.1)) ∙ told) in
     ((h.0.0, (w.0, w.1, w.2, there.0, w.4), (h.0.2.0, (rule.0, rule.1, rule.2, answer))), (h.1.0, (there.1, h.1.1.1)))
 
 -- so in the places of the table and the condition of `LookUp`
-found_answered : (common w b u : Shape) (q p x y : Term) (xs : List (Term × Shape)) → answered answer.Found common ((q, w) ∷ (x, b) ∷ xs) ≡ Ok u → answered answer.Found common ((p, w) ∷ (y, b) ∷ xs) ≡ Ok u
+found_answered : (common w b u : Shape) (q p x y : Term) (xs : List (Term × Shape)) → answered_type answer.Found common ((q, w) ∷ (x, b) ∷ xs) ≡ Ok u → answered_type answer.Found common ((p, w) ∷ (y, b) ∷ xs) ≡ Ok u
 found_answered common w b u q p x y [] e = e
 found_answered common w b u q p x y (z ∷ xs) e = e
 
@@ -196,11 +196,11 @@ search_replaced c q p x y cs u f g h =
     let first : HasType c p w.0 = f w.0 table in
     let second : HasType (record c { rows = c.rows ++ row_type w.0 ∷ [] }) y v.0 = g w.0 table v.0 (v.3, h.1.1.1.0) in
     let all : h.0.0 ≡ w.0 ∷ v.0 ∷ v.1 = w.2 ∙ ap (λ (us : List Shape). w.0 ∷ us) v.2 in
-    let told : answered answer.Found rule.1 (paired (cons q (cons x cs)) (w.0 ∷ v.0 ∷ v.1)) ≡ Ok u =
-    subst (λ (us : List Shape). answered answer.Found rule.1 (paired (cons q (cons x cs)) us) ≡ Ok u) all rule.3 in
-    let answer : answered answer.Found rule.1 (paired (cons p (cons y cs)) h.0.0) ≡ Ok u =
-    subst (λ (us : List Shape). answered answer.Found rule.1 (paired (cons p (cons y cs)) us) ≡ Ok u) (sym all)
-    (found_answered rule.1 w.0 v.0 u q p x y (paired cs v.1) told) in (
+    let told : answered_type answer.Found rule.1 (typed_pairs (cons q (cons x cs)) (w.0 ∷ v.0 ∷ v.1)) ≡ Ok u =
+    subst (λ (us : List Shape). answered_type answer.Found rule.1 (typed_pairs (cons q (cons x cs)) us) ≡ Ok u) all rule.3 in
+    let answer : answered_type answer.Found rule.1 (typed_pairs (cons p (cons y cs)) h.0.0) ≡ Ok u =
+    subst (λ (us : List Shape). answered_type answer.Found rule.1 (typed_pairs (cons p (cons y cs)) us) ≡ Ok u) (sym all)
+    (found_answered rule.1 w.0 v.0 u q p x y (typed_pairs cs v.1) told) in (
       (h.0.0, (w.0, w.1, w.2, first.0, (v.0, v.1, v.2, second.0, v.4)), (h.0.2.0, (rule.0, rule.1, rule.2, answer))),
       (h.1.0, (first.1, (second.1, h.1.1.1.1))),
     )
@@ -220,7 +220,7 @@ filter_parts c q cs u h =
     let n = suc (parts_count cs) in
     let w = h.0.1 in
     let rule = h.0.2.1 in
-    let told : answered answer.Same rule.1 (paired (cons q cs) (w.0 ∷ w.1)) ≡ as_answer u = subst (λ (us : List Shape). answered answer.Same rule.1 (paired (cons q cs) us) ≡ as_answer u) w.2 rule.3 in
+    let told : answered_type answer.Same rule.1 (typed_pairs (cons q cs) (w.0 ∷ w.1)) ≡ as_answer u = subst (λ (us : List Shape). answered_type answer.Same rule.1 (typed_pairs (cons q cs) us) ≡ as_answer u) w.2 rule.3 in
     let own : w.0 ≡ u = same_answer w.0 u told in
     let here : HasType c q w.0 = (w.3, h.1.1.0) in
     let stand : AllStand (row_of fun.Filter) (length (w.0 ∷ w.1)) 0 w.0 rule.1 (w.0 ∷ w.1) = subst (λ (us : List Shape). AllStand (row_of fun.Filter) (length us) 0 (first_type us) rule.1 us) w.2 rule.2 in
@@ -245,7 +245,7 @@ conditions_of c t n m i u common (cons x xs) done us e w l a =
     let own : w.0 ≡ booleans = subst (λ (k : Takes). Stands k u common w.0) (condition_behind m i) at.0 in
     let typed : HasType (context_for (standing_at (top.over fun.Filter) n (suc (length done))) c (u ∷ done)) x w.0 = (w.3, l.0) in
     let stands : standing_at (top.over fun.Filter) n (suc (length done)) ≡ inside = ap standing_of (condition_behind n (length done)) in
-    let there : HasType (record c { rows = c.rows ++ row_type u ∷ [] }) x w.0 = subst (λ (z : Standing). HasType (context_for z c (u ∷ done)) x w.0) stands typed in (
+    let there : HasType (record c { rows = c.rows ++ row_type u ∷ [] }) x w.0 = subst (λ (z : PartScope). HasType (context_for z c (u ∷ done)) x w.0) stands typed in (
       subst (HasType (in_row c t) x) own (subst (λ (z : Shape). HasType (record c { rows = c.rows ++ row_type z ∷ [] }) x w.0) e there),
       conditions_of c t n m (suc i) u common xs (done ++ w.0 ∷ []) w.1 e w.4 l.1 at.1,
     )
@@ -257,7 +257,7 @@ conditions_back c t n u (cons x xs) done e a =
     let stands : standing_at (top.over fun.Filter) n (suc (length done)) ≡ inside = ap standing_of (condition_behind n (length done)) in
     let here : HasType (record c { rows = c.rows ++ row_type u ∷ [] }) x booleans = subst (λ (z : Shape). HasType (record c { rows = c.rows ++ row_type z ∷ [] }) x booleans) (sym e) a.0 in
     let there : HasType (context_for (standing_at (top.over fun.Filter) n (suc (length done))) c (u ∷ done)) x booleans =
-    subst (λ (z : Standing). HasType (context_for z c (u ∷ done)) x booleans) (sym stands) here in
+    subst (λ (z : PartScope). HasType (context_for z c (u ∷ done)) x booleans) (sym stands) here in
     let rest = conditions_back c t n u xs (done ++ booleans ∷ []) e a.1 in
     ((booleans, copies booleans xs, refl, there.0, rest.0), (there.1, rest.1))
 
@@ -302,11 +302,11 @@ module _ (c : Context) (ts : List TableShape) (vs : List Data) (reads : ReadsTab
     fit : AreFitting c table constants vs
     kept : AllKept k vs (Kept table c vs) constants cs ((conditions_settled k vs cs ((query_settled k vs q).1)).0)
 
-  filter_behind : (q : Term) (cs : Terms) (s z : Sketch) → Retypes q s → sketch_of ts k q ≡ Some s → filtered ts k cs s ≡ Some z → Fit z → (u : Shape) → HasType c q u → Behind q cs s u
+  filter_behind : (q : Term) (cs : Terms) (s z : Sketch) → Retypes q s → sketch_of ts k q ≡ Some s → filter_sketch ts k cs s ≡ Some z → Fit z → (u : Shape) → HasType c q u → Behind q cs s u
   filter_behind q cs s z table sketched e fit u h =
       let With : List Outline × List Term → Sketch = λ p. record s { test = all_of (outline_list p.0); constants = p.1 } in
-      let m = some_then (λ (t : TableShape). option_map With (behind (s.test ∷ []) (patterns_of t k cs s.constants))) (slice_get ts s.table) z e in
-      let p = some_map With (behind (s.test ∷ []) (patterns_of m.0 k cs s.constants)) z m.2 in
+      let m = some_then (λ (t : TableShape). option_map With (patterns_behind (s.test ∷ []) (patterns_of t k cs s.constants))) (slice_get ts s.table) z e in
+      let p = some_map With (patterns_behind (s.test ∷ []) (patterns_of m.0 k cs s.constants)) z m.2 in
       let b = some_map (put_in_front s.test) (patterns_of m.0 k cs s.constants) p.0 p.1 in
       let same : b.0.1 ≡ z.constants = ap (λ (x : List Outline × List Term). x.1) b.2 ∙ ap (λ (x : Sketch). x.constants) p.2 in
       let at : s.table ≡ z.table = ap (λ (x : Sketch). x.table) p.2 in
@@ -326,17 +326,17 @@ module _ (c : Context) (ts : List TableShape) (vs : List Data) (reads : ReadsTab
         kept = subst (λ (i : ℕ). AllKept k vs (Kept t c vs) b.0.1 cs ((conditions_settled k vs cs i).0)) (sym table.next) (settled.kept b.0.1 (λ i x g. g));
       }
 
-  filter_next : (q : Term) (cs : Terms) (s z : Sketch) → Retypes q s → filtered ts k cs s ≡ Some z → (query_settled k vs (of (top.over fun.Filter) (cons q cs))).1 ≡ length z.constants
+  filter_next : (q : Term) (cs : Terms) (s z : Sketch) → Retypes q s → filter_sketch ts k cs s ≡ Some z → (query_settled k vs (of (top.over fun.Filter) (cons q cs))).1 ≡ length z.constants
   filter_next q cs s z table e =
       let With : List Outline × List Term → Sketch = λ p. record s { test = all_of (outline_list p.0); constants = p.1 } in
-      let m = some_then (λ (t : TableShape). option_map With (behind (s.test ∷ []) (patterns_of t k cs s.constants))) (slice_get ts s.table) z e in
-      let p = some_map With (behind (s.test ∷ []) (patterns_of m.0 k cs s.constants)) z m.2 in
+      let m = some_then (λ (t : TableShape). option_map With (patterns_behind (s.test ∷ []) (patterns_of t k cs s.constants))) (slice_get ts s.table) z e in
+      let p = some_map With (patterns_behind (s.test ∷ []) (patterns_of m.0 k cs s.constants)) z m.2 in
       let b = some_map (put_in_front s.test) (patterns_of m.0 k cs s.constants) p.0 p.1 in
       let same : b.0.1 ≡ z.constants = ap (λ (x : List Outline × List Term). x.1) b.2 ∙ ap (λ (x : Sketch). x.constants) p.2 in
       let settled = patterns_settle k vs (Kept m.0 c vs) (keeps m.0 c vs) m.0 cs s.constants b.0.0 b.0.1 b.1 in
       ap (λ (i : ℕ). (conditions_settled k vs cs i).1) table.next ∙ settled.next ∙ ap length same
 
-  filter_retypes : (q : Term) (cs : Terms) (s z : Sketch) → Retypes q s → sketch_of ts k q ≡ Some s → filtered ts k cs s ≡ Some z → Retypes (of (top.over fun.Filter) (cons q cs)) z
+  filter_retypes : (q : Term) (cs : Terms) (s z : Sketch) → Retypes q s → sketch_of ts k q ≡ Some s → filter_sketch ts k cs s ≡ Some z → Retypes (of (top.over fun.Filter) (cons q cs)) z
   filter_retypes q cs s z table sketched e = record {
     next = filter_next q cs s z table e;
     typed = λ fit u h.
@@ -374,7 +374,7 @@ module _ (c : Context) (ts : List TableShape) (vs : List Data) (reads : ReadsTab
       let m = some_map (λ (u : TableShape). record { table = t; test = always; order = None; constants = [] }) (slice_get ts t) s e in
       subst (Retypes (of (top.read (source.Table t)) nil)) m.2 (record { next = refl; typed = λ fit u h. h })
   query_retypes (of (top.over fun.Filter) (cons q cs)) s e =
-      let m = some_then (filtered ts k cs) (sketch_of ts k q) s e in
+      let m = some_then (filter_sketch ts k cs) (sketch_of ts k q) s e in
       filter_retypes q cs m.0 s (query_retypes q m.0 m.1) m.1 m.2
   query_retypes (of (top.over (fun.Sort o)) (cons q cs)) s e =
       let m = some_then (sorted ts k o cs) (sketch_of ts k q) s e in
@@ -384,7 +384,7 @@ module _ (c : Context) (ts : List TableShape) (vs : List Data) (reads : ReadsTab
   search_retypes : (q x : Term) (cs : Terms) (z : Sketch) (u : Shape) → sketch_of ts k (of (top.over fun.Filter) (cons q (cons x nil))) ≡ Some z → Fit z →
       HasType c (of (top.over fun.LookUp) (cons q (cons x cs))) u → HasType c (search_settled k vs (of (top.over fun.LookUp) (cons q (cons x cs)))) u
   search_retypes q x cs z u e fit h =
-      let m = some_then (filtered ts k (cons x nil)) (sketch_of ts k q) z e in
+      let m = some_then (filter_sketch ts k (cons x nil)) (sketch_of ts k q) z e in
       let table = query_retypes q m.0 m.1 in
       search_replaced c q ((query_settled k vs q).0) x ((condition_settled k vs x ((query_settled k vs q).1)).0) cs u
       (λ w t. table.typed (filter_behind q (cons x nil) m.0 z table m.1 m.2 fit w t).inner w t)

@@ -3,7 +3,7 @@ use Rattle.std.proofs.Common.{◌≡◌, ℕ, zero, suc, ◌+◌, ◌<◌, ◌�
 use Rattle.std.specs.Prelude.{if◌then◌else◌}
 use Rattle.std.proofs.lemmas.List.{drop_all}
 use Rattle.fx_types.specs.Values.{Data}
-use Rattle.fx_plan.specs.Outlines.{value_at}
+use Rattle.fx_plan.specs.Outlines.{constant_at}
 use Rattle.fx_plan.specs.QueryExpressions.{is_constant}
 use Rattle.fx_core.specs.declared.functions.Fun.{Fun}
 use Rattle.fx_core.specs.Term.{Term, Terms, of, nil, cons, all}
@@ -48,11 +48,11 @@ all_settled k ds xs cs i n r l h =
     sym (before_none xs n) ∙ ap (λ (zs : List Term). before xs (conditions_settled k ds (all zs) n)) (sym (drop_all i cs l)) ∙ h
 
 -- a constant gives way to its value
-pub constant_settled : (k : ℕ) (ds : List Data) (x y : Term) (n m : ℕ) → is_constant k x ≡ true → y ≡ as_value (value_at ds n) → m ≡ suc n → (y, m) ≡ condition_settled k ds x n
+pub constant_settled : (k : ℕ) (ds : List Data) (x y : Term) (n m : ℕ) → is_constant k x ≡ true → y ≡ as_value (constant_at ds n) → m ≡ suc n → (y, m) ≡ condition_settled k ds x n
 constant_settled k ds (of h cs) y n m e f g =
-    ap (λ (z : Term). (z, m)) f ∙ ap (λ (i : ℕ). (as_value (value_at ds n), i)) g ∙ sym (by (is_constant k (of h cs)) e)
+    ap (λ (z : Term). (z, m)) f ∙ ap (λ (i : ℕ). (as_value (constant_at ds n), i)) g ∙ sym (by (is_constant k (of h cs)) e)
   where
-    by : (b : Bool) → b ≡ true → (if b then (as_value (value_at ds n), suc n) else by_head h cs n (conditions_settled k ds cs n)) ≡ (as_value (value_at ds n), suc n)
+    by : (b : Bool) → b ≡ true → (if b then (as_value (constant_at ds n), suc n) else by_head h cs n (conditions_settled k ds cs n)) ≡ (as_value (constant_at ds n), suc n)
     by true q = refl
     by false q = absurd cc
 

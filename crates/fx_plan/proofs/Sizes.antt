@@ -3,7 +3,7 @@ use Rattle.std.proofs.Common.{◌≡◌, ℕ, suc, ◌≤◌, List, Bool, true, 
 use Rattle.std.specs.Prelude.{◌||◌, if◌then◌else◌}
 use Rattle.std.proofs.lemmas.Bool.{or_from}
 use Rattle.fx_types.specs.Values.{Data}
-use Rattle.fx_plan.specs.Outlines.{value_at}
+use Rattle.fx_plan.specs.Outlines.{constant_at}
 use Rattle.fx_plan.specs.QueryExpressions.{is_constant}
 use Rattle.fx_core.specs.declared.functions.Form.TheVariants as form
 use Rattle.fx_core.specs.Term.{Term, Terms, of, nil, cons, Top, term_size, terms_size}
@@ -53,8 +53,8 @@ mutual
   condition_small k ds (of h cs) n = by (is_constant k (of h cs)) (conditions_small k ds cs n)
     where
       by : (b : Bool) → AreNoMore cs ((conditions_settled k ds cs n).0) →
-          IsNoMore (of h cs) ((if b then (as_value (value_at ds n), suc n) else by_head h cs n (conditions_settled k ds cs n)).0)
-      by true l = as_value_small h cs (value_at ds n)
+          IsNoMore (of h cs) ((if b then (as_value (constant_at ds n), suc n) else by_head h cs n (conditions_settled k ds cs n)).0)
+      by true l = as_value_small h cs (constant_at ds n)
       by false l = by_head_small h cs n (conditions_settled k ds cs n) l
 
   conditions_small : (k : ℕ) (ds : List Data) (xs : Terms) (n : ℕ) → AreNoMore xs ((conditions_settled k ds xs n).0)

@@ -3,7 +3,7 @@ use Rattle.std.proofs.Common.{◌≡◌, ℕ, zero, suc, List, [], ◌∷◌, Bo
 use Rattle.std.specs.Prelude.{◌||◌}
 use Rattle.std.specs.List.{AllByRecursion, list_any}
 use Rattle.fx_types.specs.Values.{Data, blank, number, text, boolean, date, rec, tab, fault}
-use Rattle.fx_plan.specs.Outlines.{Outline, OutlineList, all_filled, filled, value_at, always, flag, constant, compares, is_blank, starts, contains, all_of, any_of, opposite, no_outlines, with}
+use Rattle.fx_plan.specs.Outlines.{Outline, OutlineList, all_filled, filled, constant_at, always, flag, constant, compares, is_blank, starts, contains, all_of, any_of, opposite, no_outlines, with}
 use Rattle.fx_plan.specs.Plans.{is_fault}
 use Rattle.fx_tables.specs.RowCalls.{holds}
 use Rattle.fx_tables.specs.Unions.{is_fault as is_error}
@@ -11,8 +11,8 @@ use Rattle.fx_core.specs.declared.schema.TableShape.{TableShape}
 use Rattle.fx_value.specs.Order.{IsScalar}
 use Rattle.fx_plan.proofs.Testing.{value_scalar}
 use Rattle.row_queries.specs.declared.rows.Row.{Row}
-use Rattle.row_queries.specs.Queries.{first_fault}
-use Rattle.row_queries.specs.RowTests.{Outcome, met, unmet, failed, all_outcome, and_then, any_outcome, decided, decided_by, is_met, or_else, outcome, reversed, unless_fault}
+use Rattle.row_queries.specs.Queries.{first_outcome_fault}
+use Rattle.row_queries.specs.RowTests.{Outcome, met, unmet, failed, all_outcome, and_outcome, any_outcome, decided, decided_by, is_met, or_outcome, outcome, reversed, unless_fault}
 use Rattle.row_queries.specs.TableRows.{IsRowOf, values_of}
 
 -- an outcome that is no error
@@ -29,12 +29,12 @@ sound_reversed met s = tt
 sound_reversed unmet s = tt
 sound_reversed (failed k cs) s = s
 
-sound_and : (o p : Outcome) → IsSound o → IsSound p → IsSound (and_then o p)
+sound_and : (o p : Outcome) → IsSound o → IsSound p → IsSound (and_outcome o p)
 sound_and met p s u = u
 sound_and unmet p s u = tt
 sound_and (failed k cs) p s u = s
 
-sound_or : (o p : Outcome) → IsSound o → IsSound p → IsSound (or_else o p)
+sound_or : (o p : Outcome) → IsSound o → IsSound p → IsSound (or_outcome o p)
 sound_or met p s u = tt
 sound_or unmet p s u = u
 sound_or (failed k cs) p s u = s
@@ -75,7 +75,7 @@ second_false : (a b : Bool) → (a || b) ≡ false → b ≡ false
 second_false true b e = absurd cc
 second_false false b e = e
 
-pub no_fault_at : (ds : List Data) (i : ℕ) → list_any is_fault ds ≡ false → is_fault (value_at ds i) ≡ false
+pub no_fault_at : (ds : List Data) (i : ℕ) → list_any is_fault ds ≡ false → is_fault (constant_at ds i) ≡ false
 no_fault_at [] i e = refl
 no_fault_at (d ∷ ds) zero e = first_false (is_fault d) (list_any is_fault ds) e
 no_fault_at (d ∷ ds) (suc i) e = no_fault_at ds i (second_false (is_fault d) (list_any is_fault ds) e)
@@ -84,11 +84,11 @@ mutual
   pub filled_sound : (t : TableShape) (ds : List Data) (r : Row) → list_any is_fault ds ≡ false → IsRowOf t r → (o : Outline) → IsSound (outcome (values_of r) (filled ds o))
   filled_sound t ds r e h always = tt
   filled_sound t ds r e h (flag k) = scalar_decides _ (value_scalar t r k h)
-  filled_sound t ds r e h (constant i) = faultless_decides (value_at ds i) (no_fault_at ds i e)
-  filled_sound t ds r e h (compares op k i) = faultless_passes (value_at ds i) _ (no_fault_at ds i e) (sound_decided _)
+  filled_sound t ds r e h (constant i) = faultless_decides (constant_at ds i) (no_fault_at ds i e)
+  filled_sound t ds r e h (compares op k i) = faultless_passes (constant_at ds i) _ (no_fault_at ds i e) (sound_decided _)
   filled_sound t ds r e h (is_blank k) = sound_decided _
-  filled_sound t ds r e h (starts k i) = faultless_passes (value_at ds i) _ (no_fault_at ds i e) (sound_decided _)
-  filled_sound t ds r e h (contains k i) = faultless_passes (value_at ds i) _ (no_fault_at ds i e) (sound_decided _)
+  filled_sound t ds r e h (starts k i) = faultless_passes (constant_at ds i) _ (no_fault_at ds i e) (sound_decided _)
+  filled_sound t ds r e h (contains k i) = faultless_passes (constant_at ds i) _ (no_fault_at ds i e) (sound_decided _)
   filled_sound t ds r e h (all_of os) = all_sound t ds r e h os
   filled_sound t ds r e h (any_of os) = any_sound t ds r e h os
   filled_sound t ds r e h (opposite o) = sound_reversed (outcome (values_of r) (filled ds o)) (filled_sound t ds r e h o)
@@ -102,7 +102,7 @@ mutual
   any_sound t ds r e h (with o os) = sound_or (outcome (values_of r) (filled ds o)) (any_outcome (values_of r) (all_filled ds os)) (filled_sound t ds r e h o) (any_sound t ds r e h os)
 
 -- no first error among sound outcomes
-pub none_failed : (os : List Outcome) → AllByRecursion IsSound os → first_fault os ≡ None
+pub none_failed : (os : List Outcome) → AllByRecursion IsSound os → first_outcome_fault os ≡ None
 none_failed [] h = refl
 none_failed (met ∷ os) h = none_failed os h.1
 none_failed (unmet ∷ os) h = none_failed os h.1

@@ -20,7 +20,7 @@ use Rattle.fx_value.specs.Operators.{holds_of, takes}
 use Rattle.fx_value.specs.Order.{AreOfOneType, IsScalar, order}
 use Rattle.fx_plan.proofs.KeyOrder.{from_max, least_below, none_below, upto_min}
 use Rattle.fx_plan.specs.declared.ranges.Span.{Span}
-use Rattle.fx_plan.specs.Ranges.{AllTaken, AreSought, Comparison, Compares, IsTaken, is_blank, is_empty, is_numbers, meets_all}
+use Rattle.fx_plan.specs.Ranges.{AllTaken, AreSought, Comparison, Compares, ColumnTakes, is_blank, is_empty, is_numbers, meets_all}
 use Rattle.fx_plan.specs.Spans.{IsSpan, IsSpanOf, after, blank_range, both_ranges, both_spans, both_upto, joined_spans, least, no_keys, range_by, range_by_blank, range_of, span_ranges}
 use Rattle.fx_value.specs.Fits.{fits_in}
 use Rattle.fx_value.proofs.ByteOrder.{R, after_from, before_after, le_le, le_trans}
@@ -246,12 +246,12 @@ blank_lies keys total op n t o d s b e = absurd o
 
 -- ---- one comparison
 
-value_lies : (keys : KeysOrder) (total : IsTotalOrder order) → (op : Cmp) → op ≢ Ne → (t : Shape) (c : Data) → IsProper c → IsTaken t (op, c) → is_blank c ≡ false → (d : Data) → IsScalar d → IsProper d → fits_in d t ≡ true → is_blank d ≡ false →
+value_lies : (keys : KeysOrder) (total : IsTotalOrder order) → (op : Cmp) → op ≢ Ne → (t : Shape) (c : Data) → IsProper c → ColumnTakes t (op, c) → is_blank c ≡ false → (d : Data) → IsScalar d → IsProper d → fits_in d t ≡ true → is_blank d ≡ false →
     in_range (key_bytes d) (range_by op c) ≡ holds_of op d c
 value_lies keys total op n t c q k v d s p e b =
     lies_by keys total op n d c (one_type t d c s k.scalar b v e k.fits) p q s b ∙ holds_is op n t k.operator d c s k.scalar b v e k.fits
 
-pub part_lies : (keys : KeysOrder) (total : IsTotalOrder order) → (op : Cmp) → op ≢ Ne → (t : Shape) (c : Data) → IsProper c → IsTaken t (op, c) → (d : Data) → IsScalar d → IsProper d → fits_in d t ≡ true → is_blank d ≡ false →
+pub part_lies : (keys : KeysOrder) (total : IsTotalOrder order) → (op : Cmp) → op ≢ Ne → (t : Shape) (c : Data) → IsProper c → ColumnTakes t (op, c) → (d : Data) → IsScalar d → IsProper d → fits_in d t ≡ true → is_blank d ≡ false →
     in_range (key_bytes d) (range_of op (is_numbers t) c) ≡ holds_of op d c
 part_lies keys total op n t blank q k d s p e b = blank_lies keys total op n t k.operator d s b e p
 part_lies keys total op n t (number z) q k d s p e b = value_lies keys total op n t (number z) q k refl d s p e b

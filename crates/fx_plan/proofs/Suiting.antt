@@ -17,7 +17,7 @@ use Rattle.fx_core.specs.declared.schema.TableShape.{TableShape}
 use Rattle.fx_core.specs.Lawful.{IsColumnType, IsLawfulTable}
 use Rattle.fx_value.specs.Operators.{AreOrdered, CanCompare}
 use Rattle.fx_value.specs.Order.{AreOfOneType, IsScalar}
-use Rattle.fx_plan.specs.Outlines.{AreWithin, IsWithin, Outline, OutlineList, value_at, always, flag, constant, compares, is_blank, starts, contains, all_of, any_of, opposite, no_outlines, with, all_filled, filled}
+use Rattle.fx_plan.specs.Outlines.{AreWithin, IsWithin, Outline, OutlineList, constant_at, always, flag, constant, compares, is_blank, starts, contains, all_of, any_of, opposite, no_outlines, with, all_filled, filled}
 use Rattle.fx_plan.specs.Plans.{AllSuit, Suits, is_fault}
 use Rattle.fx_plan.specs.Ranges.{AllTaken, Comparison, Compares, TakesComparisons, all_comparisons, column_type, comparisons, serves}
 use Rattle.fx_value.specs.Fits.{fits_in}
@@ -199,7 +199,7 @@ mutual
 
 -- ---- comparisons among the conjuncts
 
-no_fault_at : (ds : List Data) (i : ℕ) → list_any is_fault ds ≡ false → i < length ds → is_fault (value_at ds i) ≡ false
+no_fault_at : (ds : List Data) (i : ℕ) → list_any is_fault ds ≡ false → i < length ds → is_fault (constant_at ds i) ≡ false
 no_fault_at [] i n l = absurd (omega (arith, l))
 no_fault_at (d ∷ ds) zero n l = first (is_fault d) n
   where
@@ -223,14 +223,14 @@ mutual
   pub takes_them : (t : TableShape) (ds : List Data) (o : Outline) → IsLawfulTable t → list_any is_fault ds ≡ false → IsWithin (length ds) o → Suits t (filled ds o) → TakesComparisons t (filled ds o)
   takes_them t ds (compares op at i) l n w s k u e = go (at == k) refl (serves op)
     where
-      go : (b : Bool) → (at == k) ≡ b → (x : Bool) → AllTaken u (cond (b && x) ((op, value_at ds i) ∷ []) [])
+      go : (b : Bool) → (at == k) ≡ b → (x : Bool) → AllTaken u (cond (b && x) ((op, constant_at ds i) ∷ []) [])
       go true q true =
           let same : at ≡ k = eqb-true at k q in
           let type : s.0 ≡ u = same_some s.0 u (column_type t k) (subst (λ m. column_type t m ≡ Some s.0) same s.1) e in (
             record {
               operator = subst (Compares op) type s.2;
-              scalar = scalar_ok s.0 (column_ok t at s.0 l s.1) (value_at ds i) s.3 (no_fault_at ds i n w);
-              fits = subst (λ x. fits_in (value_at ds i) x ≡ true) type s.3;
+              scalar = scalar_ok s.0 (column_ok t at s.0 l s.1) (constant_at ds i) s.3 (no_fault_at ds i n w);
+              fits = subst (λ x. fits_in (constant_at ds i) x ≡ true) type s.3;
             },
             tt,
           )

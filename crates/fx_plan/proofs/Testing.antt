@@ -14,14 +14,14 @@ use Rattle.fx_types.specs.declared.comparisons.Cmp.{Cmp}
 use Rattle.fx_types.specs.declared.comparisons.Cmp.TheVariants.{Eq, Ne, Lt, Le, Gt, Ge}
 use Rattle.fx_types.specs.declared.faults.Kind.{Kind}
 use Rattle.fx_types.specs.Values.{Data, blank, number, text, boolean, date, rec, tab, fault, field_list, FieldList, RowList}
-use Rattle.fx_plan.specs.Outlines.{Outline, all_filled, filled, value_at, flag, constant, compares, is_blank, starts, contains, all_of, any_of, opposite, outline_list}
-use Rattle.fx_plan.specs.QueryExpressions.{along, beside, called, called_with_one, called_with_two, column_of, compared, compared_with, comparison_by, is_constant, negated, pattern_by, pattern_of, patterns_of, plain_column, turned, with_constant}
+use Rattle.fx_plan.specs.Outlines.{Outline, all_filled, filled, constant_at, flag, constant, compares, is_blank, starts, contains, all_of, any_of, opposite, outline_list}
+use Rattle.fx_plan.specs.QueryExpressions.{along, beside, call_pattern, called_with_one, called_with_two, column_of, comparison_pattern, compared_with, comparison_by, is_constant, negated, pattern_by, pattern_of, patterns_of, plain_column, flipped, with_constant}
 use Rattle.fx_scalar.specs.Arguments.{first_fault}
 use Rattle.fx_scalar.specs.Arguments.{text_in as text_of}
 use Rattle.fx_scalar.specs.Answers.{UnlessFault}
 use Rattle.fx_scalar.specs.LazyForms.{AtAll, AtAny}
 use Rattle.fx_scalar.specs.ScalarFunctions.{IsAnswer, IsCompared}
-use Rattle.fx_scalar.specs.ScalarFunctions.{is_blank as is_blank_value}
+use Rattle.fx_scalar.specs.ScalarFunctions.{is_blank_or_empty as is_blank_value}
 use Rattle.fx_semantics.specs.Around.{Around, Meaning, AreValues, inside}
 use Rattle.fx_semantics.specs.Forms.{IsAll, IsAny}
 use Rattle.fx_semantics.specs.Fresh.{IsCalled, IsValue, OfAll, meaning, meanings}
@@ -40,11 +40,11 @@ use Rattle.fx_value.specs.Order.{IsScalar, order}
 use Rattle.fx_plan.proofs.Columns.{column_worth}
 use Rattle.fx_plan.proofs.Constancy.{constant_stays}
 use Rattle.fx_plan.proofs.Placing.{column_typed, got_last, got_more, in_front, joined, plain_is, some_map, some_then}
-use Rattle.fx_plan.specs.Settings.{around}
-use Rattle.fx_plan.specs.TestValues.{IsWorth, TestsAreConditions, in_scope}
+use Rattle.fx_plan.specs.Settings.{setting_around}
+use Rattle.fx_plan.specs.TestValues.{TestComesTo, TestsAreConditions, in_scope}
 use Rattle.row_queries.specs.declared.rows.Row.{Row}
-use Rattle.row_queries.specs.RowTests.{Outcome, all_outcome, and_then, any_outcome, begins_without_case, decided, decided_by, has_part_without_case, is_empty, or_else, outcome, reversed, text_in, unless_fault}
-use Rattle.row_queries.specs.TableRows.{AreCellsOf, IsRowOf, record_of, values_of}
+use Rattle.row_queries.specs.RowTests.{Outcome, all_outcome, and_outcome, any_outcome, begins_without_case, decided, decided_by, has_part_without_case, is_empty_value, or_outcome, outcome, reversed, text_or_empty, unless_fault}
+use Rattle.row_queries.specs.TableRows.{AreCellsOf, IsRowOf, record_of_row, values_of}
 use Rattle.row_queries.specs.TableRows.{value_at as value_in_row}
 use Rattle.row_queries.proofs.Texts.{begins_there, part_there, there_begins, there_part}
 
@@ -75,7 +75,7 @@ reversed_ge Less = refl
 reversed_ge Equal = refl
 reversed_ge Greater = refl
 
-turned_takes : (op : Cmp) (o : Ordering) → takes (turned op) (ordering_reverse o) ≡ takes op o
+turned_takes : (op : Cmp) (o : Ordering) → takes (flipped op) (ordering_reverse o) ≡ takes op o
 turned_takes Eq o = reversed_eq o
 turned_takes Ne o = ap not (reversed_eq o)
 turned_takes Lt o = reversed_lt o
@@ -123,7 +123,7 @@ sides_turned x d = refl
 order_turned : IsTotalOrder order → (x d : Data) → Some (order x d) ≡ option_map ordering_reverse (Some (order d x))
 order_turned t x d = ap Some (t.antisymm x d)
 
-compared_turned : IsTotalOrder order → (op : Cmp) (x d : Data) → compared_by (turned op) x d ≡ option_map ordering_reverse (compared_by op d x)
+compared_turned : IsTotalOrder order → (op : Cmp) (x d : Data) → compared_by (flipped op) x d ≡ option_map ordering_reverse (compared_by op d x)
 compared_turned t Eq x d = order_turned t x d
 compared_turned t Ne x d = order_turned t x d
 compared_turned t Lt x d = sides_turned x d
@@ -131,16 +131,16 @@ compared_turned t Le x d = sides_turned x d
 compared_turned t Gt x d = sides_turned x d
 compared_turned t Ge x d = sides_turned x d
 
-holds_turned : IsTotalOrder order → (op : Cmp) (x d : Data) → holds_of (turned op) x d ≡ holds_of op d x
-holds_turned t op x d = ap (λ (o : Option Ordering). option_map_or (takes (turned op)) o false) (compared_turned t op x d) ∙ by (compared_by op d x)
+holds_turned : IsTotalOrder order → (op : Cmp) (x d : Data) → holds_of (flipped op) x d ≡ holds_of op d x
+holds_turned t op x d = ap (λ (o : Option Ordering). option_map_or (takes (flipped op)) o false) (compared_turned t op x d) ∙ by (compared_by op d x)
   where
-    by : (o : Option Ordering) → option_map_or (takes (turned op)) (option_map ordering_reverse o) false ≡ option_map_or (takes op) o false
+    by : (o : Option Ordering) → option_map_or (takes (flipped op)) (option_map ordering_reverse o) false ≡ option_map_or (takes op) o false
     by None = refl
     by (Some o) = turned_takes op o
 
 -- ---- texts
 
-same_text : (d : Data) → text_of d ≡ text_in d
+same_text : (d : Data) → text_of d ≡ text_or_empty d
 same_text (text cs) = refl
 same_text blank = refl
 same_text (number z) = refl
@@ -150,7 +150,7 @@ same_text (rec fs) = refl
 same_text (tab rs) = refl
 same_text (fault k cs) = refl
 
-same_blank : (d : Data) → is_blank_value d ≡ is_empty d
+same_blank : (d : Data) → is_blank_value d ≡ is_empty_value d
 same_blank blank = refl
 same_blank (text []) = refl
 same_blank (text (c ∷ cs)) = refl
@@ -164,13 +164,13 @@ same_blank (fault k cs) = refl
 begins_so : (x d : Data) → IsTrue (begins_without_case x d) ↔ BeginsWithoutCase (text_of x) (text_of d)
 begins_so x d =
     subst (λ (p : List ℕ × List ℕ). IsTrue (begins_without_case x d) ↔ BeginsWithoutCase p.0 p.1) (λ i. (sym (same_text x) i, sym (same_text d) i))
-    (begins_there (default_case_fold (text_in x)) (default_case_fold (text_in d)), there_begins (default_case_fold (text_in x)) (default_case_fold (text_in d)))
+    (begins_there (default_case_fold (text_or_empty x)) (default_case_fold (text_or_empty d)), there_begins (default_case_fold (text_or_empty x)) (default_case_fold (text_or_empty d)))
 
 part_so : (x d : Data) → IsTrue (has_part_without_case x d) ↔ HasPartWithoutCase (text_of x) (text_of d)
 part_so x d =
     subst (λ (p : List ℕ × List ℕ). IsTrue (has_part_without_case x d) ↔ HasPartWithoutCase p.0 p.1) (λ i. (sym (same_text x) i, sym (same_text d) i)) (
-      part_there (default_case_fold (text_in x)) (default_case_fold (text_in d)),
-      λ h. there_part (default_case_fold (text_in x)) (default_case_fold (text_in d)) h.0 h.1,
+      part_there (default_case_fold (text_or_empty x)) (default_case_fold (text_or_empty d)),
+      λ h. there_part (default_case_fold (text_or_empty x)) (default_case_fold (text_or_empty d)) h.0 h.1,
     )
 
 -- ---- calls
@@ -239,7 +239,7 @@ answers f = tt
 -- ---- conditions joined
 
 -- `And` and `Or` at a part
-and_value : (w : Data) (o : Outcome) (P : Data → Type 0) → (v : Data) × P v × (o ≡ decided_by v) → (v : Data) × AtAll w (P v) v × (and_then (decided_by w) o ≡ decided_by v)
+and_value : (w : Data) (o : Outcome) (P : Data → Type 0) → (v : Data) × P v × (o ≡ decided_by v) → (v : Data) × AtAll w (P v) v × (and_outcome (decided_by w) o ≡ decided_by v)
 and_value (boolean true) o P h = (h.0, h.1, h.2)
 and_value (boolean false) o P h = (boolean false, refl, refl)
 and_value (fault k cs) o P h = (fault k cs, refl, refl)
@@ -250,7 +250,7 @@ and_value (date z) o P h = (boolean false, refl, refl)
 and_value (rec fs) o P h = (boolean false, refl, refl)
 and_value (tab rs) o P h = (boolean false, refl, refl)
 
-or_value : (w : Data) (o : Outcome) (P : Data → Type 0) → (v : Data) × P v × (o ≡ decided_by v) → (v : Data) × AtAny w (P v) v × (or_else (decided_by w) o ≡ decided_by v)
+or_value : (w : Data) (o : Outcome) (P : Data → Type 0) → (v : Data) × P v × (o ≡ decided_by v) → (v : Data) × AtAny w (P v) v × (or_outcome (decided_by w) o ≡ decided_by v)
 or_value (boolean true) o P h = (boolean true, refl, refl)
 or_value (boolean false) o P h = (h.0, h.1, h.2)
 or_value (fault k cs) o P h = (fault k cs, refl, refl)
@@ -289,7 +289,7 @@ pub column_value : (t : TableShape) (a : Around) (r : Row) (x : Term) (i : ℕ) 
     IsValue (in_scope a t r) x (value_in_row (values_of r) i)
 column_value t a r x i l h e =
     let c = plain_is t (length a.rows) x i e in
-    let row = rec (field_list (record_of t r)) in
+    let row = rec (field_list (record_of_row t r)) in
     subst (λ (y : Term). IsValue (in_scope a t r) y (value_in_row (values_of r) i)) (sym c.is)
     (row, got_last a.rows row, sym (column_worth t r c.name i l h c.named))
 
@@ -309,18 +309,18 @@ module _ (total : IsTotalOrder order) (t : TableShape) (lawful : IsLawfulTable t
 
   -- the constants so far have these values, by their places
   abbrev pub Worth : List Term → Type 0
-  Worth cs = (i : ℕ) (c : Term) → slice_get cs i ≡ Some c → IsValue (inside a d) c (value_at vs i)
+  Worth cs = (i : ℕ) (c : Term) → slice_get cs i ≡ Some c → IsValue (inside a d) c (constant_at vs i)
 
   abbrev pub Grows : List Term → List Term → Type 0
   Grows ds es = (i : ℕ) (c : Term) → slice_get ds i ≡ Some c → slice_get es i ≡ Some c
 
   pub record IsTest (x : Term) (ds : List Term) (o : Outline) (es : List Term) : Type 0 where
     pub grows : Grows ds es
-    pub test : Worth es → IsWorth here x (came o)
+    pub test : Worth es → TestComesTo here x (came o)
 
   abbrev pub AllWorth : Terms → List Outline → Type 0
   AllWorth nil [] = Unit {0}
-  AllWorth (cons x xs) (o ∷ os) = IsWorth here x (came o) × AllWorth xs os
+  AllWorth (cons x xs) (o ∷ os) = TestComesTo here x (came o) × AllWorth xs os
   AllWorth xs os = ⊥
 
   pub record AreTests (xs : Terms) (ds : List Term) (os : List Outline) (es : List Term) : Type 0 where
@@ -329,19 +329,19 @@ module _ (total : IsTotalOrder order) (t : TableShape) (lawful : IsLawfulTable t
 
   -- a test of a constant that is kept
   kept_test : (ds : List Term) (f : ℕ → Outline) (x y : Term) (o : Outline) (es : List Term) → is_constant k x ≡ true →
-      ((j : ℕ) → IsValue here x (value_at vs j) → IsWorth here y (came (f j))) → with_constant f x ds ≡ (o, es) → IsTest y ds o es
+      ((j : ℕ) → IsValue here x (constant_at vs j) → TestComesTo here y (came (f j))) → with_constant f x ds ≡ (o, es) → IsTest y ds o es
   kept_test ds f x y o es c g e =
       let kept : ds ++ x ∷ [] ≡ es = ap (λ p. p.1) e in
       let tested : f (length ds) ≡ o = ap (λ p. p.0) e in
       let there : slice_get es (length ds) ≡ Some x = subst (λ (xs : List Term). slice_get xs (length ds) ≡ Some x) kept (got_last ds x) in
       record {
         grows = λ i z q. subst (λ (xs : List Term). slice_get xs i ≡ Some z) kept (got_more ds (x ∷ []) i z q);
-        test = λ w. subst (λ (p : Outline). IsWorth here y (came p)) tested
-            (g (length ds) (constant_stays a d _ x (value_at vs (length ds)) c (w (length ds) x there)));
+        test = λ w. subst (λ (p : Outline). TestComesTo here y (came p)) tested
+            (g (length ds) (constant_stays a d _ x (constant_at vs (length ds)) c (w (length ds) x there)));
       }
 
   -- a test of columns alone
-  bare_test : (ds : List Term) (y : Term) (o : Outline) (es : List Term) → ds ≡ es → IsWorth here y (came o) → IsTest y ds o es
+  bare_test : (ds : List Term) (y : Term) (o : Outline) (es : List Term) → ds ≡ es → TestComesTo here y (came o) → IsTest y ds o es
   bare_test ds y o es e h = record { grows = λ i z q. subst (λ (xs : List Term). slice_get xs i ≡ Some z) e q; test = λ w. h }
 
   pair_value : (f : Fun) (op : Cmp) (x y : Term) (p q v : Data) → ((Ps : List Meaning) (b : Around) (w : Data) → OfAll Ps b (λ ds. UnlessFault (first_fault ds) (IsCompared (Some op) ds) w) → IsCalled f Ps b w) →
@@ -350,9 +350,9 @@ module _ (total : IsTotalOrder order) (t : TableShape) (lawful : IsLawfulTable t
 
   -- a column before a constant
   ahead_test : (f : Fun) (op : Cmp) (x y : Term) (i j : ℕ) → ((Ps : List Meaning) (b : Around) (w : Data) → OfAll Ps b (λ ds. UnlessFault (first_fault ds) (IsCompared (Some op) ds) w) → IsCalled f Ps b w) →
-      plain_column t k x ≡ Some i → IsValue here y (value_at vs j) → IsWorth here (of (top.call f) (cons x (cons y nil))) (came (compares op i j))
+      plain_column t k x ≡ Some i → IsValue here y (constant_at vs j) → TestComesTo here (of (top.call f) (cons x (cons y nil))) (came (compares op i j))
   ahead_test f op x y i j g e h =
-      let c = value_at vs j in
+      let c = constant_at vs j in
       let s = value_scalar t r i own in
       let w = told c (holds_of op (cell i) c) (IsCompared (Some op) (cell i ∷ c ∷ [])) refl in (
         w.0,
@@ -363,9 +363,9 @@ module _ (total : IsTotalOrder order) (t : TableShape) (lawful : IsLawfulTable t
 
   -- and behind one
   behind_test : (f : Fun) (op : Cmp) (x y : Term) (i j : ℕ) → ((Ps : List Meaning) (b : Around) (w : Data) → OfAll Ps b (λ ds. UnlessFault (first_fault ds) (IsCompared (Some op) ds) w) → IsCalled f Ps b w) →
-      plain_column t k y ≡ Some i → IsValue here x (value_at vs j) → IsWorth here (of (top.call f) (cons x (cons y nil))) (came (compares (turned op) i j))
+      plain_column t k y ≡ Some i → IsValue here x (constant_at vs j) → TestComesTo here (of (top.call f) (cons x (cons y nil))) (came (compares (flipped op) i j))
   behind_test f op x y i j g e h =
-      let c = value_at vs j in
+      let c = constant_at vs j in
       let s = value_scalar t r i own in
       let w = told c (holds_of op c (cell i)) (IsCompared (Some op) (c ∷ cell i ∷ [])) refl in (
         w.0,
@@ -383,26 +383,26 @@ module _ (total : IsTotalOrder order) (t : TableShape) (lawful : IsLawfulTable t
 
   -- a test of a column beside a constant
   beside_test : (ds : List Term) (s : Scalar) (f : ℕ → ℕ → Outline) (x y z : Term) (o : Outline) (es : List Term) →
-      ((i j : ℕ) → plain_column t k x ≡ Some i → IsValue here y (value_at vs j) → IsWorth here z (came (f i j))) →
+      ((i j : ℕ) → plain_column t k x ≡ Some i → IsValue here y (constant_at vs j) → TestComesTo here z (came (f i j))) →
       option_map (λ (i : ℕ). with_constant (f i) y ds) (beside t k s x y) ≡ Some (o, es) → IsTest z ds o es
   beside_test ds s f x y z o es g e =
       let m = some_map (λ (i : ℕ). with_constant (f i) y ds) (beside t k s x y) (o, es) e in
       let q = beside_is s x y m.0 m.1 in
       kept_test ds (f m.0) y z o es q.0 (λ j h. g m.0 j q.1 h) m.2
 
-  compared_test : (ds : List Term) (f : Fun) (p : Option (Cmp × Scalar)) (x y : Term) (o : Outline) (es : List Term) → Answers f p → compared t k p x y ds ≡ Some (o, es) →
+  compared_test : (ds : List Term) (f : Fun) (p : Option (Cmp × Scalar)) (x y : Term) (o : Outline) (es : List Term) → Answers f p → comparison_pattern t k p x y ds ≡ Some (o, es) →
       IsTest (of (top.call f) (cons x (cons y nil))) ds o es
   compared_test ds f None x y o es g e = absurd cc
   compared_test ds f (Some p) x y o es g e = by (is_constant k y) e
     where
-      by : (b : Bool) → (if b then compared_with t k p.0 p.1 x y ds else compared_with t k (turned p.0) p.1 y x ds) ≡ Some (o, es) → IsTest (of (top.call f) (cons x (cons y nil))) ds o es
+      by : (b : Bool) → (if b then compared_with t k p.0 p.1 x y ds else compared_with t k (flipped p.0) p.1 y x ds) ≡ Some (o, es) → IsTest (of (top.call f) (cons x (cons y nil))) ds o es
       by true q = beside_test ds p.1 (compares p.0) x y (of (top.call f) (cons x (cons y nil))) o es (λ i j z h. ahead_test f p.0 x y i j g z h) q
-      by false q = beside_test ds p.1 (compares (turned p.0)) y x (of (top.call f) (cons x (cons y nil))) o es (λ i j z h. behind_test f p.0 x y i j g z h) q
+      by false q = beside_test ds p.1 (compares (flipped p.0)) y x (of (top.call f) (cons x (cons y nil))) o es (λ i j z h. behind_test f p.0 x y i j g z h) q
 
   -- texts
-  starts_test : (x y : Term) (i j : ℕ) → plain_column t k x ≡ Some i → IsValue here y (value_at vs j) → IsWorth here (of (top.call fun.StartsWith) (cons x (cons y nil))) (came (starts i j))
+  starts_test : (x y : Term) (i j : ℕ) → plain_column t k x ≡ Some i → IsValue here y (constant_at vs j) → TestComesTo here (of (top.call fun.StartsWith) (cons x (cons y nil))) (came (starts i j))
   starts_test x y i j e h =
-      let c = value_at vs j in
+      let c = constant_at vs j in
       let P : Data → Type 0 = λ v. (b : Bool) × (IsTrue b ↔ BeginsWithoutCase (text_of (cell i)) (text_of c)) × (v ≡ boolean b) in
       let w = told c (begins_without_case (cell i) c) P (begins_without_case (cell i) c, begins_so (cell i) c, refl) in (
         w.0,
@@ -410,9 +410,9 @@ module _ (total : IsTotalOrder order) (t : TableShape) (lawful : IsLawfulTable t
         w.2,
       )
 
-  contains_test : (x y : Term) (i j : ℕ) → plain_column t k y ≡ Some i → IsValue here x (value_at vs j) → IsWorth here (of (top.call fun.In) (cons x (cons y nil))) (came (contains i j))
+  contains_test : (x y : Term) (i j : ℕ) → plain_column t k y ≡ Some i → IsValue here x (constant_at vs j) → TestComesTo here (of (top.call fun.In) (cons x (cons y nil))) (came (contains i j))
   contains_test x y i j e h =
-      let c = value_at vs j in
+      let c = constant_at vs j in
       let P : Data → Type 0 = λ v. (b : Bool) × (IsTrue b ↔ HasPartWithoutCase (text_of (cell i)) (text_of c)) × (v ≡ boolean b) in
       let w = told c (has_part_without_case (cell i) c) P (has_part_without_case (cell i) c, part_so (cell i) c, refl) in (
         w.0,
@@ -425,7 +425,7 @@ module _ (total : IsTotalOrder order) (t : TableShape) (lawful : IsLawfulTable t
   pair_test ds fun.In x y o es e = beside_test ds Text contains y x (of (top.call fun.In) (cons x (cons y nil))) o es (contains_test x y) e
   pair_test ds f x y o es e = compared_test ds f (comparison_by f) x y o es (answers f) e
 
-  blank_value : (x : Term) (i : ℕ) → plain_column t k x ≡ Some i → IsWorth here (of (top.call fun.IsBlank) (cons x nil)) (came (is_blank i))
+  blank_value : (x : Term) (i : ℕ) → plain_column t k x ≡ Some i → TestComesTo here (of (top.call fun.IsBlank) (cons x nil)) (came (is_blank i))
   blank_value x i e =
       let v = boolean (is_blank_value (cell i)) in (
         v,
@@ -440,13 +440,13 @@ module _ (total : IsTotalOrder order) (t : TableShape) (lawful : IsLawfulTable t
       let m = some_map Beside (option_map is_blank (plain_column t k x)) (o, es) e in
       let n = some_map is_blank (plain_column t k x) m.0 m.1 in
       bare_test ds (of (top.call fun.IsBlank) (cons x nil)) o es (ap (λ p. p.1) m.2)
-      (subst (λ (p : Outline). IsWorth here (of (top.call fun.IsBlank) (cons x nil)) (came p)) (n.2 ∙ ap (λ p. p.0) m.2) (blank_value x n.0 n.1))
+      (subst (λ (p : Outline). TestComesTo here (of (top.call fun.IsBlank) (cons x nil)) (came p)) (n.2 ∙ ap (λ p. p.0) m.2) (blank_value x n.0 n.1))
 
   single_test : (ds : List Term) (f : Fun) (x : Term) (o : Outline) (es : List Term) → called_with_one t k f x ds ≡ Some (o, es) → IsTest (of (top.call f) (cons x nil)) ds o es
   single_test ds fun.IsBlank x o es e = blank_test ds x o es e
   single_test ds f x o es e = absurd cc
 
-  call_test : (ds : List Term) (f : Fun) (cs : Terms) (o : Outline) (es : List Term) → called t k f cs ds ≡ Some (o, es) → IsTest (of (top.call f) cs) ds o es
+  call_test : (ds : List Term) (f : Fun) (cs : Terms) (o : Outline) (es : List Term) → call_pattern t k f cs ds ≡ Some (o, es) → IsTest (of (top.call f) cs) ds o es
   call_test ds f nil o es e = absurd cc
   call_test ds f (cons x nil) o es e = single_test ds f x o es e
   call_test ds f (cons x (cons y nil)) o es e = pair_test ds f x y o es e
@@ -458,7 +458,7 @@ module _ (total : IsTotalOrder order) (t : TableShape) (lawful : IsLawfulTable t
       let m = some_map Beside (option_map flag (column_of t k Boolean x)) (o, es) e in
       let n = some_map flag (column_of t k Boolean x) m.0 m.1 in
       bare_test ds x o es (ap (λ p. p.1) m.2)
-      (subst (λ (p : Outline). IsWorth here x (came p)) (n.2 ∙ ap (λ p. p.0) m.2)
+      (subst (λ (p : Outline). TestComesTo here x (came p)) (n.2 ∙ ap (λ p. p.0) m.2)
       (cell n.0, column_value t a r x n.0 lawful own (column_typed t k Boolean x n.0 n.1).0, refl))
 
   -- what joins conditions
@@ -468,7 +468,7 @@ module _ (total : IsTotalOrder order) (t : TableShape) (lawful : IsLawfulTable t
       let rest = all_worth xs os h.1 in
       let one = h.0 in
       let both = and_value one.0 (all_outcome (values_of r) (all_filled vs (outline_list os))) (IsAll (meanings xs) here) rest in
-      (both.0, (one.0, one.1, both.1), ap (λ (p : Outcome). and_then p (all_outcome (values_of r) (all_filled vs (outline_list os)))) one.2 ∙ both.2)
+      (both.0, (one.0, one.1, both.1), ap (λ (p : Outcome). and_outcome p (all_outcome (values_of r) (all_filled vs (outline_list os)))) one.2 ∙ both.2)
   all_worth nil (o ∷ os) h = absurd h
   all_worth (cons x xs) [] h = absurd h
 
@@ -478,11 +478,11 @@ module _ (total : IsTotalOrder order) (t : TableShape) (lawful : IsLawfulTable t
       let rest = any_worth xs os h.1 in
       let one = h.0 in
       let both = or_value one.0 (any_outcome (values_of r) (all_filled vs (outline_list os))) (IsAny (meanings xs) here) rest in
-      (both.0, (one.0, one.1, both.1), ap (λ (p : Outcome). or_else p (any_outcome (values_of r) (all_filled vs (outline_list os)))) one.2 ∙ both.2)
+      (both.0, (one.0, one.1, both.1), ap (λ (p : Outcome). or_outcome p (any_outcome (values_of r) (all_filled vs (outline_list os)))) one.2 ∙ both.2)
   any_worth nil (o ∷ os) h = absurd h
   any_worth (cons x xs) [] h = absurd h
 
-  negated_worth : (x : Term) (o : Outline) → IsWorth here x (came o) → IsWorth here (of (top.call fun.Not) (cons x nil)) (came (opposite o))
+  negated_worth : (x : Term) (o : Outline) → TestComesTo here x (came o) → TestComesTo here (of (top.call fun.Not) (cons x nil)) (came (opposite o))
   negated_worth x o h = let w = not_value h.0 in (w.0, (h.0 ∷ [], (h.1, tt), w.1), ap reversed h.2 ∙ w.2)
 
   negated_test : (xs : Terms) (ds : List Term) (p : List Outline × List Term) (o : Outline) (es : List Term) → AreTests xs ds p.0 p.1 → negated p ≡ Some (o, es) → IsTest (of (top.call fun.Not) xs) ds o es
@@ -523,7 +523,7 @@ module _ (total : IsTotalOrder order) (t : TableShape) (lawful : IsLawfulTable t
         heads g go q = absurd cc
 
         by : (b : Bool) → is_constant k (of h cs) ≡ b → Go → (if b then Some (with_constant constant (of h cs) ds) else pattern_by t k h cs ds (patterns_of t k cs ds)) ≡ Some (o, es) → IsTest (of h cs) ds o es
-        by true q go z = kept_test ds constant (of h cs) (of h cs) o es q (λ j v. (value_at vs j, v, refl)) (same_Some (with_constant constant (of h cs) ds) (o, es) z)
+        by true q go z = kept_test ds constant (of h cs) (of h cs) o es q (λ j v. (constant_at vs j, v, refl)) (same_Some (with_constant constant (of h cs) ds) (o, es) z)
         by false q go z = heads h go z
 
     pub patterns_test : (xs : Terms) (ds : List Term) (os : List Outline) (es : List Term) → patterns_of t k xs ds ≡ Some (os, es) → AreTests xs ds os es
@@ -542,7 +542,7 @@ module _ (total : IsTotalOrder order) (t : TableShape) (lawful : IsLawfulTable t
 
 -- ---- the law
 
-pub values_worth : (a : Around) (cs : List Term) (ds : List Data) → AreValues (meanings (all cs)) a ds → (i : ℕ) (c : Term) → slice_get cs i ≡ Some c → IsValue a c (value_at ds i)
+pub values_worth : (a : Around) (cs : List Term) (ds : List Data) → AreValues (meanings (all cs)) a ds → (i : ℕ) (c : Term) → slice_get cs i ≡ Some c → IsValue a c (constant_at ds i)
 values_worth a [] ds h i c e = absurd cc
 values_worth a (x ∷ cs) [] h i c e = absurd h
 values_worth a (x ∷ cs) (d ∷ ds) h zero c e = subst (λ (y : Term). IsValue a y d) (same_Some x c e) h.0
@@ -550,8 +550,8 @@ values_worth a (x ∷ cs) (d ∷ ds) h (suc i) c e = values_worth a cs ds h.1 i 
 
 pub test_worth : IsTotalOrder order → (t : TableShape) (a : Around) (x : Term) (o : Outline) (cs : List Term) (d : Data) (ds : List Data) (r : Row) →
     IsLawfulTable t → pattern_of t (length a.rows) x [] ≡ Some (o, cs) → AreValues (meanings (all cs)) (inside a d) ds → IsRowOf t r →
-    IsWorth (in_scope a t r) x (outcome (values_of r) (filled ds o))
+    TestComesTo (in_scope a t r) x (outcome (values_of r) (filled ds o))
 test_worth total t a x o cs d ds r lawful e h own = (pattern_test total t lawful a d ds r own x [] o cs e).test (values_worth (inside a d) cs ds h)
 
 pub tests_are_conditions : IsTotalOrder order → TestsAreConditions
-tests_are_conditions total s t x o cs d ds r = test_worth total t (around s) x o cs d ds r
+tests_are_conditions total s t x o cs d ds r = test_worth total t (setting_around s) x o cs d ds r

@@ -16,12 +16,12 @@ use Rattle.fx_types.specs.Values.{Data, blank, boolean, tab, fault, field_list, 
 use Rattle.fx_plan.specs.declared.plans.Sketch.{Sketch}
 use Rattle.fx_plan.specs.Outlines.{Outline, all_filled, filled, always, all_of, outline_list}
 use Rattle.fx_plan.specs.Plans.{IsReachBy, is_fault, reach_in}
-use Rattle.fx_plan.specs.QueryExpressions.{behind, filtered, is_falling, patterns_of, plain_column, sketch_of, sorted, sorted_by}
+use Rattle.fx_plan.specs.QueryExpressions.{patterns_behind, filter_sketch, is_falling, patterns_of, plain_column, sketch_of, sorted, sorted_by}
 use Rattle.fx_plan.specs.Ranges.{AreSought, IsReach, IsReachOn, column_type, comparisons, everything, is_sought, reached_column}
 use Rattle.fx_plan.proofs.Missed.{no_row_is_missed}
 use Rattle.fx_semantics.specs.Around.{Around, AreEach, AreValues, inside}
 use Rattle.fx_semantics.specs.Fresh.{IsValue, meaning, meanings}
-use Rattle.fx_semantics.specs.Rows.{IsVerdict, fields_of, rows_of}
+use Rattle.fx_semantics.specs.Rows.{IsConjunction, fields_of, rows_of}
 use Rattle.fx_semantics.specs.Rows.{is_falling as falls}
 use Rattle.fx_value.proofs.RowOrders.{directed_total, filter_seen, sorted_seen}
 use Rattle.fx_value.specs.Columns.{Row as Fields}
@@ -45,17 +45,17 @@ use Rattle.fx_plan.proofs.Arranged.{Holds, Rises, also_all, arranged_same, befor
 use Rattle.fx_plan.proofs.Placing.{any_type, in_front, some_map, some_then}
 use Rattle.fx_plan.proofs.Sound.{IsSound, filled_sound, none_failed, sound_holds}
 use Rattle.fx_plan.proofs.Testing.{AllWorth, Worth, column_value, patterns_test, value_scalar, values_worth}
-use Rattle.fx_plan.specs.Settings.{Setting, around}
+use Rattle.fx_plan.specs.Settings.{EvalSetting, setting_around}
 use Rattle.fx_plan.specs.TestValues.{in_scope}
 use Rattle.fx_plan.specs.Wholes.{IsPlanned, PlansAreWhole}
 use Rattle.row_queries.specs.Conditions.{Condition}
 use Rattle.row_queries.specs.declared.queries.Query.{Query}
 use Rattle.row_queries.specs.declared.ranges.KeyRange.{KeyRange}
 use Rattle.row_queries.specs.declared.rows.Row.{Row}
-use Rattle.row_queries.specs.Queries.{AreAsked, first_fault, first_of, given_of, lies, outcome_on}
+use Rattle.row_queries.specs.Queries.{AreAsked, first_outcome_fault, first_of, given_of, lies, outcome_on}
 use Rattle.row_queries.specs.Ranges.{in_ranges}
-use Rattle.row_queries.specs.RowTests.{Outcome, met, unmet, failed, all_outcome, and_then, is_met, outcome}
-use Rattle.row_queries.specs.TableRows.{AreCellsOf, AreHeldRows, AreInIdOrder, IsHeldRow, IsRowOf, record_of, table_of, values_of}
+use Rattle.row_queries.specs.RowTests.{Outcome, met, unmet, failed, all_outcome, and_outcome, is_met, outcome}
+use Rattle.row_queries.specs.TableRows.{AreCellsOf, AreHeldRows, AreInIdOrder, IsHeldRow, IsRowOf, record_of_row, rows_table, values_of}
 use Rattle.row_queries.specs.TableRows.{value_at as value_in_row}
 use Rattle.row_queries.proofs.Asked.{is_tie, passed, passing}
 
@@ -88,7 +88,7 @@ blank_row_fits t = (omega arith, blanks_fit t.columns)
 
 -- ---- Booleans of conditions
 
-and_met : (o p : Outcome) → is_met (and_then o p) ≡ (is_met o && is_met p)
+and_met : (o p : Outcome) → is_met (and_outcome o p) ≡ (is_met o && is_met p)
 and_met met p = refl
 and_met unmet p = refl
 and_met (failed k cs) p = refl
@@ -176,7 +176,7 @@ abbrev pub cell : ℕ → Row → Data
 cell i r = value_in_row (values_of r) i
 
 pub each_key : (t : TableShape) (a : Around) (f : Term) (i : ℕ) → IsLawfulTable t → plain_column t (length a.rows) f ≡ Some i → (xs : List Row) → AllByRecursion (IsRowOf t) xs →
-    AreEach (meaning f) a (map (record_of t) xs) (map (cell i) xs)
+    AreEach (meaning f) a (map (record_of_row t) xs) (map (cell i) xs)
 each_key t a f i l e [] h = tt
 each_key t a f i l e (r ∷ xs) h = (column_value t a r f i l h.0 e, each_key t a f i l e xs h.1)
 
@@ -241,7 +241,7 @@ module _ (total : IsTotalOrder order) (t : TableShape) (lawful : IsLawfulTable t
   verdict r own nil (o ∷ os) h = absurd h
   verdict r own (cons c cs) [] h = absurd h
 
-  verdict_is : (r : Row) (cs : Terms) (os : List Outline) → Verdict cs os r → IsVerdict (meanings cs) (in_scope a t r) (boolean (all_pass os r))
+  verdict_is : (r : Row) (cs : Terms) (os : List Outline) → Verdict cs os r → IsConjunction (meanings cs) (in_scope a t r) (boolean (all_pass os r))
   verdict_is r cs os v = (
     v.values,
     v.are,
@@ -249,22 +249,22 @@ module _ (total : IsTotalOrder order) (t : TableShape) (lawful : IsLawfulTable t
   )
 
   each_verdict : (cs : Terms) (ds es : List Term) (os : List Outline) → patterns_of t k cs ds ≡ Some (os, es) → Worth total t lawful a d vs (blank_row t) (blank_row_fits t) es →
-      (xs : List Row) → AllByRecursion (IsRowOf t) xs → AreEach (IsVerdict (meanings cs)) a (map (record_of t) xs) (map (λ r. boolean (all_pass os r)) xs)
+      (xs : List Row) → AllByRecursion (IsRowOf t) xs → AreEach (IsConjunction (meanings cs)) a (map (record_of_row t) xs) (map (λ r. boolean (all_pass os r)) xs)
   each_verdict cs ds es os e w [] h = tt
   each_verdict cs ds es os e w (r ∷ xs) h =
       (verdict_is r cs os (verdict r h.0 cs os ((patterns_test total t lawful a d vs r h.0 cs ds os es e).test w)), each_verdict cs ds es os e w xs h.1)
 
   filter_worth : (q : Term) (cs : Terms) (ds es : List Term) (os : List Outline) (xs : List Row) → patterns_of t k cs ds ≡ Some (os, es) → Worth total t lawful a d vs (blank_row t) (blank_row_fits t) es →
-      AllByRecursion (IsRowOf t) xs → IsValue a q (table_of t xs) → IsValue a (of (top.over fun.Filter) (cons q cs)) (table_of t (filter (all_pass os) xs))
+      AllByRecursion (IsRowOf t) xs → IsValue a q (rows_table t xs) → IsValue a (of (top.over fun.Filter) (cons q cs)) (rows_table t (filter (all_pass os) xs))
   filter_worth q cs ds es os xs e w h v =
-      let Made : List Fields → Type 0 = λ rs. (us : List Data) × AreEach (IsVerdict (meanings cs)) a rs us × (table_of t (filter (all_pass os) xs) ≡ filtered_rows rs us) in
-      let made : Made (map (record_of t) xs) = (map (λ r. boolean (all_pass os r)) xs, each_verdict cs ds es os e w xs h, sym (filtered_by (all_pass os) (record_of t) xs)) in
-      (table_of t xs, v, subst Made (sym (rows_back (map (record_of t) xs))) made)
+      let Made : List Fields → Type 0 = λ rs. (us : List Data) × AreEach (IsConjunction (meanings cs)) a rs us × (rows_table t (filter (all_pass os) xs) ≡ filtered_rows rs us) in
+      let made : Made (map (record_of_row t) xs) = (map (λ r. boolean (all_pass os r)) xs, each_verdict cs ds es os e w xs h, sym (filtered_by (all_pass os) (record_of_row t) xs)) in
+      (rows_table t xs, v, subst Made (sym (rows_back (map (record_of_row t) xs))) made)
 
   -- ---- Sort
 
   abbrev keyed : ℕ → Row → Data × Fields
-  keyed i r = (cell i r, record_of t r)
+  keyed i r = (cell i r, record_of_row t r)
 
   abbrev key_before : Bool → Data × Fields → Data × Fields → Bool
   key_before down p q = is_lt (directed down p.0 q.0)
@@ -313,9 +313,9 @@ module _ (total : IsTotalOrder order) (t : TableShape) (lawful : IsLawfulTable t
         (number_rises i down x (filter h (whole sort)) (all_pass_it h (whole sort)) (rises_of (before (Some (i, down))) (filter h (whole sort)) (kept_sorted total (Some (i, down)) h (whole sort) (whole_sorted sort)))))
         (kept_sorted total None h (whole s) plain_sorted)
 
-    sort_ordered : IsOrderedBy down (map (cell i) (whole s)) (map (record_of t) (whole s)) (map (record_of t) (whole sort))
+    sort_ordered : IsOrderedBy down (map (cell i) (whole s)) (map (record_of_row t) (whole s)) (map (record_of_row t) (whole sort))
     sort_ordered =
-        let zipped = zip_pairs (cell i) (record_of t) (whole s) in
+        let zipped = zip_pairs (cell i) (record_of_row t) (whole s) in
         record {
           pairs = map (keyed i) (whole sort);
           rearranged = subst (λ (ps : List (Data × Fields)). IsPermutation ps (map (keyed i) (whole sort))) (sym zipped) (IsPermutation-map (keyed i) (whole s) (whole sort) moved);
@@ -324,23 +324,23 @@ module _ (total : IsTotalOrder order) (t : TableShape) (lawful : IsLawfulTable t
           stable = λ p.
               filter_seen (keyed i) (ties (key_before down) p) (whole sort) ∙ ap (map (keyed i)) (ties_stay p.0) ∙ sym (filter_seen (keyed i) (ties (key_before down) p) (whole s))
               ∙ ap (filter (ties (key_before down) p)) (sym zipped);
-          result = seconds (cell i) (record_of t) (whole sort);
+          result = seconds (cell i) (record_of_row t) (whole sort);
         }
 
-    sort_worth : (q f : Term) (o : SortOrder) → falls o ≡ down → plain_column t k f ≡ Some i → IsValue a q (table_of t (whole s)) →
-        IsValue a (of (top.over (fun.Sort o)) (cons q (cons f nil))) (table_of t (whole sort))
+    sort_worth : (q f : Term) (o : SortOrder) → falls o ≡ down → plain_column t k f ≡ Some i → IsValue a q (rows_table t (whole s)) →
+        IsValue a (of (top.over (fun.Sort o)) (cons q (cons f nil))) (rows_table t (whole sort))
     sort_worth q f o g e v =
-        let Found : Bool → List Fields → List Data → Option Data → Type 0 = λ b rs keys found. MatchOption found (IsTableBy b keys rs (table_of t (whole sort))) (λ (x : Data). table_of t (whole sort) ≡ x) in
+        let Found : Bool → List Fields → List Data → Option Data → Type 0 = λ b rs keys found. MatchOption found (IsTableBy b keys rs (rows_table t (whole sort))) (λ (x : Data). rows_table t (whole sort) ≡ x) in
         let Made : List Fields → Type 0 = λ rs. (keys : List Data) × AreEach (meaning f) a rs keys × Found (falls o) rs keys (find is_error keys) in
         let keys = map (cell i) (whole s) in
-        let by_keys : Found (falls o) (map (record_of t) (whole s)) keys None =
-        subst (λ (b : Bool). Found b (map (record_of t) (whole s)) keys None) (sym g) (map (record_of t) (whole sort), refl, sort_ordered) in
-        let made : Made (map (record_of t) (whole s)) = (
+        let by_keys : Found (falls o) (map (record_of_row t) (whole s)) keys None =
+        subst (λ (b : Bool). Found b (map (record_of_row t) (whole s)) keys None) (sym g) (map (record_of_row t) (whole sort), refl, sort_ordered) in
+        let made : Made (map (record_of_row t) (whole s)) = (
           keys,
           each_key t a f i lawful e (whole s) (whole_fits s),
-          subst (Found (falls o) (map (record_of t) (whole s)) keys) (sym (no_key_error t i (whole s) (whole_fits s))) by_keys,
+          subst (Found (falls o) (map (record_of_row t) (whole s)) keys) (sym (no_key_error t i (whole s) (whole_fits s))) by_keys,
         ) in
-        (table_of t (whole s), v, subst Made (sym (rows_back (map (record_of t) (whole s)))) made)
+        (rows_table t (whole s), v, subst Made (sym (rows_back (map (record_of_row t) (whole s)))) made)
 
   -- ---- query expressions
 
@@ -356,12 +356,12 @@ module _ (total : IsTotalOrder order) (t : TableShape) (lawful : IsLawfulTable t
   pub more_passes : (s : Sketch) (os : List Outline) (es : List Term) → filter (all_pass os) (whole s) ≡ whole (record s { test = all_of (outline_list (s.test ∷ os)); constants = es })
   more_passes s os es =
       filter_twice (passes s.test) (all_pass os) (in_order s.order rows)
-      ∙ filter_agree (λ r. passes s.test r && all_pass os r) (λ r. is_met (and_then (outcome (values_of r) (filled vs s.test)) (all_outcome (values_of r) (all_filled vs (outline_list os)))))
+      ∙ filter_agree (λ r. passes s.test r && all_pass os r) (λ r. is_met (and_outcome (outcome (values_of r) (filled vs s.test)) (all_outcome (values_of r) (all_filled vs (outline_list os)))))
       (λ r. sym (and_met (outcome (values_of r) (filled vs s.test)) (all_outcome (values_of r) (all_filled vs (outline_list os))))) (in_order s.order rows)
 
   -- what is known of the query expression inside
   abbrev Inside : List TableShape → Term → Sketch → Type 0
-  Inside ts q s = slice_get ts s.table ≡ Some t → a.gives (source.Table s.table) (table_of t rows) → HasConstants s.constants → IsValue a q (table_of t (whole s))
+  Inside ts q s = slice_get ts s.table ≡ Some t → a.gives (source.Table s.table) (rows_table t rows) → HasConstants s.constants → IsValue a q (rows_table t (whole s))
 
   -- a filter's sketch, from that of its rows
   pub record IsFiltered (cs : Terms) (s z : Sketch) : Type 0 where
@@ -370,11 +370,11 @@ module _ (total : IsTotalOrder order) (t : TableShape) (lawful : IsLawfulTable t
     pub pattern : patterns_of t k cs s.constants ≡ Some (outlines, extended)
     pub is : record s { test = all_of (outline_list (s.test ∷ outlines)); constants = extended } ≡ z
 
-  pub filtered_so : (ts : List TableShape) (cs : Terms) (s z : Sketch) → slice_get ts z.table ≡ Some t → filtered ts k cs s ≡ Some z → IsFiltered cs s z
+  pub filtered_so : (ts : List TableShape) (cs : Terms) (s z : Sketch) → slice_get ts z.table ≡ Some t → filter_sketch ts k cs s ≡ Some z → IsFiltered cs s z
   filtered_so ts cs s z there e =
       let With : List Outline × List Term → Sketch = λ p. record s { test = all_of (outline_list p.0); constants = p.1 } in
-      let m = some_then (λ (u : TableShape). option_map With (behind (s.test ∷ []) (patterns_of u k cs s.constants))) (slice_get ts s.table) z e in
-      let n = some_map With (behind (s.test ∷ []) (patterns_of m.0 k cs s.constants)) z m.2 in
+      let m = some_then (λ (u : TableShape). option_map With (patterns_behind (s.test ∷ []) (patterns_of u k cs s.constants))) (slice_get ts s.table) z e in
+      let n = some_map With (patterns_behind (s.test ∷ []) (patterns_of m.0 k cs s.constants)) z m.2 in
       let b = some_map (in_front s.test) (patterns_of m.0 k cs s.constants) n.0 n.1 in
       let is : With (s.test ∷ b.0.0, b.0.1) ≡ z = ap With b.2 ∙ n.2 in
       let own : slice_get ts s.table ≡ Some t = ap (λ (x : Sketch). slice_get ts x.table) is ∙ there in
@@ -384,11 +384,11 @@ module _ (total : IsTotalOrder order) (t : TableShape) (lawful : IsLawfulTable t
   -- what is known of the rows that are filtered
   pub record IsReady (ts : List TableShape) (cs : Terms) (s z : Sketch) (f : IsFiltered cs s z) : Type 0 where
     pub there : slice_get ts s.table ≡ Some t
-    pub gives : a.gives (source.Table s.table) (table_of t rows)
+    pub gives : a.gives (source.Table s.table) (rows_table t rows)
     pub constants : HasConstants s.constants
     pub kept : HasConstants f.extended
 
-  pub filter_ready : (ts : List TableShape) (cs : Terms) (s z : Sketch) (f : IsFiltered cs s z) → slice_get ts z.table ≡ Some t → a.gives (source.Table z.table) (table_of t rows) → HasConstants z.constants →
+  pub filter_ready : (ts : List TableShape) (cs : Terms) (s z : Sketch) (f : IsFiltered cs s z) → slice_get ts z.table ≡ Some t → a.gives (source.Table z.table) (rows_table t rows) → HasConstants z.constants →
       IsReady ts cs s z f
   filter_ready ts cs s z f there gives w =
       let table : s.table ≡ z.table = ap (λ (x : Sketch). x.table) f.is in
@@ -396,7 +396,7 @@ module _ (total : IsTotalOrder order) (t : TableShape) (lawful : IsLawfulTable t
       let tests = patterns_test total t lawful a d vs (blank_row t) (blank_row_fits t) cs s.constants f.outlines f.extended f.pattern in
       record {
         there = ap (slice_get ts) table ∙ there;
-        gives = subst (λ (x : ℕ). a.gives (source.Table x) (table_of t rows)) (sym table) gives;
+        gives = subst (λ (x : ℕ). a.gives (source.Table x) (rows_table t rows)) (sym table) gives;
         constants = λ i c g. kept i c (tests.grows i c g);
         kept = kept;
       }
@@ -404,11 +404,11 @@ module _ (total : IsTotalOrder order) (t : TableShape) (lawful : IsLawfulTable t
   pub whole_filtered : (cs : Terms) (s z : Sketch) (f : IsFiltered cs s z) → filter (all_pass f.outlines) (whole s) ≡ whole z
   whole_filtered cs s z f = more_passes s f.outlines f.extended ∙ ap whole f.is
 
-  filter_step : (ts : List TableShape) (q : Term) (cs : Terms) (s z : Sketch) → Inside ts q s → filtered ts k cs s ≡ Some z → Inside ts (of (top.over fun.Filter) (cons q cs)) z
+  filter_step : (ts : List TableShape) (q : Term) (cs : Terms) (s z : Sketch) → Inside ts q s → filter_sketch ts k cs s ≡ Some z → Inside ts (of (top.over fun.Filter) (cons q cs)) z
   filter_step ts q cs s z inner e there gives w =
       let f = filtered_so ts cs s z there e in
       let r = filter_ready ts cs s z f there gives w in
-      subst (λ (xs : List Row). IsValue a (of (top.over fun.Filter) (cons q cs)) (table_of t xs)) (whole_filtered cs s z f)
+      subst (λ (xs : List Row). IsValue a (of (top.over fun.Filter) (cons q cs)) (rows_table t xs)) (whole_filtered cs s z f)
       (filter_worth q cs s.constants f.extended f.outlines (whole s) f.pattern r.kept (whole_fits s) (inner r.there r.gives r.constants))
 
   no_order : (o : Option (ℕ × Bool)) → is_some o ≡ false → o ≡ None
@@ -423,7 +423,7 @@ module _ (total : IsTotalOrder order) (t : TableShape) (lawful : IsLawfulTable t
       With : ℕ → Sketch
       With i = record s { order = Some (i, is_falling o) }
 
-      by : (b : Bool) → is_some s.order ≡ b → (if b then None else sorted_by ts k o f s) ≡ Some z → IsValue a (of (top.over (fun.Sort o)) (cons q (cons f nil))) (table_of t (whole z))
+      by : (b : Bool) → is_some s.order ≡ b → (if b then None else sorted_by ts k o f s) ≡ Some z → IsValue a (of (top.over (fun.Sort o)) (cons q (cons f nil))) (rows_table t (whole z))
       by true x r = absurd cc
       by false x r =
           let m = some_then (λ (u : TableShape). option_map With (plain_column u k f)) (slice_get ts s.table) z r in
@@ -433,18 +433,18 @@ module _ (total : IsTotalOrder order) (t : TableShape) (lawful : IsLawfulTable t
           let same : m.0 ≡ t = same_Some m.0 t (sym m.1 ∙ own) in
           let column : plain_column t k f ≡ Some n.0 = subst (λ (u : TableShape). plain_column u k f ≡ Some n.0) same n.1 in
           let kept : HasConstants s.constants = subst HasConstants (sym (ap (λ (y : Sketch). y.constants) n.2)) w in
-          let before_it = inner own (subst (λ (y : ℕ). a.gives (source.Table y) (table_of t rows)) (sym table) gives) kept in
-          subst (λ (y : Sketch). IsValue a (of (top.over (fun.Sort o)) (cons q (cons f nil))) (table_of t (whole y))) n.2
+          let before_it = inner own (subst (λ (y : ℕ). a.gives (source.Table y) (rows_table t rows)) (sym table) gives) kept in
+          subst (λ (y : Sketch). IsValue a (of (top.over (fun.Sort o)) (cons q (cons f nil))) (rows_table t (whole y))) n.2
           (sort_worth s (no_order s.order x) n.0 (is_falling o) q f o (sym (same_falls o)) column before_it)
 
   pub query_worth : (ts : List TableShape) (q : Term) (s : Sketch) → sketch_of ts k q ≡ Some s → Inside ts q s
   query_worth ts (of (top.read (source.Table n)) nil) s e there gives w =
       let m = some_map (λ (u : TableShape). record { table = n; test = always; order = None; constants = [] }) (slice_get ts n) s e in
       let is : n ≡ s.table = ap (λ (x : Sketch). x.table) m.2 in
-      subst (λ (xs : List Row). a.gives (source.Table n) (table_of t xs)) (sym (table_worth s (sym (ap (λ (x : Sketch). x.test) m.2)) (sym (ap (λ (x : Sketch). x.order) m.2))))
-      (subst (λ (x : ℕ). a.gives (source.Table x) (table_of t rows)) (sym is) gives)
+      subst (λ (xs : List Row). a.gives (source.Table n) (rows_table t xs)) (sym (table_worth s (sym (ap (λ (x : Sketch). x.test) m.2)) (sym (ap (λ (x : Sketch). x.order) m.2))))
+      (subst (λ (x : ℕ). a.gives (source.Table x) (rows_table t rows)) (sym is) gives)
   query_worth ts (of (top.over fun.Filter) (cons q cs)) s e there gives w =
-      let m = some_then (filtered ts k cs) (sketch_of ts k q) s e in
+      let m = some_then (filter_sketch ts k cs) (sketch_of ts k q) s e in
       filter_step ts q cs m.0 s (query_worth ts q m.0 m.1) m.2 there gives w
   query_worth ts (of (top.over (fun.Sort o)) (cons q cs)) s e there gives w =
       let m = some_then (sorted ts k o cs) (sketch_of ts k q) s e in
@@ -467,15 +467,15 @@ pub fit_rows : (t : TableShape) (rows : List Row) → AreHeldRows t rows → All
 fit_rows t rows held = also_all (IsHeldRow t) (IsRowOf t) (λ r h. h.0) rows (recursion_from_All (IsHeldRow t) rows held.1)
 
 -- the rows of a planned query's expression
-abbrev pub whole_of : IsTotalOrder order → (a : Setting) (ts : List TableShape) (t : TableShape) (q : Term) (s : Sketch) (take : Option ℕ) (query : Query) (rows : List Row) → IsPlanned a ts t q s take query rows → List Row
-whole_of total a ts t q s take query rows p = whole total t p.lawful (around a) p.place p.constants rows p.held.0 (fit_rows t rows p.held) p.faultless s
+abbrev pub whole_of : IsTotalOrder order → (a : EvalSetting) (ts : List TableShape) (t : TableShape) (q : Term) (s : Sketch) (take : Option ℕ) (query : Query) (rows : List Row) → IsPlanned a ts t q s take query rows → List Row
+whole_of total a ts t q s take query rows p = whole total t p.lawful (setting_around a) p.place p.constants rows p.held.0 (fit_rows t rows p.held) p.faultless s
 
-pub whole_worth : (total : IsTotalOrder order) (a : Setting) (ts : List TableShape) (t : TableShape) (q : Term) (s : Sketch) (take : Option ℕ) (query : Query) (rows : List Row) → (p : IsPlanned a ts t q s take query rows) →
-    IsValue (around a) q (table_of t (whole_of total a ts t q s take query rows p))
+pub whole_worth : (total : IsTotalOrder order) (a : EvalSetting) (ts : List TableShape) (t : TableShape) (q : Term) (s : Sketch) (take : Option ℕ) (query : Query) (rows : List Row) → (p : IsPlanned a ts t q s take query rows) →
+    IsValue (setting_around a) q (rows_table t (whole_of total a ts t q s take query rows p))
 whole_worth total a ts t q s take query rows p =
-    query_worth total t p.lawful (around a) p.place p.constants rows p.held.0 (fit_rows t rows p.held) p.faultless ts q s p.sketched p.is_table p.gives (values_worth (inside (around a) p.place) s.constants p.constants p.values)
+    query_worth total t p.lawful (setting_around a) p.place p.constants rows p.held.0 (fit_rows t rows p.held) p.faultless ts q s p.sketched p.is_table p.gives (values_worth (inside (setting_around a) p.place) s.constants p.constants p.values)
 
-module _ (total : IsTotalOrder order) (a : Setting) (ts : List TableShape) (t : TableShape) (q : Term) (s : Sketch) (take : Option ℕ) (query : Query) (rows asked : List Row) (p : IsPlanned a ts t q s take query rows) (asks : AreAsked query rows asked) where
+module _ (total : IsTotalOrder order) (a : EvalSetting) (ts : List TableShape) (t : TableShape) (q : Term) (s : Sketch) (take : Option ℕ) (query : Query) (rows asked : List Row) (p : IsPlanned a ts t q s take query rows) (asks : AreAsked query rows asked) where
   abbrev passing_test : Row → Bool
   passing_test r = is_met (outcome (values_of r) (filled p.constants s.test))
 
@@ -504,8 +504,8 @@ module _ (total : IsTotalOrder order) (a : Setting) (ts : List TableShape) (t : 
   same_list : filter passing_test asked ≡ whole_of total a ts t q s take query rows p
   same_list =
       same_rows total s.order rows (filter passing_test asked) (whole_of total a ts t q s take query rows p) passing_test asked_holds
-      (whole_holds total t p.lawful (around a) p.place p.constants rows p.held.0 (fit_rows t rows p.held) p.faultless s) (kept_sorted total s.order passing_test asked asked_sorted)
-      (whole_sorted total t p.lawful (around a) p.place p.constants rows p.held.0 (fit_rows t rows p.held) p.faultless s)
+      (whole_holds total t p.lawful (setting_around a) p.place p.constants rows p.held.0 (fit_rows t rows p.held) p.faultless s) (kept_sorted total s.order passing_test asked asked_sorted)
+      (whole_sorted total t p.lawful (setting_around a) p.place p.constants rows p.held.0 (fit_rows t rows p.held) p.faultless s)
 
   pub given_whole : given_of query asked ≡ first_of take (whole_of total a ts t q s take query rows p)
   given_whole =
@@ -521,14 +521,14 @@ module _ (total : IsTotalOrder order) (a : Setting) (ts : List TableShape) (t : 
   all_outcomes [] h = tt
   all_outcomes (r ∷ xs) h = (subst (λ (c : Condition). IsSound (outcome (values_of r) c)) (sym p.plan.test) (filled_sound t p.constants r p.faultless h.0 s.test), all_outcomes xs h.1)
 
-  pub none_fails : first_fault (map (outcome_on query) asked) ≡ None
+  pub none_fails : first_outcome_fault (map (outcome_on query) asked) ≡ None
   none_fails = none_failed (map (outcome_on query) asked) (all_outcomes asked asked_fit)
 
 pub plans_are_whole : IsTotalOrder order → PlansAreWhole
 plans_are_whole total a ts t q s take query rows asked p asks = record {
   whole = whole_of total a ts t q s take query rows p;
   is_whole = whole_worth total a ts t q s take query rows p;
-  fit = All-from_recursion (IsRowOf t) (whole_of total a ts t q s take query rows p) (whole_fits total t p.lawful (around a) p.place p.constants rows p.held.0 (fit_rows t rows p.held) p.faultless s);
+  fit = All-from_recursion (IsRowOf t) (whole_of total a ts t q s take query rows p) (whole_fits total t p.lawful (setting_around a) p.place p.constants rows p.held.0 (fit_rows t rows p.held) p.faultless s);
   given = given_whole total a ts t q s take query rows asked p asks;
   sound = none_fails total a ts t q s take query rows asked p asks;
 }

@@ -10,7 +10,7 @@ use Rattle.fx_core.specs.Term.{Term, Terms, of, nil, cons, Top}
 use Rattle.fx_core.specs.Term as top
 use Rattle.fx_plan.specs.declared.plans.Sketch.{Sketch}
 use Rattle.fx_plan.specs.QueryExpressions.{sketch_of}
-use Rattle.fx_plan.specs.Sites.{count_of, deeper, is_first, is_query, opens, takes_whole}
+use Rattle.fx_plan.specs.Sites.{terms_count, deeper, is_first, is_query, opens_row_scope, takes_whole}
 use Rattle.fx_semantics.specs.Around.{Around}
 use Rattle.fx_semantics.specs.Fresh.{IsValue}
 use Rattle.fx_semantics.specs.Rows.{table_of}
@@ -18,11 +18,11 @@ use Rattle.fx_value.specs.Columns.{Row as Fields}
 use Rattle.fx_typing.specs.Acts.{acts}
 use Rattle.fx_typing.specs.WellTyped.{Context}
 use Rattle.fx_plan.specs.Constants.{HasType, ReadsTables}
-use Rattle.fx_plan.specs.Settings.{Setting, around}
+use Rattle.fx_plan.specs.Settings.{EvalSetting, setting_around}
 
 -- the first so many rows of a table: an error stays an error
-abbrev pub first_rows : ℕ → Term → Term
-first_rows n t = of (top.over fun.FirstN) (cons t (cons (of (top.const (number (pos (n * 10000)))) nil) nil))
+abbrev pub first_rows_of : ℕ → Term → Term
+first_rows_of n t = of (top.over fun.FirstN) (cons t (cons (of (top.const (number (pos (n * 10000)))) nil) nil))
 
 -- whether a node takes the whole of its first part: it is a larger query expression itself, or one of those functions
 abbrev pub takes_first_whole : List TableShape → ℕ → Term → Bool
@@ -32,13 +32,13 @@ abbrev mutual
   -- a tree that stands under k scopes, in which each largest query expression that isn't taken whole is its first n rows
   pub limited : List TableShape → ℕ → ℕ → Bool → Term → Term
   limited ts n k whole (of h cs) =
-      if is_query ts k (of h cs) && not whole then first_rows n (of h (parts_limited ts n k h (count_of cs) (takes_first_whole ts k (of h cs)) 0 cs))
-      else of h (parts_limited ts n k h (count_of cs) (takes_first_whole ts k (of h cs)) 0 cs)
+      if is_query ts k (of h cs) && not whole then first_rows_of n (of h (parts_limited ts n k h (terms_count cs) (takes_first_whole ts k (of h cs)) 0 cs))
+      else of h (parts_limited ts n k h (terms_count cs) (takes_first_whole ts k (of h cs)) 0 cs)
 
   -- the parts of a head from a place on, of which there are so many, each under its scopes; the first may be taken whole
   pub parts_limited : List TableShape → ℕ → ℕ → Top → ℕ → Bool → ℕ → Terms → Terms
   parts_limited ts n k h m whole i nil = nil
-  parts_limited ts n k h m whole i (cons c cs) = cons (limited ts n (deeper (opens h m i) k) (whole && is_first i) c) (parts_limited ts n k h m whole (suc i) cs)
+  parts_limited ts n k h m whole i (cons c cs) = cons (limited ts n (deeper (opens_row_scope h m i) k) (whole && is_first i) c) (parts_limited ts n k h m whole (suc i) cs)
 
 -- THE value of a formula over these tables, where queries that aren't taken whole give so many rows
 abbrev pub IsTakenValue : List TableShape → ℕ → Around → Term → Data → Type 0
@@ -68,5 +68,5 @@ LimitedTypes =
 -- a law: of a table these are its first so many rows, and of an error the error
 abbrev pub FirstRowsAre : Type 0
 FirstRowsAre =
-    (s : Setting) (n : ℕ) (t : Term) → ((rows : List Fields) → IsValue (around s) t (table_of rows) → IsValue (around s) (first_rows n t) (table_of (take n rows)))
-    × ((k : Kind) (cs : List ℕ) → IsValue (around s) t (fault k cs) → IsValue (around s) (first_rows n t) (fault k cs))
+    (s : EvalSetting) (n : ℕ) (t : Term) → ((rows : List Fields) → IsValue (setting_around s) t (table_of rows) → IsValue (setting_around s) (first_rows_of n t) (table_of (take n rows)))
+    × ((k : Kind) (cs : List ℕ) → IsValue (setting_around s) t (fault k cs) → IsValue (setting_around s) (first_rows_of n t) (fault k cs))

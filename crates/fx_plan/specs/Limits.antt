@@ -2,14 +2,14 @@
 use Rattle.std.specs.Prelude.{ℕ, suc, false, List, [], ◌∷◌}
 use Rattle.fx_plan.specs.declared.site_list.Scoped.{Scoped}
 use Rattle.fx_plan.specs.SitePlaces.{is_scoped}
-use Rattle.fx_plan.specs.Sites.{count_of, deeper}
+use Rattle.fx_plan.specs.Sites.{terms_count, deeper}
 use Rattle.fx_core.specs.declared.schema.TableShape.{TableShape}
 use Rattle.fx_core.specs.Term.{Term, of}
 use Rattle.fx_plan.specs.Limited.{limited, parts_limited, takes_first_whole}
 
 -- a tree that stays itself, with its parts limited
 abbrev pub with_limited_parts : List TableShape → ℕ → ℕ → Term → Term
-with_limited_parts ts n k (of h cs) = of h (parts_limited ts n k h (count_of cs) (takes_first_whole ts k (of h cs)) 0 cs)
+with_limited_parts ts n k (of h cs) = of h (parts_limited ts n k h (terms_count cs) (takes_first_whole ts k (of h cs)) 0 cs)
 
 -- under how many scopes a part stands
 abbrev pub depth_at : Scoped → ℕ → ℕ → ℕ

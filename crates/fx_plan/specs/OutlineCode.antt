@@ -6,7 +6,7 @@ use base.Stored.{Gv, gnil, gnum, gcons}
 use Rattle.fx_types.specs.contracts.comparisons.Cmp.{the_row as cmp_row}
 use Rattle.fx_plan.specs.Outlines.{Outline, OutlineList, always, flag, constant, compares, is_blank, starts, contains, all_of, any_of, opposite, no_outlines, with}
 use Rattle.fx_core.specs.TermCode.{front, back}
-use Rattle.row_queries.specs.ConditionCode.{count}
+use Rattle.row_queries.specs.ConditionCode.{gv_count}
 
 abbrev mutual
   of_outline : Outline → Gv
@@ -28,13 +28,13 @@ abbrev mutual
 mutual
   pub same : (a b : Outline) → of_outline a ≡ of_outline b → a ≡ b
   same always always p = refl
-  same (flag k) (flag m) p = λ i. flag (count (back (p i)))
-  same (constant k) (constant m) p = λ i. constant (count (back (p i)))
+  same (flag k) (flag m) p = λ i. flag (gv_count (back (p i)))
+  same (constant k) (constant m) p = λ i. constant (gv_count (back (p i)))
   same (compares f k d) (compares g m e) p =
-      λ i. compares (cmp_row.coded.inj f g (λ j. front (back (p j))) i) (count (front (back (back (p i))))) (count (back (back (back (p i)))))
-  same (is_blank k) (is_blank m) p = λ i. is_blank (count (back (p i)))
-  same (starts k d) (starts m e) p = λ i. starts (count (front (back (p i)))) (count (back (back (p i))))
-  same (contains k d) (contains m e) p = λ i. contains (count (front (back (p i)))) (count (back (back (p i))))
+      λ i. compares (cmp_row.coded.inj f g (λ j. front (back (p j))) i) (gv_count (front (back (back (p i))))) (gv_count (back (back (back (p i)))))
+  same (is_blank k) (is_blank m) p = λ i. is_blank (gv_count (back (p i)))
+  same (starts k d) (starts m e) p = λ i. starts (gv_count (front (back (p i)))) (gv_count (back (back (p i))))
+  same (contains k d) (contains m e) p = λ i. contains (gv_count (front (back (p i)))) (gv_count (back (back (p i))))
   same (all_of cs) (all_of ds) p = ap all_of (same_list cs ds (ap back p))
   same (any_of cs) (any_of ds) p = ap any_of (same_list cs ds (ap back p))
   same (opposite c) (opposite d) p = ap opposite (same c d (ap back p))

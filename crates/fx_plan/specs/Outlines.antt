@@ -50,19 +50,19 @@ abbrev pub outlines_size : List Outline → ℕ
 outlines_size os = list_size (outline_list os)
 
 -- the constant at a place
-abbrev pub value_at : List Data → ℕ → Data
-value_at ds i = unwrap_or (slice_get ds i) blank
+abbrev pub constant_at : List Data → ℕ → Data
+constant_at ds i = unwrap_or (slice_get ds i) blank
 
 -- a test with these constants in their places
 abbrev mutual
   pub filled : List Data → Outline → Condition
   filled ds always = test.always
   filled ds (flag k) = test.flag k
-  filled ds (constant i) = test.constant (value_at ds i)
-  filled ds (compares op k i) = test.compares op k (value_at ds i)
+  filled ds (constant i) = test.constant (constant_at ds i)
+  filled ds (compares op k i) = test.compares op k (constant_at ds i)
   filled ds (is_blank k) = test.is_blank k
-  filled ds (starts k i) = test.starts k (value_at ds i)
-  filled ds (contains k i) = test.contains k (value_at ds i)
+  filled ds (starts k i) = test.starts k (constant_at ds i)
+  filled ds (contains k i) = test.contains k (constant_at ds i)
   filled ds (all_of os) = test.all_of (all_filled ds os)
   filled ds (any_of os) = test.any_of (all_filled ds os)
   filled ds (opposite o) = test.opposite (filled ds o)

@@ -43,8 +43,8 @@ abbrev mutual
 -- ---- columns
 
 -- the column of a name, by its number: `ID` is column 0
-abbrev pub column_named : TableShape → List ℕ → Option ℕ
-column_named t n = if bytes_eq n id_name then Some 0 else option_map suc (position (λ (c : Column). bytes_eq c.name n) t.columns)
+abbrev pub column_number : TableShape → List ℕ → Option ℕ
+column_number t n = if bytes_eq n id_name then Some 0 else option_map suc (position (λ (c : Column). bytes_eq c.name n) t.columns)
 
 -- the row of scope k
 abbrev pub is_row : ℕ → Term → Bool
@@ -53,7 +53,7 @@ is_row k c = false
 
 -- a column of that row, on its own
 abbrev pub plain_column : TableShape → ℕ → Term → Option ℕ
-plain_column t k (of (top.dot n) (cons c nil)) = if is_row k c then column_named t n else None
+plain_column t k (of (top.dot n) (cons c nil)) = if is_row k c then column_number t n else None
 plain_column t k c = None
 
 -- values of a column are of this type
@@ -94,13 +94,13 @@ comparison_by fun.GreaterEqualDates = Some (Ge, Date)
 comparison_by f = None
 
 -- a comparison with its sides changed over
-abbrev pub turned : Cmp → Cmp
-turned Eq = Eq
-turned Ne = Ne
-turned Lt = Gt
-turned Le = Ge
-turned Gt = Lt
-turned Ge = Le
+abbrev pub flipped : Cmp → Cmp
+flipped Eq = Eq
+flipped Ne = Ne
+flipped Lt = Gt
+flipped Le = Ge
+flipped Gt = Lt
+flipped Ge = Le
 
 -- a thing along with the constants so far
 abbrev pub along : {A : Type 0} → List Term → Option A → Option (A × List Term)
@@ -119,9 +119,9 @@ abbrev pub compared_with : TableShape → ℕ → Cmp → Scalar → Term → Te
 compared_with t k op s a b ds = option_map (λ i. with_constant (compares op i) b ds) (beside t k s a b)
 
 -- the same, the constant standing on either side
-abbrev pub compared : TableShape → ℕ → Option (Cmp × Scalar) → Term → Term → List Term → Option (Outline × List Term)
-compared t k None a b ds = None
-compared t k (Some c) a b ds = if is_constant k b then compared_with t k c.0 c.1 a b ds else compared_with t k (turned c.0) c.1 b a ds
+abbrev pub comparison_pattern : TableShape → ℕ → Option (Cmp × Scalar) → Term → Term → List Term → Option (Outline × List Term)
+comparison_pattern t k None a b ds = None
+comparison_pattern t k (Some c) a b ds = if is_constant k b then compared_with t k c.0 c.1 a b ds else compared_with t k (flipped c.0) c.1 b a ds
 
 -- a call of a column, and of a column and a constant
 abbrev pub called_with_one : TableShape → ℕ → Fun → Term → List Term → Option (Outline × List Term)
@@ -131,12 +131,12 @@ called_with_one t k f a ds = None
 abbrev pub called_with_two : TableShape → ℕ → Fun → Term → Term → List Term → Option (Outline × List Term)
 called_with_two t k fun.StartsWith a b ds = option_map (λ i. with_constant (starts i) b ds) (beside t k Text a b)
 called_with_two t k fun.In a b ds = option_map (λ i. with_constant (contains i) a ds) (beside t k Text b a)
-called_with_two t k f a b ds = compared t k (comparison_by f) a b ds
+called_with_two t k f a b ds = comparison_pattern t k (comparison_by f) a b ds
 
-abbrev pub called : TableShape → ℕ → Fun → Terms → List Term → Option (Outline × List Term)
-called t k f (cons a nil) ds = called_with_one t k f a ds
-called t k f (cons a (cons b nil)) ds = called_with_two t k f a b ds
-called t k f cs ds = None
+abbrev pub call_pattern : TableShape → ℕ → Fun → Terms → List Term → Option (Outline × List Term)
+call_pattern t k f (cons a nil) ds = called_with_one t k f a ds
+call_pattern t k f (cons a (cons b nil)) ds = called_with_two t k f a b ds
+call_pattern t k f cs ds = None
 
 -- the one part that is negated
 abbrev pub negated : List Outline × List Term → Option (Outline × List Term)
@@ -148,7 +148,7 @@ abbrev pub pattern_by : TableShape → ℕ → Top → Terms → List Term → O
 pattern_by t k (top.form form.All) cs ds parts = option_map (λ p. (all_of (outline_list p.0), p.1)) parts
 pattern_by t k (top.form form.Any) cs ds parts = option_map (λ p. (any_of (outline_list p.0), p.1)) parts
 pattern_by t k (top.call fun.Not) cs ds parts = option_and_then negated parts
-pattern_by t k (top.call f) cs ds parts = called t k f cs ds
+pattern_by t k (top.call f) cs ds parts = call_pattern t k f cs ds
 pattern_by t k (top.dot n) cs ds parts = along ds (option_map flag (column_of t k Boolean (of (top.dot n) cs)))
 pattern_by t k h cs ds parts = None
 
@@ -166,8 +166,8 @@ abbrev mutual
       option_and_then (λ p. option_map (λ q. (p.0 ∷ q.0, q.1)) (patterns_of t k cs p.1)) (pattern_of t k c ds)
 
 -- patterns behind others
-abbrev pub behind : List Outline → Option (List Outline × List Term) → Option (List Outline × List Term)
-behind front r = option_map (λ p. (front ++ p.0, p.1)) r
+abbrev pub patterns_behind : List Outline → Option (List Outline × List Term) → Option (List Outline × List Term)
+patterns_behind front r = option_map (λ p. (front ++ p.0, p.1)) r
 
 -- ---- query expressions
 
@@ -176,13 +176,13 @@ is_falling Ascending = false
 is_falling Descending = true
 
 -- a table: all of its rows
-abbrev pub whole_table : List TableShape → ℕ → Option Sketch
-whole_table ts n = option_map (λ (t : TableShape). record { table = n; test = always; order = None; constants = [] }) (slice_get ts n)
+abbrev pub table_sketch : List TableShape → ℕ → Option Sketch
+table_sketch ts n = option_map (λ (t : TableShape). record { table = n; test = always; order = None; constants = [] }) (slice_get ts n)
 
 -- `Filter`: the rows that meet all conditions besides
-abbrev pub filtered : List TableShape → ℕ → Terms → Sketch → Option Sketch
-filtered ts k cs s =
-    option_and_then (λ (t : TableShape). option_map (λ (p : List Outline × List Term). record s { test = all_of (outline_list p.0); constants = p.1 }) (behind (s.test ∷ []) (patterns_of t k cs s.constants))) (slice_get ts s.table)
+abbrev pub filter_sketch : List TableShape → ℕ → Terms → Sketch → Option Sketch
+filter_sketch ts k cs s =
+    option_and_then (λ (t : TableShape). option_map (λ (p : List Outline × List Term). record s { test = all_of (outline_list p.0); constants = p.1 }) (patterns_behind (s.test ∷ []) (patterns_of t k cs s.constants))) (slice_get ts s.table)
 
 -- `Sort`: rows that have no order yet, in the order of a plain column
 abbrev pub sorted_by : List TableShape → ℕ → SortOrder → Term → Sketch → Option Sketch
@@ -195,7 +195,7 @@ sorted ts k o cs s = None
 
 -- THE sketch of a query expression over these tables, under so many scopes; none where the tree is no query expression
 abbrev pub sketch_of : List TableShape → ℕ → Term → Option Sketch
-sketch_of ts k (of (top.read (source.Table n)) nil) = whole_table ts n
-sketch_of ts k (of (top.over fun.Filter) (cons q cs)) = option_and_then (filtered ts k cs) (sketch_of ts k q)
+sketch_of ts k (of (top.read (source.Table n)) nil) = table_sketch ts n
+sketch_of ts k (of (top.over fun.Filter) (cons q cs)) = option_and_then (filter_sketch ts k cs) (sketch_of ts k q)
 sketch_of ts k (of (top.over (fun.Sort o)) (cons q cs)) = option_and_then (sorted ts k o cs) (sketch_of ts k q)
 sketch_of ts k c = None

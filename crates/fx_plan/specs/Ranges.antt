@@ -104,14 +104,14 @@ Compares op dates = Unit {0}
 Compares op t = ⊥
 
 -- a comparison that columns of a type take, with a constant that is no error
-pub record IsTaken (t : Shape) (p : Comparison) : Type 0 where
+pub record ColumnTakes (t : Shape) (p : Comparison) : Type 0 where
   pub operator : Compares p.0 t
   pub scalar : IsScalar p.1
   pub fits : fits_in p.1 t ≡ true
 
 abbrev pub AllTaken : Shape → List Comparison → Type 0
 AllTaken t [] = Unit {0}
-AllTaken t (p ∷ ps) = IsTaken t p × AllTaken t ps
+AllTaken t (p ∷ ps) = ColumnTakes t p × AllTaken t ps
 
 -- each column takes the comparisons among the conjuncts
 abbrev pub TakesComparisons : TableShape → Condition → Type 0

@@ -8,12 +8,12 @@ use Rattle.fx_semantics.specs.Around.{Around}
 use Rattle.fx_semantics.specs.Sources.{Gives}
 
 -- the type of each source that may be read, the value of each where it is told, and what is around
-pub record Setting : Type 0 where
+pub record EvalSetting : Type 0 where
   pub types : Source → Option Shape
   pub told : Option (Source → Data)
   pub rows : List Data
   pub item : Option Data
   pub caught : Option Fault
 
-abbrev pub around : Setting → Around
-around s = record { gives = Gives s.types s.told; rows = s.rows; item = s.item; caught = s.caught }
+abbrev pub setting_around : EvalSetting → Around
+setting_around s = record { gives = Gives s.types s.told; rows = s.rows; item = s.item; caught = s.caught }

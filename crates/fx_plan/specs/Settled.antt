@@ -6,9 +6,9 @@ use Rattle.fx_types.specs.Values.{Data}
 use Rattle.fx_plan.specs.declared.plans.Sketch.{Sketch}
 use Rattle.fx_plan.specs.Constants.{HasType, ReadsTables, in_row}
 use Rattle.fx_plan.specs.Consumers.{over_query}
-use Rattle.fx_plan.specs.Outlines.{value_at}
+use Rattle.fx_plan.specs.Outlines.{constant_at}
 use Rattle.fx_plan.specs.QueryExpressions.{is_constant, sketch_of}
-use Rattle.fx_plan.specs.Settings.{Setting, around}
+use Rattle.fx_plan.specs.Settings.{EvalSetting, setting_around}
 use Rattle.fx_semantics.specs.Around.{AreValues, inside}
 use Rattle.fx_semantics.specs.Fresh.{IsValue, meanings}
 use Rattle.fx_core.specs.declared.functions.Form.TheVariants as form
@@ -25,24 +25,24 @@ abbrev pub as_value : Data → Term
 as_value d = of (top.const d) nil
 
 -- parts under a head, and the place of the next constant
-abbrev pub under : Top → Terms × ℕ → Term × ℕ
-under h p = (of h p.0, p.1)
+abbrev pub under_head : Top → Terms × ℕ → Term × ℕ
+under_head h p = (of h p.0, p.1)
 
 abbrev pub in_front : Term → Terms × ℕ → Terms × ℕ
 in_front c p = (cons c p.0, p.1)
 
 -- by its head: what joins conditions or is made of one settles its parts, and a column stays
 abbrev pub by_head : Top → Terms → ℕ → Terms × ℕ → Term × ℕ
-by_head (top.form form.All) cs n p = under (top.form form.All) p
-by_head (top.form form.Any) cs n p = under (top.form form.Any) p
-by_head (top.call f) cs n p = under (top.call f) p
+by_head (top.form form.All) cs n p = under_head (top.form form.All) p
+by_head (top.form form.Any) cs n p = under_head (top.form form.Any) p
+by_head (top.call f) cs n p = under_head (top.call f) p
 by_head h cs n p = (of h cs, n)
 
 abbrev mutual
   -- a condition on the row of scope k, whose first constant is the one at this place among these, and the place of the
   -- next
   pub condition_settled : ℕ → List Data → Term → ℕ → Term × ℕ
-  condition_settled k ds (of h cs) n = if is_constant k (of h cs) then (as_value (value_at ds n), suc n) else by_head h cs n (conditions_settled k ds cs n)
+  condition_settled k ds (of h cs) n = if is_constant k (of h cs) then (as_value (constant_at ds n), suc n) else by_head h cs n (conditions_settled k ds cs n)
 
   pub conditions_settled : ℕ → List Data → Terms → ℕ → Terms × ℕ
   conditions_settled k ds nil n = (nil, n)
@@ -72,24 +72,24 @@ with_first k ds (c ∷ cs) n = (condition_settled k ds c n).0 ∷ cs
 -- ---- laws
 
 -- the constants have these values, in whatever stands in the row's place
-abbrev pub HaveValues : Setting → Sketch → List Data → Type 0
-HaveValues a s ds = (place : Data) × AreValues (meanings (all s.constants)) (inside (around a) place) ds
+abbrev pub HaveValues : EvalSetting → Sketch → List Data → Type 0
+HaveValues a s ds = (place : Data) × AreValues (meanings (all s.constants)) (inside (setting_around a) place) ds
 
 -- then, what the settled query expression is worth, it is worth itself
 abbrev pub SettledAreWorth : Type 0
 SettledAreWorth =
-    (a : Setting) (ts : List TableShape) (q : Term) (s : Sketch) (ds : List Data) (v : Data) → sketch_of ts (length a.rows) q ≡ Some s →
-    HaveValues a s ds → IsValue (around a) (query_settled (length a.rows) ds q).0 v → IsValue (around a) q v
+    (a : EvalSetting) (ts : List TableShape) (q : Term) (s : Sketch) (ds : List Data) (v : Data) → sketch_of ts (length a.rows) q ≡ Some s →
+    HaveValues a s ds → IsValue (setting_around a) (query_settled (length a.rows) ds q).0 v → IsValue (setting_around a) q v
 
 -- so is what `LookUp` is worth, the rows of which are those of one more filter
 abbrev pub SearchesAreWorth : Type 0
 SearchesAreWorth =
-    (a : Setting) (ts : List TableShape) (q c : Term) (cs : Terms) (s : Sketch) (ds : List Data) (v : Data) → sketch_of ts (length a.rows) (over_query fun.Filter q (cons c nil)) ≡ Some s →
-    HaveValues a s ds → IsValue (around a) (search_settled (length a.rows) ds (over_query fun.LookUp q (cons c cs))) v → IsValue (around a) (over_query fun.LookUp q (cons c cs)) v
+    (a : EvalSetting) (ts : List TableShape) (q c : Term) (cs : Terms) (s : Sketch) (ds : List Data) (v : Data) → sketch_of ts (length a.rows) (over_query fun.Filter q (cons c nil)) ≡ Some s →
+    HaveValues a s ds → IsValue (setting_around a) (search_settled (length a.rows) ds (over_query fun.LookUp q (cons c cs))) v → IsValue (setting_around a) (over_query fun.LookUp q (cons c cs)) v
 
 -- the values of constants fit the types that these have in the scope of a row
 abbrev pub AreFitting : Context → TableShape → List Term → List Data → Type 0
-AreFitting c t es ds = (i : ℕ) (x : Term) (u : Shape) → slice_get es i ≡ Some x → HasType (in_row c t) x u → fits_in (value_at ds i) u ≡ true
+AreFitting c t es ds = (i : ℕ) (x : Term) (u : Shape) → slice_get es i ≡ Some x → HasType (in_row c t) x u → fits_in (constant_at ds i) u ≡ true
 
 -- those of a sketch's constants
 abbrev pub AreFittingFor : List TableShape → Context → Sketch → List Data → Type 0

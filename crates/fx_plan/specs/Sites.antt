@@ -60,8 +60,8 @@ pub record Position : Type 0 where
   pub delegated : Bool
   pub inner : Bool
 
-abbrev pub outermost : Position
-outermost = record { depth = 0; by = codes "cell"; delegated = false; inner = false }
+abbrev pub outermost_position : Position
+outermost_position = record { depth = 0; by = codes "cell"; delegated = false; inner = false }
 
 -- formulas in the scope of a row
 abbrev pub is_formula : Takes → Bool
@@ -81,23 +81,23 @@ is_update d = false
 
 -- whether the part at a place of so many stands in a scope of its node: the formulas behind a table and the change of
 -- `UpdateIf` in that of each row, and the second part of `With` in that of its record
-abbrev pub opens : Top → ℕ → ℕ → Bool
-opens (top.over f) n i = not (is_first i) && is_formula (takes_at (row_of f) n i)
-opens top.within n i = not (is_first i)
-opens (top.act d) n i = not (is_first i) && is_update d
-opens h n i = false
+abbrev pub opens_row_scope : Top → ℕ → ℕ → Bool
+opens_row_scope (top.over f) n i = not (is_first i) && is_formula (takes_at (row_of f) n i)
+opens_row_scope top.within n i = not (is_first i)
+opens_row_scope (top.act d) n i = not (is_first i) && is_update d
+opens_row_scope h n i = false
 
 abbrev pub deeper : Bool → ℕ → ℕ
 deeper b k = if b then suc k else k
 
-abbrev pub count_of : Terms → ℕ
-count_of nil = 0
-count_of (cons c cs) = suc (count_of cs)
+abbrev pub terms_count : Terms → ℕ
+terms_count nil = 0
+terms_count (cons c cs) = suc (terms_count cs)
 
 -- where the part at a place stands
 abbrev pub part_at : List TableShape → Position → Term → ℕ → Position
 part_at ts p (of h cs) i = record {
-  depth = deeper (opens h (count_of cs) i) p.depth;
+  depth = deeper (opens_row_scope h (terms_count cs) i) p.depth;
   by = unwrap_or (call_name h) p.by;
   delegated = takes_whole ts p.depth (of h cs) && is_first i;
   inner = is_query ts p.depth (of h cs) && is_first i;
@@ -132,14 +132,14 @@ abbrev mutual
 abbrev pub site : ℕ → Use → Site
 site n u = record { number = n; table = u.table; by = u.by; delegated = u.delegated }
 
-abbrev pub numbered : ℕ → List Use → List Site
-numbered n [] = []
-numbered n (u ∷ us) = site n u ∷ numbered (suc n) us
+abbrev pub sites_numbered : ℕ → List Use → List Site
+sites_numbered n [] = []
+sites_numbered n (u ∷ us) = site n u ∷ sites_numbered (suc n) us
 
 -- these sites, and behind them those that follow, numbered on
 abbrev pub listed : List Site → List Use → List Site
-listed ss us = ss ++ numbered (suc (length ss)) us
+listed ss us = ss ++ sites_numbered (suc (length ss)) us
 
 -- THE sites of a cell's tree
 abbrev pub sites_of : List TableShape → Term → List Site
-sites_of ts c = numbered 1 (uses_in ts outermost c)
+sites_of ts c = sites_numbered 1 (uses_in ts outermost_position c)

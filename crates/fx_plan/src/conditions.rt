@@ -3,10 +3,10 @@ ghost use Rattle.std.specs.Prelude.{◌≡◌, ◌≤◌, ◌++◌, ◌∷◌, [
 ghost use Rattle.std.specs.Str.{IsAscii};
 ghost use Rattle.fx_types.specs.TypeView.{shape};
 ghost use Rattle.fx_plan.specs.Outlines.{opposite};
-ghost use Rattle.fx_plan.specs.QueryExpressions.{along, behind, are_constant as are_constant_in, beside as beside_in, called as called_in, called_with_one, called_with_two, column_named as column_named_in, column_of as column_of_in, compared as compared_in, compared_with as compared_with_in, comparison_by as comparison_of, is_constant as is_constant_in, is_of as is_of_in, is_row as is_row_in, negated as negated_in, pattern_of as pattern_in, patterns_of as patterns_in, plain_column as plain_column_in, turned as turned_of};
+ghost use Rattle.fx_plan.specs.QueryExpressions.{along, patterns_behind, are_constant as are_constant_in, beside as beside_in, call_pattern as called_in, called_with_one, called_with_two, column_number as column_named_in, column_of as column_of_in, comparison_pattern as compared_in, compared_with as compared_with_in, comparison_by as comparison_of, is_constant as is_constant_in, is_of as is_of_in, is_row as is_row_in, negated as negated_in, pattern_of as pattern_in, patterns_of as patterns_in, plain_column as plain_column_in, flipped as turned_of};
 ghost use Rattle.fx_plan.specs.Ranges.{column_type};
 ghost use Rattle.fx_core.specs.declared.schema.Column.{Column};
-ghost use Rattle.fx_core.specs.Term.{Term, all, parts_of};
+ghost use Rattle.fx_core.specs.Term.{Term, all, field_terms};
 
 use crate::patterns::{Pattern, PatternNode, Patterns};
 use fx_base::Memory;
@@ -76,7 +76,7 @@ pub fn patterns_of(
 ) -> Result<Option<Patterns>, Memory>
     requires { length table.now.columns ≤ 63 }
     ensures { IfOk result (λ r. along constants.new r
-        ≡ behind front (patterns_in table.now scope (all conditions.now) constants.old)) }
+        ≡ patterns_behind front (patterns_in table.now scope (all conditions.now) constants.old)) }
 {
     let mut patterns = front;
     for condition in conditions {
@@ -438,7 +438,7 @@ fn are_constant(parts: &[Core], scope: u32) -> bool
 
 #[cycle(is_constant)]
 fn are_constant_fields(fields: &[(Words, Core)], scope: u32) -> bool
-    ensures { result ≡ are_constant_in scope (parts_of fields.now) }
+    ensures { result ≡ are_constant_in scope (field_terms fields.now) }
 {
     for (_, part) in fields {
         if !is_constant(part, scope) {

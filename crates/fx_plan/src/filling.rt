@@ -1,7 +1,7 @@
 //! Patterns with their constants.
 ghost use Rattle.std.specs.Prelude.{◌≡◌, ◌<◌, length, map, IfOk};
 ghost use Rattle.fx_types.specs.ValueView.{view};
-ghost use Rattle.fx_plan.specs.Outlines.{AreWithin, IsWithin, all_filled as all_filled_of, filled as filled_of, outline_list, value_at};
+ghost use Rattle.fx_plan.specs.Outlines.{AreWithin, IsWithin, all_filled as all_filled_of, filled as filled_of, outline_list, constant_at};
 ghost use Rattle.row_queries.specs.Conditions.{condition_list};
 
 use crate::patterns::{Pattern, PatternNode};
@@ -53,7 +53,7 @@ fn fill_all(alloc: Global, patterns: &[Pattern], constants: &[Value]) -> Result<
 // The constant at a place.
 fn constant(alloc: Global, constants: &[Value], at: u32) -> Result<Value, Memory>
     requires { at < length constants.now }
-    ensures { IfOk result (λ v. view v ≡ value_at (map view constants.now) at) }
+    ensures { IfOk result (λ v. view v ≡ constant_at (map view constants.now) at) }
 {
     constants[at as usize].copy(alloc)
 }

@@ -5,11 +5,11 @@ ghost use Rattle.fx_types.specs.ValueView.{view};
 ghost use Rattle.fx_types.specs.Values.{number};
 ghost use Rattle.fx_plan.specs.Sites.{deeper};
 ghost use Rattle.fx_plan.specs.declared.site_list.Scoped.TheVariants.{Nothing};
-ghost use Rattle.fx_core.specs.Term.{all, cons, names_of, nil, of, parts_of};
+ghost use Rattle.fx_core.specs.Term.{all, cons, term_field_names, nil, of, field_terms};
 ghost use Rattle.fx_core.specs.Term as top;
 ghost use Rattle.fx_core.specs.Lawful.{IsLawfulSchema};
 ghost use Rattle.fx_plan.specs.Limits.{depth_at, each_limited, fields_limited, with_limited_parts};
-ghost use Rattle.fx_plan.specs.Limited.{first_rows as first_rows_of, limited, takes_first_whole};
+ghost use Rattle.fx_plan.specs.Limited.{first_rows_of, limited, takes_first_whole};
 
 use crate::{Scoped, formulas_of, is_update, sketch_under, takes_whole};
 use fx_base::Memory;
@@ -200,7 +200,7 @@ fn limit_record(
     depth: u32,
 ) -> Result<Core, Memory>
     requires { IsLawfulSchema schema.now }
-    ensures { IfOk result (λ c. c ≡ with_limited_parts schema.now.tables limit depth (of (top.rec (names_of fields.now)) (parts_of fields.now))) }
+    ensures { IfOk result (λ c. c ≡ with_limited_parts schema.now.tables limit depth (of (top.rec (term_field_names fields.now)) (field_terms fields.now))) }
 {
     let items = limit_fields(alloc, schema, limit, fields.as_slice(), depth)?;
     Ok(make_core::record_of(items))

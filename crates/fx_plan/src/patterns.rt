@@ -68,9 +68,9 @@ impl Model for Pattern {
     ghost size = { outline_size };
 
     ghost use Rattle.std.proofs.Common.{arith};
-    ghost use Rattle.fx_plan.specs.OutlineFalls.{node_falls};
+    ghost use Rattle.fx_plan.specs.OutlineFalls.{pattern_falls};
 
-    ghost size_decreases = { λ a h. omega (arith, node_falls a.node) };
+    ghost size_decreases = { λ a h. omega (arith, pattern_falls a.node) };
 }
 
 impl Model for Patterns {

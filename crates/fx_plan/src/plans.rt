@@ -5,7 +5,7 @@ ghost use Rattle.fx_types.specs.ValueView.{view};
 ghost use Rattle.fx_plan.specs.Plans.{CanPlan, IsPlan, IsReachBy, is_fault as is_error};
 ghost use Rattle.fx_plan.specs.Ranges.{TakesComparisons};
 ghost use Rattle.row_queries.specs.Queries.{IsIndexed, IsQuery};
-ghost use Rattle.row_queries.specs.Ranges.{AreRising, HoldEveryKey};
+ghost use Rattle.row_queries.specs.Ranges.{AreRangesRising, HoldEveryKey};
 
 use crate::filling::fill;
 use crate::patterns::Pattern;
@@ -67,7 +67,7 @@ fn reach_of(
     requires few { length table.now.columns ≤ 63 }
     ensures ranges { IfOk result (λ r. IsReachBy (list_any is_error (map view constants.now)) table.now test.now r) }
     ensures within { IfOk result (λ r. r.column ≤ length table.now.columns) }
-    ensures rises { IfOk result (λ r. AreRising r.ranges) }
+    ensures rises { IfOk result (λ r. AreRangesRising r.ranges) }
     ensures reaches { IfOk result (λ r. IsIndexed table.now r.column ⊎ HoldEveryKey r.ranges) }
 {
     if has_error(constants) {

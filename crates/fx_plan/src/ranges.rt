@@ -11,7 +11,7 @@ ghost use Rattle.fx_plan.specs.Ranges.{AllTaken, IsReach, NoRowIsMissed, TakesCo
 ghost use Rattle.fx_plan.specs.Spans.{AreTakenBy, IsSpan, IsSpanOf, after as after_key, both_from, both_ranges, both_spans, both_upto, joined_spans, least as least_key, no_keys as nothing, range_by as by_constant, range_by_blank as by_blank, range_of as of_constant, span_ranges};
 ghost use Rattle.row_queries.specs.Conditions.{condition_list};
 ghost use Rattle.row_queries.specs.Queries.{IsIndexed};
-ghost use Rattle.row_queries.specs.Ranges.{AreRising, HoldEveryKey};
+ghost use Rattle.row_queries.specs.Ranges.{AreRangesRising, HoldEveryKey};
 
 use fx_base::{InOrder, Memory};
 use fx_core::{Column, TableShape};
@@ -45,7 +45,7 @@ pub fn ranges_of(alloc: Global, table: &TableShape, test: &Test) -> Result<Reach
     requires few { length table.now.columns ≤ 63 }
     ensures ranges { IfOk result (λ r. IsReach table.now test.now r) }
     ensures within { IfOk result (λ r. r.column ≤ length table.now.columns) }
-    ensures rises { IfOk result (λ r. AreRising r.ranges) }
+    ensures rises { IfOk result (λ r. AreRangesRising r.ranges) }
     ensures reaches { IfOk result (λ r. IsIndexed table.now r.column ⊎ HoldEveryKey r.ranges) }
 {
     if let Some(span) = span_of(alloc, test, 0, true)? {

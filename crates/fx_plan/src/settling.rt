@@ -1,7 +1,7 @@
 //! Puts the values of constants in their places.
 ghost use Rattle.std.specs.Prelude.{◌≡◌, suc, map, IfOk};
 ghost use Rattle.fx_types.specs.ValueView.{view};
-ghost use Rattle.fx_plan.specs.Outlines.{value_at};
+ghost use Rattle.fx_plan.specs.Outlines.{constant_at};
 ghost use Rattle.fx_plan.specs.Settled.{as_value, call_settled, condition_settled, conditions_settled, query_settled as query_settled_in, search_settled, with_first};
 ghost use Rattle.fx_core.specs.Term.{all};
 
@@ -168,7 +168,7 @@ fn conditions(
 
 // The value at this place as a tree; then the place is the next.
 fn next_value(alloc: Global, values: &[Value], place: &mut u32) -> Result<Core, Memory>
-    ensures { IfOk result (λ c. (c ≡ as_value (value_at (map view values.now) place.old)) × (place.new ≡ suc place.old)) }
+    ensures { IfOk result (λ c. (c ≡ as_value (constant_at (map view values.now) place.old)) × (place.new ≡ suc place.old)) }
 {
     let value = match values.get(*place as usize) {
         Some(value) => value.copy(alloc)?,

@@ -1,9 +1,9 @@
 //! Where a formula takes rows of tables.
 ghost use Rattle.std.specs.Prelude.{◌≡◌, ◌+◌, ◌<◌, ◌^◌, length, option_map, IfOk, OnOk};
-ghost use Rattle.fx_plan.specs.SitePlaces.{is_scoped, opened as opened_in, parts_in, position, stand_at, within as within_in};
+ghost use Rattle.fx_plan.specs.SitePlaces.{is_scoped, scope_opened as opened_in, parts_in, place_position, stand_at, within_call as within_in};
 ghost use Rattle.fx_plan.specs.Sites.{is_filter as is_filter_in, is_formula as is_formula_in, is_query as is_query_in, is_update as is_update_in, listed, own_use, part_at, sites_of, takes_whole as takes_whole_in, totals as totals_in, totals_column as totals_column_in, uses_among, uses_in};
 ghost use Rattle.fx_core.specs.Lawful.{IsLawfulSchema};
-ghost use Rattle.fx_core.specs.Term.{all, parts_of};
+ghost use Rattle.fx_core.specs.Term.{all, field_terms};
 
 use crate::call_names::{deed_name, form_name, function_name};
 use crate::conditions::column_of;
@@ -61,7 +61,7 @@ pub fn formulas_of(fun: Fun, parts: &[Core]) -> Scoped
 impl Place {
     // Where a part stands in a call of this name, or in what has none.
     fn within(&self, name: Option<&'static str>) -> Place
-        ensures { position result ≡ within_in (option_map (λ n. n.now) name.entry) (position self.now) }
+        ensures { place_position result ≡ within_in (option_map (λ n. n.now) name.entry) (place_position self.now) }
     {
         Place {
             depth: self.depth,
@@ -73,7 +73,7 @@ impl Place {
 
     // The same in one more scope, if there is one.
     fn open(&self, opens: bool) -> Result<Place, Memory>
-        ensures { IfOk result (λ p. position p ≡ opened_in opens (position self.now)) }
+        ensures { IfOk result (λ p. place_position p ≡ opened_in opens (place_position self.now)) }
     {
         if !opens {
             return Ok(*self);
@@ -111,7 +111,7 @@ fn list(
     sites: &mut Vec<Site>,
 ) -> Result<(), Memory>
     requires { IsLawfulSchema schema.now }
-    ensures { OnOk result (sites.new.items ≡ listed sites.old.items (uses_in schema.now.tables (position place.now) core.now)) }
+    ensures { OnOk result (sites.new.items ≡ listed sites.old.items (uses_in schema.now.tables (place_position place.now) core.now)) }
 {
     let is_query = list_own(alloc, schema, core, place, sites)?;
     list_parts(alloc, schema, core, place, is_query, sites)
@@ -127,7 +127,7 @@ fn list_own(
     sites: &mut Vec<Site>,
 ) -> Result<bool, Memory>
     requires { IsLawfulSchema schema.now }
-    ensures sites { OnOk result (sites.new.items ≡ listed sites.old.items (own_use schema.now.tables (position place.now) core.now)) }
+    ensures sites { OnOk result (sites.new.items ≡ listed sites.old.items (own_use schema.now.tables (place_position place.now) core.now)) }
     ensures query { IfOk result (λ b. b ≡ is_query_in schema.now.tables place.now.depth core.now) }
 {
     let Some(query) = sketch_under(alloc, schema, core, place.depth)? else {
@@ -160,7 +160,7 @@ fn list_parts(
 ) -> Result<(), Memory>
     requires lawful { IsLawfulSchema schema.now }
     requires query { is_query ≡ is_query_in schema.now.tables place.now.depth core.now }
-    ensures { OnOk result (sites.new.items ≡ listed sites.old.items (uses_among schema.now.tables (part_at schema.now.tables (position place.now) core.now) 0 (parts_in core.now))) }
+    ensures { OnOk result (sites.new.items ≡ listed sites.old.items (uses_among schema.now.tables (part_at schema.now.tables (place_position place.now) core.now) 0 (parts_in core.now))) }
 {
     match &core.node {
         CoreNode::Const(_)
@@ -268,7 +268,7 @@ fn list_among(
     sites: &mut Vec<Site>,
 ) -> Result<(), Memory>
     requires { IsLawfulSchema schema.now }
-    ensures { OnOk result (sites.new.items ≡ listed sites.old.items (uses_among schema.now.tables (stand_at scoped (position place.now)) 0 (all parts.now))) }
+    ensures { OnOk result (sites.new.items ≡ listed sites.old.items (uses_among schema.now.tables (stand_at scoped (place_position place.now)) 0 (all parts.now))) }
 {
     for (at, part) in parts.iter().enumerate() {
         let stand = place.open(scoped.opens(at))?;
@@ -287,7 +287,7 @@ fn list_fields(
     sites: &mut Vec<Site>,
 ) -> Result<(), Memory>
     requires { IsLawfulSchema schema.now }
-    ensures { OnOk result (sites.new.items ≡ listed sites.old.items (uses_among schema.now.tables (stand_at Scoped.Nothing (position place.now)) 0 (parts_of fields.now))) }
+    ensures { OnOk result (sites.new.items ≡ listed sites.old.items (uses_among schema.now.tables (stand_at Scoped.Nothing (place_position place.now)) 0 (field_terms fields.now))) }
 {
     for (_, part) in fields {
         list(alloc, schema, part, place, sites)?;

@@ -5,23 +5,23 @@ use Rattle.std.proofs.lemmas.List.{take_more}
 use Rattle.std.proofs.lemmas.List.Elements.{filter_map-append, All-append, Contains-append_right}
 use Rattle.std.proofs.lemmas.List.Sums.{fold-append}
 use Rattle.std.specs.Prelude.{Contains}
-use Rattle.fx_primitives.specs.Folds.{present, total, IsCounted, IsLeast, IsGreatest}
+use Rattle.fx_primitives.specs.Folds.{nonblank, total, AreSummedUp, IsLeast, IsGreatest}
 
-present_one : (x : Option ℤ) → present (x ∷ []) ≡ option_to_list x
+present_one : (x : Option ℤ) → nonblank (x ∷ []) ≡ option_to_list x
 present_one None = refl
 present_one (Some z) = refl
 
-pub present_more : (xs : List (Option ℤ)) (i : ℕ) (x : Option ℤ) → i < length xs → x ≡ get_or xs i x → present (take (i + 1) xs) ≡ present (take i xs) ++ option_to_list x
+pub present_more : (xs : List (Option ℤ)) (i : ℕ) (x : Option ℤ) → i < length xs → x ≡ get_or xs i x → nonblank (take (i + 1) xs) ≡ nonblank (take i xs) ++ option_to_list x
 present_more xs i x h e =
-    ap present (take_more xs i x h ∙ ap (λ y. take i xs ++ y ∷ []) (sym e)) ∙ filter_map-append (λ o. o) (take i xs) (x ∷ [])
-    ∙ ap (λ ys. present (take i xs) ++ ys) (present_one x)
+    ap nonblank (take_more xs i x h ∙ ap (λ y. take i xs ++ y ∷ []) (sym e)) ∙ filter_map-append (λ o. o) (take i xs) (x ∷ [])
+    ∙ ap (λ ys. nonblank (take i xs) ++ ys) (present_one x)
 
 total_more : (zs : List ℤ) (x : Option ℤ) → total (zs ++ option_to_list x) ≡ total zs +ℤ total (option_to_list x)
 total_more zs None = ap total (append-nil zs) ∙ (omega (arith, ints))
 total_more zs (Some z) = fold-append ◌+ℤ◌ (pos 0) zs (z ∷ []) ∙ (omega (arith, ints))
 
-pub counted_more : (zs : List ℤ) (x : Option ℤ) (count more : ℕ) (sum part : ℤ) → IsCounted zs count sum → IsCounted (option_to_list x) more part
-    → IsCounted (zs ++ option_to_list x) (count + more) (sum +ℤ part)
+pub counted_more : (zs : List ℤ) (x : Option ℤ) (count more : ℕ) (sum part : ℤ) → AreSummedUp zs count sum → AreSummedUp (option_to_list x) more part
+    → AreSummedUp (zs ++ option_to_list x) (count + more) (sum +ℤ part)
 counted_more zs x count more sum part h k =
     let a = h.sums in let b = k.sums in let t = total_more zs x in
     let low = h.low in let low' = k.low in let high = h.high in let high' = k.high in
@@ -34,7 +34,7 @@ counted_more zs x count more sum part h k =
 
 -- the same where the numbers are named
 pub counted_step : (zs ys : List ℤ) (x : Option ℤ) (count more next : ℕ) (sum part after : ℤ) → ys ≡ zs ++ option_to_list x → next ≡ count + more → after ≡ sum +ℤ part
-    → IsCounted zs count sum → IsCounted (option_to_list x) more part → IsCounted ys next after
+    → AreSummedUp zs count sum → AreSummedUp (option_to_list x) more part → AreSummedUp ys next after
 counted_step zs ys x count more next sum part after e f g h k =
     rw (e, f, g) (counted_more zs x count more sum part h k)
 

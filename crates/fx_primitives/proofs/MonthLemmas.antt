@@ -13,7 +13,7 @@ use Rattle.fx_types.specs.Days.{IsDay}
 use Rattle.fx_types.specs.Civil.{civil_of}
 use Rattle.fx_types.proofs.CivilDays.{civil_is_date}
 use Rattle.fx_primitives.specs.Dates.{full_year, number_of_parts}
-use Rattle.fx_primitives.specs.Months.{year_of, month_of, days_of_years, days_of_earlier_years, year_begin, first_of}
+use Rattle.fx_primitives.specs.Months.{year_of, month_of, days_of_years, days_of_earlier_years, year_begin, first_day_of_month}
 
 -- two numbers that are 0 together
 same_test : (x y : ℕ) → (x ≡ 0 → y ≡ 0) → (y ≡ 0 → x ≡ 0) → nat_eq x 0 ≡ nat_eq y 0
@@ -102,8 +102,8 @@ first_of_early a i h =
     omega (arith, signed_arith, count, january a, january 1970, day_count-epoch, days_from_civil-day_count (pos a) (i + 1) 1)
 
 -- the first day of a month, so many times 400 years after one of the years 0 to 399
-pub first_of-cycle : (m c : ℤ) (r : ℕ) → m ≡ (c *ℤ pos 4800) +ℤ pos r → r < 4800 → first_of m ≡ (c *ℤ pos 146097) +ℤ days_from_civil (pos (r / 12)) (r % 12 + 1) 1
-unfolding first_of
+pub first_of-cycle : (m c : ℤ) (r : ℕ) → m ≡ (c *ℤ pos 4800) +ℤ pos r → r < 4800 → first_day_of_month m ≡ (c *ℤ pos 146097) +ℤ days_from_civil (pos (r / 12)) (r % 12 + 1) 1
+unfolding first_day_of_month
 first_of-cycle m c r e h =
     let year : year_of m ≡ (c *ℤ pos 400) +ℤ pos (r / 12) = omega (arith, signed_arith, int_div_euclid-parts m 12 (omega arith)) in
     let month : month_of m - 1 ≡ r % 12 = omega (arith, signed_arith, int_div_euclid-parts m 12 (omega arith), int_rem_euclid-parts m 12 (omega arith)) in
@@ -112,8 +112,8 @@ first_of-cycle m c r e h =
     omega (arith, signed_arith, begin, months, first_of_early (r / 12) (r % 12) (omega arith))
 
 -- the first day of a month of the years from 0 on
-first_of_month : (m : ℤ) (a i : ℕ) → m ≡ pos (12 * a + i) → i < 12 → first_of m ≡ days_from_civil (pos a) (i + 1) 1
-unfolding first_of
+first_of_month : (m : ℤ) (a i : ℕ) → m ≡ pos (12 * a + i) → i < 12 → first_day_of_month m ≡ days_from_civil (pos a) (i + 1) 1
+unfolding first_day_of_month
 first_of_month m a i e h =
     let year : year_of m ≡ pos a = omega (arith, signed_arith, int_div_euclid-parts m 12 (omega arith)) in
     let month : month_of m - 1 ≡ i = omega (arith, signed_arith, int_div_euclid-parts m 12 (omega arith), int_rem_euclid-parts m 12 (omega arith)) in

@@ -1,14 +1,14 @@
 -- Occurrences, and texts with stretches replaced.
 use Rattle.std.proofs.Common.{◌≡◌, ℕ, ◌+◌, ◌-◌, ◌<◌, ◌≤◌, List, [], ◌∷◌, ◌++◌, length, get_or, take, drop, ap, sym, refl, subst, ◌∙◌, append_assoc, arith, length-take, length-append, inl, inr, ◌⊎◌}
 use Rattle.std.proofs.lemmas.List.{drop_more, take-take, take-append-le, drop-append-le, drop-take}
-use Rattle.fx_primitives.specs.Search.{IsFirst}
+use Rattle.fx_primitives.specs.Search.{IsFirstPlace}
 use Rattle.fx_primitives.specs.Substitution.{AreOccurrences, AreSeparate, OneListOfOccurrences, replaced_at}
 
 -- ---- one list of occurrences
 pub trichotomy : (p q : ℕ) → (p < q) ⊎ ((p ≡ q) ⊎ (q < p))
 trichotomy p q = grind arith
 
-same_first : (old text : List ℕ) (from p q : ℕ) → IsFirst old text from p → IsFirst old text from q → p ≡ q
+same_first : (old text : List ℕ) (from p q : ℕ) → IsFirstPlace old text from p → IsFirstPlace old text from q → p ≡ q
 same_first old text from p q h k =
     elim (trichotomy p q) [
       | inl l ↦ absurd (k.first p h.behind l h.stands)

@@ -7,15 +7,15 @@ use Rattle.std.specs.Prelude.{encode_utf8, encode_utf8_all}
 use Rattle.std.specs.Str.{IsUtf8, chars}
 use Rattle.fx_types.specs.declared.faults.Kind.{Kind}
 use Rattle.fx_types.specs.declared.faults.Kind.TheVariants.{QuotaExceeded}
-use Rattle.fx_primitives.specs.Texts.{bytes_of, longest, made, joined}
+use Rattle.fx_primitives.specs.Texts.{utf8_length, longest, text_or_quota, joined}
 
-pub made-short : (cs : List ℕ) → bytes_of cs ≤ longest → made cs ≡ Ok cs
+pub made-short : (cs : List ℕ) → utf8_length cs ≤ longest → text_or_quota cs ≡ Ok cs
 made-short cs h = grind (arith, nat_tests)
 
-pub made-long : (cs : List ℕ) → longest < bytes_of cs → made cs ≡ Err QuotaExceeded
+pub made-long : (cs : List ℕ) → longest < utf8_length cs → text_or_quota cs ≡ Err QuotaExceeded
 made-long cs h = grind (arith, nat_tests)
 
-pub bytes_of-chars : (bs : List ℕ) → IsUtf8 bs → bytes_of (chars bs) ≡ length bs
+pub bytes_of-chars : (bs : List ℕ) → IsUtf8 bs → utf8_length (chars bs) ≡ length bs
 bytes_of-chars bs u = ap length (encodes-chars bs u)
 
 -- one more character

@@ -10,7 +10,7 @@ abbrev pub slashed : ℕ → ℕ → ℕ → List ℕ
 slashed a b c = two_digits a ++ (47 ∷ two_digits b ++ (47 ∷ four_digits c))
 
 -- the text of a day in a format
-abbrev pub text_in : DateFormat → ℤ → List ℕ
-text_in YearMonthDay z = date_text z
-text_in DayMonthYear z = let d = civil_of z in slashed d.day d.month d.year
-text_in MonthDayYear z = let d = civil_of z in slashed d.month d.day d.year
+abbrev pub day_text : DateFormat → ℤ → List ℕ
+day_text YearMonthDay z = date_text z
+day_text DayMonthYear z = let d = civil_of z in slashed d.day d.month d.year
+day_text MonthDayYear z = let d = civil_of z in slashed d.month d.day d.year

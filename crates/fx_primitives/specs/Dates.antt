@@ -7,7 +7,7 @@ use Rattle.fx_types.specs.declared.faults.Kind.{Kind}
 use Rattle.fx_types.specs.declared.faults.Kind.TheVariants.{InvalidArgument}
 use Rattle.fx_types.specs.Civil.{civil_of}
 use Rattle.fx_types.specs.declared.civil.CivilDate.{CivilDate}
-use Rattle.fx_primitives.specs.Months.{year_of, month_of, month_number, first_of}
+use Rattle.fx_primitives.specs.Months.{year_of, month_of, month_number, first_day_of_month}
 use Rattle.fx_types.specs.declared.formats.TimeUnit.{TimeUnit}
 use Rattle.fx_types.specs.declared.formats.TimeUnit.TheVariants.{Days, Months, Quarters, Years}
 
@@ -24,7 +24,7 @@ full_year (negsuc n) = negsuc n
 -- the number of the day with these parts: so many months after the January of its year, and so many
 -- days after the first of that month, each counted from 1
 abbrev pub number_of_parts : ℤ → ℤ → ℤ → ℤ
-number_of_parts year month day = first_of ((full_year year *ℤ pos 12) +ℤ (month -ℤ pos 1)) +ℤ (day -ℤ pos 1)
+number_of_parts year month day = first_day_of_month ((full_year year *ℤ pos 12) +ℤ (month -ℤ pos 1)) +ℤ (day -ℤ pos 1)
 
 -- the day is in the month of this number, and is that month's day of this place, or its last one
 -- where it has fewer
@@ -43,11 +43,11 @@ abbrev pub IsMonthsLater : ℤ → ℤ → Result ℤ Kind → Type 0
 IsMonthsLater z n = IsInMonthOrInvalid (pos (month_number (civil_of z)) +ℤ n) (civil_of z).day
 
 -- the answer of a day so many units later
-abbrev pub IsLater : TimeUnit → ℤ → ℤ → Result ℤ Kind → Type 0
-IsLater Days z n = IsDayOrInvalid (z +ℤ n)
-IsLater Months z n = IsMonthsLater z n
-IsLater Quarters z n = IsMonthsLater z (n *ℤ pos 3)
-IsLater Years z n = IsMonthsLater z (n *ℤ pos 12)
+abbrev pub IsDayLater : TimeUnit → ℤ → ℤ → Result ℤ Kind → Type 0
+IsDayLater Days z n = IsDayOrInvalid (z +ℤ n)
+IsDayLater Months z n = IsMonthsLater z n
+IsDayLater Quarters z n = IsMonthsLater z (n *ℤ pos 3)
+IsDayLater Years z n = IsMonthsLater z (n *ℤ pos 12)
 
 -- the quarter of a date, counted from the first of the year 0
 abbrev pub quarter_number : CivilDate → ℕ

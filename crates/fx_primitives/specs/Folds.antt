@@ -6,15 +6,15 @@ use Rattle.fx_types.specs.declared.faults.Kind.{Kind}
 use Rattle.fx_types.specs.declared.faults.Kind.TheVariants.{Numeric}
 
 -- the numbers that are not blank
-abbrev pub present : List (Option ℤ) → List ℤ
-present = filter_map (λ o. o)
+abbrev pub nonblank : List (Option ℤ) → List ℤ
+nonblank = filter_map (λ o. o)
 
 -- their exact sum
 abbrev pub total : List ℤ → ℤ
 total = fold ◌+ℤ◌ (pos 0)
 
 -- how many numbers there are, and their exact sum, which is no farther from 0 than so many of the greatest
-pub record IsCounted (zs : List ℤ) (count : ℕ) (sum : ℤ) : Type 0 where
+pub record AreSummedUp (zs : List ℤ) (count : ℕ) (sum : ℤ) : Type 0 where
   pub counts : count ≡ length zs
   pub sums : sum ≡ total zs
   pub low : neg_ℤ (pos (count * greatest)) ≤ℤ sum

@@ -45,8 +45,8 @@ abbrev pub units_of : ℕ → ℕ → ℕ
 units_of decimals magnitude = nearest magnitude (10 ^ (4 - decimals))
 
 -- the text of a number, rounded half away from zero; a rounding to 0 has no sign
-abbrev pub format_of : NumberFormat → ℤ → List ℕ
-format_of format (pos n) = units_text (is_grouped format) (decimals_of format) (units_of (decimals_of format) n)
-format_of format (negsuc n) = let units = units_of (decimals_of format) (suc n) in
+abbrev pub formatted_number : NumberFormat → ℤ → List ℕ
+formatted_number format (pos n) = units_text (is_grouped format) (decimals_of format) (units_of (decimals_of format) n)
+formatted_number format (negsuc n) = let units = units_of (decimals_of format) (suc n) in
     let text = units_text (is_grouped format) (decimals_of format) units in
     if units == 0 then text else 45 ∷ text

@@ -30,5 +30,5 @@ year_begin (pos n) = pos (days_of_years n)
 year_begin (negsuc n) = neg_ℤ (pos (days_of_earlier_years (suc n)))
 
 -- the number of the first day of a month, where 1970-01-01 has the number 0
-unfoldable pub first_of : ℤ → ℤ
-first_of k = year_begin (year_of k) +ℤ pos (days_of_months (year_of k) (month_of k - 1)) -ℤ year_begin (pos 1970)
+unfoldable pub first_day_of_month : ℤ → ℤ
+first_day_of_month k = year_begin (year_of k) +ℤ pos (days_of_months (year_of k) (month_of k - 1)) -ℤ year_begin (pos 1970)

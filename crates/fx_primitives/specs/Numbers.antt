@@ -7,15 +7,15 @@ use Rattle.fx_types.specs.declared.faults.Kind.{Kind}
 use Rattle.fx_types.specs.declared.faults.Kind.TheVariants.{Div0, Numeric, InvalidArgument}
 
 -- the kind of an error of arithmetic
-abbrev pub kind_of : NumErr → Kind
-kind_of Overflow = Numeric
-kind_of DivZero = Div0
-kind_of BadArgument = InvalidArgument
+abbrev pub kind_of_number_error : NumErr → Kind
+kind_of_number_error Overflow = Numeric
+kind_of_number_error DivZero = Div0
+kind_of_number_error BadArgument = InvalidArgument
 
 -- an answer of arithmetic, with the kind of its error
 abbrev pub with_kind : Result ℤ NumErr → Result ℤ Kind
 with_kind (Ok z) = Ok z
-with_kind (Err e) = Err (kind_of e)
+with_kind (Err e) = Err (kind_of_number_error e)
 
 -- an answer of which P holds, with the kind of its error
 abbrev pub AsKind : (Result ℤ NumErr → Type 0) → Result ℤ Kind → Type 0

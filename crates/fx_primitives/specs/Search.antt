@@ -13,7 +13,7 @@ abbrev pub StandsNowhere : List ℕ → List ℕ → ℕ → Type 0
 StandsNowhere part text from = (k : ℕ) → from ≤ k → ¬ StandsAt part text k
 
 -- the first place, from a place on, at which it stands
-pub record IsFirst (part text : List ℕ) (from place : ℕ) : Type 0 where
+pub record IsFirstPlace (part text : List ℕ) (from place : ℕ) : Type 0 where
   pub behind : from ≤ place
   pub stands : StandsAt part text place
   pub first : (k : ℕ) → from ≤ k → k < place → ¬ StandsAt part text k
@@ -21,7 +21,7 @@ pub record IsFirst (part text : List ℕ) (from place : ℕ) : Type 0 where
 -- where it is found from a place on, if anywhere
 abbrev pub IsFoundFrom : List ℕ → List ℕ → ℕ → Option ℕ → Type 0
 IsFoundFrom part text from None = StandsNowhere part text from
-IsFoundFrom part text from (Some place) = IsFirst part text from place
+IsFoundFrom part text from (Some place) = IsFirstPlace part text from place
 
 -- the position of a place, if there is one
 abbrev pub position_of : Option ℕ → Option ℕ
@@ -29,11 +29,11 @@ position_of None = None
 position_of (Some place) = Some (suc place)
 
 -- a position to search from, and its place: from 1 to the length and one more
-abbrev pub IsStart : List ℕ → ℤ → ℕ → Type 0
-IsStart text start place = (start ≡ pos (suc place)) × (place ≤ length text)
+abbrev pub IsSearchStart : List ℕ → ℤ → ℕ → Type 0
+IsSearchStart text start place = (start ≡ pos (suc place)) × (place ≤ length text)
 
 -- the answer of a search from a position on: the position of the first place at which the part stands,
 -- nothing where there is none, and InvalidArgument where the search can't start there
 abbrev pub IsFound : List ℕ → List ℕ → ℤ → Result (Option ℕ) Kind → Type 0
-IsFound part text start (Ok found) = (from : ℕ) × (place : Option ℕ) × IsStart text start from × IsFoundFrom part text from place × (found ≡ position_of place)
-IsFound part text start (Err kind) = (kind ≡ InvalidArgument) × ((from : ℕ) → ¬ IsStart text start from)
+IsFound part text start (Ok found) = (from : ℕ) × (place : Option ℕ) × IsSearchStart text start from × IsFoundFrom part text from place × (found ≡ position_of place)
+IsFound part text start (Err kind) = (kind ≡ InvalidArgument) × ((from : ℕ) → ¬ IsSearchStart text start from)

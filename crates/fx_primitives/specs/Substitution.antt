@@ -2,13 +2,13 @@
 use Rattle.std.specs.Prelude.{◌≡◌, ℕ, suc, ℤ, pos, ◌+◌, ◌≤◌, List, [], ◌∷◌, length, slice_get, Option, Some, None, Result, Ok, Err}
 use Rattle.fx_types.specs.declared.faults.Kind.{Kind}
 use Rattle.fx_types.specs.declared.faults.Kind.TheVariants.{InvalidArgument}
-use Rattle.fx_primitives.specs.Search.{IsFirst, StandsNowhere}
-use Rattle.fx_primitives.specs.Texts.{made, spliced}
+use Rattle.fx_primitives.specs.Search.{IsFirstPlace, StandsNowhere}
+use Rattle.fx_primitives.specs.Texts.{text_or_quota, spliced}
 
 -- the places of the separate occurrences from a place on: the first one, and then those behind its end
 abbrev pub AreOccurrences : List ℕ → List ℕ → ℕ → List ℕ → Type 0
 AreOccurrences old text from [] = StandsNowhere old text from
-AreOccurrences old text from (p ∷ ps) = IsFirst old text from p × AreOccurrences old text (p + length old) ps
+AreOccurrences old text from (p ∷ ps) = IsFirstPlace old text from p × AreOccurrences old text (p + length old) ps
 
 -- those in the whole text; an empty text has none
 abbrev pub AreAllOccurrences : List ℕ → List ℕ → List ℕ → Type 0
@@ -27,8 +27,8 @@ replaced_if count new text (Some p) = spliced text p count new
 
 -- the text with all occurrences at these places replaced, or the one of a number counted from 1
 abbrev pub substitute_of : ℕ → List ℕ → List ℕ → List ℕ → Option ℤ → Result (List ℕ) Kind
-substitute_of count new text ps None = made (replaced_at count new text ps)
-substitute_of count new text ps (Some (pos (suc n))) = made (replaced_if count new text (slice_get ps n))
+substitute_of count new text ps None = text_or_quota (replaced_at count new text ps)
+substitute_of count new text ps (Some (pos (suc n))) = text_or_quota (replaced_if count new text (slice_get ps n))
 substitute_of count new text ps number = Err InvalidArgument
 
 -- stretches of so many characters at these places lie behind one another, from a place on and before an end

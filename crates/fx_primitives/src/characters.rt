@@ -1,7 +1,7 @@
 //! A text's scalar values, and the text of scalar values.
 ghost use Rattle.std.specs.Prelude.{◌≡◌, IfOk};
 ghost use Rattle.fx_types.specs.Words.{scalars_of};
-ghost use Rattle.fx_primitives.specs.Texts.{made};
+ghost use Rattle.fx_primitives.specs.Texts.{text_or_quota};
 
 use fx_base::Memory;
 use fx_types::{Kind, Words};
@@ -26,7 +26,7 @@ fn chars_of(alloc: Global, text: &str) -> Result<Vec<char>, AllocError>
 
 /// The text of these scalar values. `QuotaExceeded` exactly where it has more than 65,536 bytes.
 pub(crate) fn text_of(alloc: Global, characters: &[char]) -> Result<Result<Words, Kind>, Memory>
-    ensures { IfOk result (λ r. r ≡ made characters.now) }
+    ensures { IfOk result (λ r. r ≡ text_or_quota characters.now) }
 {
     let mut text = String::new(alloc);
     for character in characters {
@@ -37,7 +37,7 @@ pub(crate) fn text_of(alloc: Global, characters: &[char]) -> Result<Result<Words
 
 /// The text of these bytes. `QuotaExceeded` exactly where there are more than 65,536.
 pub(crate) fn words_of(alloc: Global, text: &str) -> Result<Result<Words, Kind>, Memory>
-    ensures { IfOk result (λ r. r ≡ made (scalars_of text.now)) }
+    ensures { IfOk result (λ r. r ≡ text_or_quota (scalars_of text.now)) }
 {
     if text.len() > LONGEST {
         return Ok(Err(Kind::QuotaExceeded));

@@ -1,7 +1,7 @@
 //! What many numbers come to, blank ones left out.
 ghost use Rattle.std.specs.Prelude.{◌≡◌, ◌*◌, ◌<◌, ◌≤◌, ◌++◌, ℤ, List, MatchOption, Some, neg_ℤ, option_to_list, pos, ◌≤ℤ◌};
 ghost use Rattle.fx_number.specs.Decimal.{IsInRange, greatest as most, rounded};
-ghost use Rattle.fx_primitives.specs.Folds.{IsCounted, IsGreatest, IsLeast, IsSum, average_of, present};
+ghost use Rattle.fx_primitives.specs.Folds.{AreSummedUp, IsGreatest, IsLeast, IsSum, average_of, nonblank};
 
 use fx_number::Num;
 use fx_types::Kind;
@@ -9,7 +9,7 @@ use fx_types::Kind;
 /// The exact sum of the numbers that are not blank, and none where all are. `Numeric` exactly where
 /// the sum of all of them is out of range.
 pub fn sum(numbers: &[Option<Num>]) -> Result<Option<Num>, Kind>
-    ensures { IsSum (present numbers.now) result }
+    ensures { IsSum (nonblank numbers.now) result }
 {
     let (count, total) = count_and_total(numbers);
     if count == 0 {
@@ -24,7 +24,7 @@ pub fn sum(numbers: &[Option<Num>]) -> Result<Option<Num>, Kind>
 /// The exact sum of the numbers that are not blank, divided by how many they are and rounded once,
 /// half away from zero; none where all are blank.
 pub fn average(numbers: &[Option<Num>]) -> Option<Num>
-    ensures { result ≡ average_of (present numbers.now) }
+    ensures { result ≡ average_of (nonblank numbers.now) }
 {
     let (count, total) = count_and_total(numbers);
     if count == 0 {
@@ -36,7 +36,7 @@ pub fn average(numbers: &[Option<Num>]) -> Option<Num>
 
 /// The least of the numbers that are not blank, and none where all are.
 pub fn min(numbers: &[Option<Num>]) -> Option<Num>
-    ensures { IsLeast (present numbers.now) result }
+    ensures { IsLeast (nonblank numbers.now) result }
 {
     let mut least = None;
     for number in numbers {
@@ -47,7 +47,7 @@ pub fn min(numbers: &[Option<Num>]) -> Option<Num>
 
 /// The greatest of the numbers that are not blank, and none where all are.
 pub fn max(numbers: &[Option<Num>]) -> Option<Num>
-    ensures { IsGreatest (present numbers.now) result }
+    ensures { IsGreatest (nonblank numbers.now) result }
 {
     let mut greatest = None;
     for number in numbers {
@@ -58,7 +58,7 @@ pub fn max(numbers: &[Option<Num>]) -> Option<Num>
 
 // How many numbers are not blank, and their exact sum.
 fn count_and_total(numbers: &[Option<Num>]) -> (u64, i128)
-    ensures { IsCounted (present numbers.now) result.0 result.1 }
+    ensures { AreSummedUp (nonblank numbers.now) result.0 result.1 }
 {
     let mut count = 0;
     let mut total = 0;
@@ -72,7 +72,7 @@ fn count_and_total(numbers: &[Option<Num>]) -> (u64, i128)
 
 // The same of one number. A function, so that the loop adds plain numbers on its one way through.
 fn count_and_units(number: Option<Num>) -> (u64, i64)
-    ensures value { IsCounted (option_to_list number) result.0 result.1 }
+    ensures value { AreSummedUp (option_to_list number) result.0 result.1 }
     ensures single { result.0 ≤ 1 }
 {
     match number {

@@ -2,7 +2,7 @@
 ghost use Rattle.std.specs.Prelude.{◌≡◌, ◌+◌, ◌%◌, ◌++◌, ◌∷◌, [], ◌<◌, ◌^◌, IfOk, IsAscii, OnOk, string_bytes};
 ghost use Rattle.fx_types.specs.Words.{scalars_of};
 ghost use Rattle.fx_number.specs.Spelling.{point_and};
-ghost use Rattle.fx_primitives.specs.Formats.{comma_before, decimals_of, format_of, is_grouped as is_grouped_format, last_digits, units_of, units_text, whole_text, with_commas};
+ghost use Rattle.fx_primitives.specs.Formats.{comma_before, decimals_of, formatted_number, is_grouped as is_grouped_format, last_digits, units_of, units_text, whole_text, with_commas};
 
 use fx_base::Memory;
 use fx_number::Num;
@@ -11,7 +11,7 @@ use std::alloc::Global;
 
 /// The text of a number by a format, rounded half away from zero. A rounding to 0 has no sign.
 pub fn format(alloc: Global, a: Num, format: NumberFormat) -> Result<Words, Memory>
-    ensures { IfOk result (λ w. w ≡ scalars_of (format_of format a)) }
+    ensures { IfOk result (λ w. w ≡ scalars_of (formatted_number format a)) }
 {
     let units = units(a.units().unsigned_abs(), format);
     let sign = if a.units() < 0 && units > 0 { "-" } else { "" };

@@ -1,7 +1,7 @@
 //! Texts joined, and in lower and upper case.
 ghost use Rattle.std.specs.Prelude.{◌≡◌, IfOk, map};
 ghost use Rattle.std.specs.Char.{to_ascii_lowercase, to_ascii_uppercase};
-ghost use Rattle.fx_primitives.specs.Texts.{made, joined, lower_of, upper_of};
+ghost use Rattle.fx_primitives.specs.Texts.{text_or_quota, joined, lower_of, upper_of};
 
 use crate::characters::{characters, text_of, words_of};
 use fx_base::Memory;
@@ -10,7 +10,7 @@ use std::alloc::{AllocError, Global};
 
 /// The texts joined in order. `QuotaExceeded` exactly where the answer is too long.
 pub fn concatenate(alloc: Global, texts: &[Words]) -> Result<Result<Words, Kind>, Memory>
-    ensures { IfOk result (λ r. r ≡ made (joined texts.now)) }
+    ensures { IfOk result (λ r. r ≡ text_or_quota (joined texts.now)) }
 {
     let mut made = String::new(alloc);
     for text in texts {

@@ -4,7 +4,7 @@ ghost use Rattle.std.specs.Int.{IsInRange};
 ghost use Rattle.jiff_core.specs.Calendar.{IsBetween, IsEpochDay, IsWithin, days_from_civil};
 ghost use Rattle.fx_types.specs.Civil.{IsCalendarDate};
 ghost use Rattle.fx_primitives.specs.Dates.{IsDayOrInvalid, IsInMonthOrInvalid, IsMonthsLater};
-ghost use Rattle.fx_primitives.specs.Months.{first_of, month_number as number_of_month, month_of, year_of};
+ghost use Rattle.fx_primitives.specs.Months.{first_day_of_month, month_number as number_of_month, month_of, year_of};
 
 use fx_types::{CivilDate, Day, Kind, civil_date, day_of_plain};
 use jiff_core::civil::Date;
@@ -17,7 +17,7 @@ const CYCLE_DAYS: i128 = 146_097;
 // The number of the first day of a month.
 pub(crate) fn first_day(month: i128) -> i128
     requires { IsWithin (2 ^ 100) month }
-    ensures value { result ≡ first_of month }
+    ensures value { result ≡ first_day_of_month month }
     ensures bound { IsWithin (2 ^ 120) result }
 {
     // Looked up in the years 0 to 399, since the calendar library has none beyond 9999.

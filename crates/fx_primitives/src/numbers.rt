@@ -2,7 +2,7 @@
 ghost use Rattle.std.specs.Prelude.{◌≡◌, Ok, pos, unsigned_abs};
 ghost use Rattle.fx_number.specs.Decimal.{Checked, IsPower, UnlessZero, remainder_of, rounded_to};
 ghost use Rattle.fx_number.specs.declared.Way.TheVariants.{Down, Floor};
-ghost use Rattle.fx_primitives.specs.Numbers.{AsKind, kind_of, whole_part_of, with_kind};
+ghost use Rattle.fx_primitives.specs.Numbers.{AsKind, kind_of_number_error, whole_part_of, with_kind};
 
 use fx_number::{Num, NumErr, Way};
 use fx_types::Kind;
@@ -19,7 +19,7 @@ pub fn with_kind(answer: Result<Num, NumErr>) -> Result<Num, Kind>
 }
 
 fn kind(error: NumErr) -> Kind
-    ensures { result ≡ kind_of error }
+    ensures { result ≡ kind_of_number_error error }
 {
     match error {
         NumErr::Overflow => Kind::Numeric,

@@ -1,7 +1,7 @@
 //! Texts without needless spaces.
 ghost use Rattle.std.specs.Prelude.{◌≡◌, IfOk, drop};
 ghost use Rattle.std.specs.List.{prefix_len};
-ghost use Rattle.fx_primitives.specs.Texts.{begins_word as begins_word_of, made, single_spaced as single_spaced_of, trimmed};
+ghost use Rattle.fx_primitives.specs.Texts.{begins_word as begins_word_of, text_or_quota, single_spaced as single_spaced_of, trimmed};
 ghost use Rattle.fx_number.specs.Reading.{is_space as is_space_at};
 
 use crate::characters::{characters, text_of};
@@ -12,7 +12,7 @@ use std::alloc::Global;
 /// The text without spaces at its ends, and with one for each run of spaces between. Only U+0020 is
 /// a space. `QuotaExceeded` exactly where the answer is too long.
 pub fn trim(alloc: Global, text: &Words) -> Result<Result<Words, Kind>, Memory>
-    ensures { IfOk result (λ r. r ≡ made (trimmed text.now)) }
+    ensures { IfOk result (λ r. r ≡ text_or_quota (trimmed text.now)) }
 {
     let text = characters(alloc, text)?;
     text_of(alloc, &collapse_spaces(alloc, skip_spaces(&text))?)

@@ -1,7 +1,7 @@
 //! Texts with an old text in them replaced by a new one.
 ghost use Rattle.std.specs.Prelude.{◌≡◌, ◌+◌, ◌<◌, ◌≤◌, IfOk, MatchOption, None, Some, length};
 ghost use Rattle.fx_primitives.specs.Substitution.{AreAllOccurrences, AreOccurrences, AreSeparate, IsSubstituted, replaced_at, substitute_of};
-ghost use Rattle.fx_primitives.specs.Texts.{longest, made};
+ghost use Rattle.fx_primitives.specs.Texts.{longest, text_or_quota};
 
 use crate::characters::{LONGEST, characters, text_of};
 use crate::search::find_from;

@@ -1,6 +1,6 @@
 //! Parts of texts by their length and position.
 ghost use Rattle.std.specs.Prelude.{◌≡◌, IfOk, length as length_of};
-ghost use Rattle.fx_primitives.specs.Texts.{left_of, right_of, mid_of, replace_of, spliced as spliced_of, place_of as place_at};
+ghost use Rattle.fx_primitives.specs.Texts.{left_of, right_of, mid_of, replace_of, spliced as spliced_of, offset_of as place_at};
 
 use crate::characters::{characters, text_of};
 use fx_base::Memory;

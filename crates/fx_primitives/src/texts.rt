@@ -4,7 +4,7 @@ ghost use Rattle.fx_types.specs.Days.{IsDay};
 ghost use Rattle.fx_types.specs.Civil.{IsCalendarDate};
 ghost use Rattle.fx_types.specs.DateText.{civil_text, date_text as date_text_of, two_digits as two_digits_of};
 ghost use Rattle.fx_types.specs.declared.civil.CivilDate.{CivilDate as CivilDateValue};
-ghost use Rattle.fx_primitives.specs.DateTexts.{slashed as slashed_text, text_in};
+ghost use Rattle.fx_primitives.specs.DateTexts.{slashed as slashed_text, day_text};
 
 use fx_base::Memory;
 use fx_types::{CivilDate, DateFormat, Day, Kind, civil_date, date_text, day_of_date};
@@ -12,7 +12,7 @@ use std::alloc::Global;
 
 /// The text of a day in a format.
 pub fn format_day(alloc: Global, day: Day, format: DateFormat) -> Result<String, Memory>
-    ensures { IfOk result (λ s. string_bytes s ≡ text_in format day) }
+    ensures { IfOk result (λ s. string_bytes s ≡ day_text format day) }
 {
     let date = civil_date(day);
     match format {

@@ -1,7 +1,7 @@
 // Dates so many units later, and how many units lie between dates.
 ghost use Rattle.std.specs.Prelude.{◌≡◌, pos};
 ghost use Rattle.fx_types.specs.Civil.{IsCalendarDate};
-ghost use Rattle.fx_primitives.specs.Dates.{IsLater, difference, quarter_number as number_of_quarter};
+ghost use Rattle.fx_primitives.specs.Dates.{IsDayLater, difference, quarter_number as number_of_quarter};
 
 use crate::months::{day_of_number, month_number, months_later};
 use fx_types::{CivilDate, Day, Kind, TimeUnit, civil_date};
@@ -10,7 +10,7 @@ use fx_types::{CivilDate, Day, Kind, TimeUnit, civil_date};
 /// years keep the day of the month, or take the month's last day where it is shorter. `InvalidArgument` exactly where the day is not from 1900-01-01
 /// to 9999-12-31.
 pub fn date_add(day: Day, count: i64, unit: TimeUnit) -> Result<Day, Kind>
-    ensures { IsLater unit day count result }
+    ensures { IsDayLater unit day count result }
 {
     let count = i128::from(count);
     match unit {

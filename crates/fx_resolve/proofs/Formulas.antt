@@ -12,5 +12,5 @@ by_thing go (Some k) = refl
 
 pub formula_found : (fs : List FormulaName) (x : List ℕ) → in_formulas fs x ≡ option_map formula_meant (formula_named x fs)
 formula_found fs x =
-    by_thing formula_meant (meaning.place_of (λ (f : FormulaName). bytes_eq f.name x) 0 fs)
+    by_thing formula_meant (meaning.first_match (λ (f : FormulaName). bytes_eq f.name x) 0 fs)
     ∙ ap (option_map formula_meant) (thing_found (λ (f : FormulaName). bytes_eq f.name x) 0 fs)

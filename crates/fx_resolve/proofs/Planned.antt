@@ -8,13 +8,13 @@ use Rattle.fx_typing.specs.Plans.{is_inside, opens_rows, pick, plan_at, plan_by_
 use Rattle.fx_core.specs.declared.names.Names.{Names}
 use Rattle.fx_core.specs.Tree.{Head}
 use Rattle.fx_resolve.specs.declared.parts.Part.{Part}
-use Rattle.fx_resolve.specs.PartView.{part}
+use Rattle.fx_resolve.specs.PartView.{judged_part}
 
 -- behind the first part the function is known
 pub either_behind : (b : Bool) (f g : Fun) (n : ℕ) (qs : List Part) → (qs ≡ [] → ⊥) →
-    plan_by_row b (row_of (pick f g (map part qs))) n (length qs) ≡ plan_either b f g n (map part qs)
+    plan_by_row b (row_of (pick f g (map judged_part qs))) n (length qs) ≡ plan_either b f g n (map judged_part qs)
 either_behind b f g n [] h = absurd (h refl)
-either_behind b f g n (q ∷ qs) h = ap (plan_by_row b (row_of (pick f g (map part (q ∷ qs)))) n) (sym (length-map (q ∷ qs) part))
+either_behind b f g n (q ∷ qs) h = ap (plan_by_row b (row_of (pick f g (map judged_part (q ∷ qs)))) n) (sym (length-map (q ∷ qs) judged_part))
 
 -- the item at a place, and the items behind it
 split_at : {A : Type 0} (xs : List A) (i : ℕ) → i < length xs → (x : A) × (drop i xs ≡ x ∷ drop (suc i) xs) × (take (suc i) xs ≡ take i xs ++ x ∷ [])
@@ -24,10 +24,10 @@ split_at (x ∷ xs) (suc i) h = let s = split_at xs i (omega arith) in (s.0, s.1
 
 -- one part more
 pub opens_step : (m : Names) (g : Grant) (h : Head) (n : ℕ) (qs : List Part) (i : ℕ) → i < length qs →
-    opens_rows m g h n (map part (take i qs)) (map part (drop i qs))
-    ≡ is_inside (plan_at m g h n (map part (take i qs))).standing || opens_rows m g h n (map part (take (i + 1) qs)) (map part (drop (i + 1) qs))
+    opens_rows m g h n (map judged_part (take i qs)) (map judged_part (drop i qs))
+    ≡ is_inside (plan_at m g h n (map judged_part (take i qs))).standing || opens_rows m g h n (map judged_part (take (i + 1) qs)) (map judged_part (drop (i + 1) qs))
 opens_step m g h n qs i l =
     let s = split_at qs i l in
-    ap (λ ds. opens_rows m g h n (map part (take i qs)) (map part ds)) s.1
-    ∙ ap (λ ds. is_inside (plan_at m g h n (map part (take i qs))).standing || opens_rows m g h n ds (map part (drop (suc i) qs))) (sym (ap (map part) s.2 ∙ map-append part (take i qs) (s.0 ∷ [])))
-    ∙ ap (λ k. is_inside (plan_at m g h n (map part (take i qs))).standing || opens_rows m g h n (map part (take k qs)) (map part (drop k qs))) (sym (add-one i))
+    ap (λ ds. opens_rows m g h n (map judged_part (take i qs)) (map judged_part ds)) s.1
+    ∙ ap (λ ds. is_inside (plan_at m g h n (map judged_part (take i qs))).standing || opens_rows m g h n ds (map judged_part (drop (suc i) qs))) (sym (ap (map judged_part) s.2 ∙ map-append judged_part (take i qs) (s.0 ∷ [])))
+    ∙ ap (λ k. is_inside (plan_at m g h n (map judged_part (take i qs))).standing || opens_rows m g h n (map judged_part (take k qs)) (map judged_part (drop k qs))) (sym (add-one i))

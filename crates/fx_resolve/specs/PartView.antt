@@ -7,8 +7,8 @@ use Rattle.fx_resolve.specs.declared.parts.Part.{Part}
 use Rattle.fx_resolve.specs.declared.parts.Part.TheVariants.{Piece, Meant, Target, Assigned}
 use Rattle.fx_resolve.specs.MeaningView.{meaning_view}
 
-abbrev pub part : Part → parts.Part
-part (Piece p) = parts.piece (local.piece p)
-part (Meant m) = parts.meant (meaning_view m)
-part (Target a x) = parts.target a x
-part (Assigned ns xs) = parts.assigned ns.items (map typed xs.items)
+abbrev pub judged_part : Part → parts.JudgedPart
+judged_part (Piece p) = parts.piece (local.piece_view p)
+judged_part (Meant m) = parts.meant (meaning_view m)
+judged_part (Target a x) = parts.target a x
+judged_part (Assigned ns xs) = parts.assigned ns.items (map typed xs.items)

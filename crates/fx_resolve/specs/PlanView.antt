@@ -10,8 +10,8 @@ use Rattle.fx_resolve.specs.declared.plans.Standing.TheVariants as s
 use Rattle.fx_resolve.specs.declared.plans.Plan.{Plan}
 
 -- the head of a tree
-abbrev pub head_of : Tree → Head
-head_of (node at h ts) = h
+abbrev pub tree_head : Tree → Head
+tree_head (node at h ts) = h
 
 abbrev pub grant : Grant → parts.Grant
 grant g.Nothing = parts.nothing
@@ -23,11 +23,11 @@ grant g.AliasedTarget = parts.aliased_target
 grant (g.AMeaning b) = parts.a_meaning b
 grant (g.OnScreen b) = parts.on_screen b
 
-abbrev pub standing : Standing → typing.Standing
-standing s.Plain = typing.plain
-standing s.Inside = typing.inside
-standing s.Bound = typing.bound
-standing s.Catching = typing.catching
+abbrev pub part_scope : Standing → typing.PartScope
+part_scope s.Plain = typing.plain
+part_scope s.Inside = typing.inside
+part_scope s.Bound = typing.bound
+part_scope s.Catching = typing.catching
 
-abbrev pub plan : Plan → plans.Plan
-plan p = plans.planned (standing p.standing) (grant p.grant)
+abbrev pub plan : Plan → plans.ArgumentRule
+plan p = plans.argument_rule (part_scope p.standing) (grant p.grant)

@@ -11,8 +11,8 @@ ghost use Rattle.fx_core.specs.SourceTypes.{property_of};
 ghost use Rattle.fx_core.specs.declared.names.Property.{Property};
 ghost use Rattle.fx_core.specs.ColumnLists.{field_in};
 ghost use Rattle.fx_typing.specs.Meaning as sought;
-ghost use Rattle.fx_typing.specs.Meaning.{place_of};
-ghost use Rattle.fx_typing.specs.Answers.{Answers};
+ghost use Rattle.fx_typing.specs.Meaning.{first_match};
+ghost use Rattle.fx_typing.specs.Answers.{IsAnswerOf};
 ghost use Rattle.fx_typing.specs.TypedView.{typed};
 ghost use Rattle.fx_resolve.specs.MeaningView.{meaning_view};
 
@@ -116,7 +116,7 @@ fn cell_or_default(
 ) -> Result<Typed, Memory>
     requires { IsLawful names.now }
     ensures { IfOk result (λ t. typed t ≡ sought.written_or kind name.now (shape ty)
-        (place_of (λ (p : Property). nat_eq p.control number && bytes_eq p.name name.now) 0 names.now.properties)) }
+        (first_match (λ (p : Property). nat_eq p.control number && bytes_eq p.name name.now) 0 names.now.properties)) }
 {
     if let Some((_, property)) = property_in(names.properties.as_slice(), number, name) {
         let core = make_core::read(Source::Cell(property.cell));
@@ -136,7 +136,7 @@ fn read_property(
     name: &Words,
 ) -> Result<Typed, Wrong>
     requires { IsLawful names.now }
-    ensures { Answers typed (sought.property_read names.now number control.now name.now
+    ensures { IsAnswerOf typed (sought.property_read names.now number control.now name.now
         (property_of name.now control.now)) result }
 {
     match property_type(alloc, control, name)? {
@@ -150,7 +150,7 @@ fn read_property(
 
 // What the user gave to a control.
 fn read_input(number: u32, kind: Control) -> Result<Typed, Wrong>
-    ensures { Answers typed (sought.input_read number (input_type kind)) result }
+    ensures { IsAnswerOf typed (sought.input_read number (input_type kind)) result }
 {
     match input_ty(kind) {
         Some(ty) => Ok(Typed {
@@ -170,7 +170,7 @@ fn read_control(
     name: &Words,
 ) -> Result<Typed, Wrong>
     requires { IsLawful names.now }
-    ensures { Answers typed (sought.control_read names.now number control.now control.now.gallery name.now) result }
+    ensures { IsAnswerOf typed (sought.control_read names.now number control.now control.now.gallery name.now) result }
 {
     if control.gallery.is_some() {
         return Err(Wrong::Refused(Rule::WrongType));
@@ -189,7 +189,7 @@ fn read_control(
 
 // A member of an enumeration is the text of its name.
 fn member_of(alloc: Global, enumeration: Enumeration, name: &Words) -> Result<Typed, Wrong>
-    ensures { Answers typed (sought.member_of (has_member enumeration (encode_utf8_all name.now)) name.now) result }
+    ensures { IsAnswerOf typed (sought.member_of (has_member enumeration (encode_utf8_all name.now)) name.now) result }
 {
     if !enumeration.has(name.as_str()) {
         return Err(Wrong::Refused(Rule::UnknownColumn));
@@ -202,7 +202,7 @@ fn member_of(alloc: Global, enumeration: Enumeration, name: &Words) -> Result<Ty
 
 // A field of a record; other types have none.
 fn read_field(alloc: Global, before: Typed, name: &Words) -> Result<Typed, Wrong>
-    ensures { Answers typed (sought.field_read before.core name.now (shape before.ty)) result }
+    ensures { IsAnswerOf typed (sought.field_read before.core name.now (shape before.ty)) result }
 {
     let Typed { core, ty } = before;
     match ty {
@@ -213,7 +213,7 @@ fn read_field(alloc: Global, before: Typed, name: &Words) -> Result<Typed, Wrong
 
 // A column of a record.
 fn known_field(alloc: Global, core: Core, name: &Words, columns: &Columns) -> Result<Typed, Wrong>
-    ensures { Answers typed (sought.known_field core name.now (field_in name.now (column_list columns.now))) result }
+    ensures { IsAnswerOf typed (sought.known_field core name.now (field_in name.now (column_list columns.now))) result }
 {
     match field_in(name, columns) {
         Some(ty) => {
@@ -231,7 +231,7 @@ fn known_field(alloc: Global, core: Core, name: &Words, columns: &Columns) -> Re
 /// member of an enumeration.
 pub fn dot(alloc: Global, names: &Names, name: &Words, before: Meaning) -> Result<Typed, Wrong>
     requires { IsLawful names.now }
-    ensures { Answers typed (sought.dotted names.now name.now (Some (meaning_view before.entry))) result }
+    ensures { IsAnswerOf typed (sought.dotted names.now name.now (Some (meaning_view before.entry))) result }
 {
     match before {
         Meaning::Valued(value) => read_field(alloc, value, name),

@@ -6,9 +6,9 @@ ghost use Rattle.fx_core.specs.Lawful.{IsLawful};
 ghost use Rattle.fx_core.specs.Term.{nil, of};
 ghost use Rattle.fx_core.specs.Term as top;
 ghost use Rattle.fx_typing.specs.Meaning as sought;
-ghost use Rattle.fx_typing.specs.Answers.{Answers};
+ghost use Rattle.fx_typing.specs.Answers.{IsAnswerOf};
 ghost use Rattle.fx_typing.specs.TypedView.{typed};
-ghost use Rattle.fx_resolve.specs.MeaningView.{as_valued, in_formulas, meaning_view, place};
+ghost use Rattle.fx_resolve.specs.MeaningView.{as_valued, in_formulas, meaning_view, place_view};
 ghost use Rattle.fx_resolve.specs.ReservedView.{reserved_meaning};
 
 use crate::scoped::{in_scopes, this_record};
@@ -137,7 +137,7 @@ fn reserved_meaning<'a>(
 ) -> Result<Option<Meaning<'a>>, Memory>
     requires { length scopes.now < 256 }
     ensures { IfOk result (λ m. option_map meaning_view m
-        ≡ reserved_meaning (place at.now) scopes.now catches reserved) }
+        ≡ reserved_meaning (place_view at.now) scopes.now catches reserved) }
 {
     let found = match reserved {
         Reserved::ThisRecord => this_record(alloc, scopes)?,
@@ -156,7 +156,7 @@ fn reserved_meaning<'a>(
 // A name among the context variables of the formula's screen.
 fn in_context(alloc: Global, at: &Place, name: &Words) -> Result<Option<Typed>, Memory>
     requires { IsLawful at.now.names.now }
-    ensures { IfOk result (λ t. option_map as_valued t ≡ sought.in_context (place at.now) name.now) }
+    ensures { IfOk result (λ t. option_map as_valued t ≡ sought.in_context (place_view at.now) name.now) }
 {
     match screen_variable(at.names, at.screen, name) {
         Some((number, variable)) => {
@@ -225,7 +225,7 @@ pub fn meaning_of<'a>(
     requires lawful { IsLawful at.now.names.now }
     requires shallow { length scopes.now < 256 }
     ensures { IfOk result (λ m. option_map meaning_view m
-        ≡ sought.meaning_of (place at.now) scopes.now catches name.now) }
+        ≡ sought.meaning_of (place_view at.now) scopes.now catches name.now) }
 {
     if let Some(found) = in_scopes(alloc, name, scopes)? {
         return Ok(Some(Meaning::Valued(found)));
@@ -242,7 +242,7 @@ pub fn meaning_of<'a>(
 /// A name as a formula of its own: `UnknownName` where it means nothing or an enumeration, and `WrongType`
 /// where it is a control or a screen.
 pub fn as_value(meaning: Option<Meaning>) -> Result<Typed, Wrong>
-    ensures { Answers typed (sought.named (option_map meaning_view meaning.entry)) result }
+    ensures { IsAnswerOf typed (sought.named (option_map meaning_view meaning.entry)) result }
 {
     match meaning {
         Some(Meaning::Valued(value)) => Ok(value),

@@ -5,9 +5,9 @@ ghost use Rattle.fx_typing.specs.Parts as parts;
 ghost use Rattle.fx_typing.specs.Parts.{may_act};
 ghost use Rattle.fx_typing.specs.Plans as plans;
 ghost use Rattle.fx_typing.specs.WellTyped.{standing_of};
-ghost use Rattle.fx_typing.specs.TypedView.{piece};
-ghost use Rattle.fx_resolve.specs.PartView.{part};
-ghost use Rattle.fx_resolve.specs.PlanView.{grant, head_of, plan, standing};
+ghost use Rattle.fx_typing.specs.TypedView.{piece_view};
+ghost use Rattle.fx_resolve.specs.PartView.{judged_part};
+ghost use Rattle.fx_resolve.specs.PlanView.{grant, tree_head, plan, part_scope};
 
 use crate::parts::Part;
 use fx_core::expr::{Expr, Node};
@@ -76,21 +76,21 @@ impl Grant {
 impl Standing {
     /// Whether it is the scope of a row.
     pub fn is_inside(self) -> bool
-        ensures { result ≡ plans.is_inside (standing self) }
+        ensures { result ≡ plans.is_inside (part_scope self) }
     {
         matches!(self, Standing::Inside)
     }
 
     /// Whether an error is caught.
     pub fn is_catching(self) -> bool
-        ensures { result ≡ plans.is_catching (standing self) }
+        ensures { result ≡ plans.is_catching (part_scope self) }
     {
         matches!(self, Standing::Catching)
     }
 }
 
 fn make_plan(place: Standing, allowed: Grant) -> Plan
-    ensures { plan result ≡ plans.planned (standing place) (grant allowed) }
+    ensures { plan result ≡ plans.argument_rule (part_scope place) (grant allowed) }
 {
     Plan {
         standing: place,
@@ -106,7 +106,7 @@ fn if_acting(acts: bool) -> Grant
 }
 
 fn standing_of(takes: Takes) -> Standing
-    ensures { standing result ≡ standing_of takes }
+    ensures { part_scope result ≡ standing_of takes }
 {
     match takes {
         Takes::Formula(_) | Takes::ScalarFormula | Takes::AnyFormula | Takes::RowFormula => {
@@ -138,8 +138,8 @@ fn plan_by_row(acts: bool, row: Row, count: usize, place: usize) -> Plan
 
 // Whether a part is a table, or a value with a name for its rows.
 fn is_over_rows(first: &Part) -> bool
-    ensures { (f : Fun) → (g : Fun) → (qs : List parts.Part)
-        → plans.pick f g (part first.now ∷ qs) ≡ (if result then g else f) }
+    ensures { (f : Fun) → (g : Fun) → (qs : List parts.JudgedPart)
+        → plans.pick f g (judged_part first.now ∷ qs) ≡ (if result then g else f) }
 {
     match first {
         Part::Piece(first) => has_rows(first),
@@ -148,8 +148,8 @@ fn is_over_rows(first: &Part) -> bool
 }
 
 fn has_rows(first: &Piece) -> bool
-    ensures { (f : Fun) → (g : Fun) → (qs : List parts.Part)
-        → plans.pick f g (parts.piece (piece first.now) ∷ qs) ≡ (if result then g else f) }
+    ensures { (f : Fun) → (g : Fun) → (qs : List parts.JudgedPart)
+        → plans.pick f g (parts.piece (piece_view first.now) ∷ qs) ≡ (if result then g else f) }
 {
     match first {
         Piece::Value(alias, value) => alias.is_some() || matches!(value.ty, Ty::Tab(_)),
@@ -160,7 +160,7 @@ fn has_rows(first: &Piece) -> bool
 /// Under one name: the function of the rows of a table, where the first part is one or has a name for
 /// its rows, and else that of scalars.
 pub fn pick(scalars: Fun, rows: Fun, parts: &[Part]) -> Fun
-    ensures { result ≡ plans.pick scalars rows (map part parts.now) }
+    ensures { result ≡ plans.pick scalars rows (map judged_part parts.now) }
 {
     match parts.first() {
         Some(first) if is_over_rows(first) => rows,
@@ -170,7 +170,7 @@ pub fn pick(scalars: Fun, rows: Fun, parts: &[Part]) -> Fun
 
 // The first part may be a table with a name for its rows.
 fn plan_either(acts: bool, scalars: Fun, rows: Fun, count: usize, done: &[Part]) -> Plan
-    ensures { plan result ≡ plans.plan_either acts scalars rows count (map part done.now) }
+    ensures { plan result ≡ plans.plan_either acts scalars rows count (map judged_part done.now) }
 {
     if done.is_empty() {
         return make_plan(Standing::Plain, Grant::AnAlias);
@@ -203,7 +203,7 @@ fn plan_with(acts: bool, place: usize) -> Plan
 
 // An acting call: the first place, and the ones behind it.
 fn first_then(first: Grant, others: Standing, behind: Grant, place: usize) -> Plan
-    ensures { plan result ≡ plans.first_then (grant first) (standing others) (grant behind) place }
+    ensures { plan result ≡ plans.first_then (grant first) (part_scope others) (grant behind) place }
 {
     if place == 0 {
         make_plan(Standing::Plain, first)
@@ -242,7 +242,7 @@ fn plan_act(acts: bool, acting: Acting, place: usize) -> Plan
 }
 
 fn plan_call(acts: bool, shape: Option<SigShape>, count: usize, done: &[Part]) -> Plan
-    ensures { plan result ≡ plans.plan_call acts shape count (map part done.now) }
+    ensures { plan result ≡ plans.plan_call acts shape count (map judged_part done.now) }
 {
     let place = done.len();
     match shape {
@@ -271,7 +271,7 @@ fn call_shape(names: &Names, name: &Words) -> Option<SigShape>
 /// How the part behind the done ones is judged, of a node with so many parts.
 pub fn plan_at(names: &Names, whole: Grant, head: &Expr, count: usize, done: &[Part]) -> Plan
     ensures { plan result
-        ≡ plans.plan_at names.now (grant whole) (head_of head.now) count (map part done.now) }
+        ≡ plans.plan_at names.now (grant whole) (tree_head head.now) count (map judged_part done.now) }
 {
     let acts = whole.may_act();
     match &head.node {
@@ -306,8 +306,8 @@ fn field_grant(whole: Grant) -> Grant
 
 /// Whether one of the parts of a node, which are so many, stands in the scope of a row of the first.
 pub fn opens_rows(names: &Names, whole: Grant, head: &Expr, parts: &[Part]) -> bool
-    ensures { result ≡ plans.opens_rows names.now (grant whole) (head_of head.now)
-        (length parts.now) [] (map part parts.now) }
+    ensures { result ≡ plans.opens_rows names.now (grant whole) (tree_head head.now)
+        (length parts.now) [] (map judged_part parts.now) }
 {
     for place in 0..parts.len() {
         let plan = plan_at(names, whole, head, parts.len(), &parts[..place]);

@@ -3,7 +3,7 @@ ghost use Rattle.std.specs.Prelude.{◌≡◌, ◌<◌, IfOk, length, option_map
 ghost use Rattle.fx_types.specs.TypeView.{shape};
 ghost use Rattle.fx_core.specs.Term.{nil, of};
 ghost use Rattle.fx_core.specs.Term as top;
-ghost use Rattle.fx_typing.specs.Columns.{field_of};
+ghost use Rattle.fx_typing.specs.Columns.{field_shape};
 ghost use Rattle.fx_typing.specs.Meaning as sought;
 ghost use Rattle.fx_typing.specs.TypedView.{typed};
 ghost use Rattle.fx_resolve.specs.MeaningView.{as_valued};
@@ -19,7 +19,7 @@ use std::alloc::Global;
 
 // The type of a field of a record; other types have none.
 fn field_type<'a>(name: &Words, ty: &'a Ty) -> Option<&'a Ty>
-    ensures { option_map (λ t. shape t.now) result ≡ field_of name.now (shape ty.now) }
+    ensures { option_map (λ t. shape t.now) result ≡ field_shape name.now (shape ty.now) }
 {
     match ty {
         Ty::Rec(columns) => field_in(name, columns),
@@ -40,7 +40,7 @@ fn row_as(alloc: Global, number: u8, row_type: &Ty) -> Result<Typed, Memory>
 // A field of the row of a scope.
 fn field_at(alloc: Global, number: u8, name: &Words, row_type: &Ty) -> Result<Option<Typed>, Memory>
     ensures { IfOk result (λ t. option_map as_valued t
-        ≡ sought.field_at number name.now (field_of name.now (shape row_type.now))) }
+        ≡ sought.field_at number name.now (field_shape name.now (shape row_type.now))) }
 {
     match field_type(name, row_type) {
         Some(ty) => Ok(Some(Typed {

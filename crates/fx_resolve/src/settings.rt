@@ -3,11 +3,11 @@ ghost use Rattle.std.specs.Prelude.{◌≡◌, ◌≤◌, ◌+◌, IfOk, None, O
 ghost use Rattle.fx_types.specs.TypeView.{shape};
 ghost use Rattle.fx_typing.specs.Parts as parts;
 ghost use Rattle.fx_typing.specs.Plans as plans;
-ghost use Rattle.fx_typing.specs.TypedView.{piece};
+ghost use Rattle.fx_typing.specs.TypedView.{piece_view};
 ghost use Rattle.fx_core.specs.Lawful.{IsLawful};
 ghost use Rattle.fx_typing.specs.WellTyped.{row_type};
-ghost use Rattle.fx_resolve.specs.PartView.{part};
-ghost use Rattle.fx_resolve.specs.PlanView.{head_of, standing};
+ghost use Rattle.fx_resolve.specs.PartView.{judged_part};
+ghost use Rattle.fx_resolve.specs.PlanView.{tree_head, part_scope};
 ghost use Rattle.fx_resolve.specs.ScopeView.{scope};
 ghost use Rattle.fx_resolve.specs.SettingView.{setting};
 
@@ -66,7 +66,7 @@ fn row_scope(alloc: Global, alias: &Option<Words>, row_type: Ty) -> Result<Scope
 // The scope of a row of a part.
 fn piece_row(alloc: Global, names: &Names, first: &Piece) -> Result<Scope, Memory>
     ensures { IfOk result (λ s. scope s
-        ≡ plans.first_row names.now (parts.piece (piece first.now))) }
+        ≡ plans.first_row names.now (parts.piece (piece_view first.now))) }
 {
     match first {
         Piece::Value(alias, value) => row_scope(alloc, alias, row_type(alloc, &value.ty)?),
@@ -77,7 +77,7 @@ fn piece_row(alloc: Global, names: &Names, first: &Piece) -> Result<Scope, Memor
 // The scope of a row of the first part.
 fn first_row(alloc: Global, names: &Names, first: &Part) -> Result<Scope, Memory>
     requires { IsLawful names.now }
-    ensures { IfOk result (λ s. scope s ≡ plans.first_row names.now (part first.now)) }
+    ensures { IfOk result (λ s. scope s ≡ plans.first_row names.now (judged_part first.now)) }
 {
     match first {
         Part::Piece(first) => piece_row(alloc, names, first),
@@ -103,7 +103,7 @@ fn copy_name(alloc: Global, name: &Option<Words>) -> Result<Option<Words>, Memor
 
 // The scope of a part itself, which is a record.
 fn piece_record(alloc: Global, first: &Piece) -> Result<Scope, Memory>
-    ensures { IfOk result (λ s. scope s ≡ plans.first_record (parts.piece (piece first.now))) }
+    ensures { IfOk result (λ s. scope s ≡ plans.first_record (parts.piece (piece_view first.now))) }
 {
     let row_type = match first {
         Piece::Value(_, value) => record_type(alloc, &value.ty)?,
@@ -125,7 +125,7 @@ fn record_scope(row_type: Ty) -> Scope
 
 // The scope of the first part itself, which is a record.
 fn first_record(alloc: Global, first: &Part) -> Result<Scope, Memory>
-    ensures { IfOk result (λ s. scope s ≡ plans.first_record (part first.now)) }
+    ensures { IfOk result (λ s. scope s ≡ plans.first_record (judged_part first.now)) }
 {
     match first {
         Part::Piece(first) => piece_record(alloc, first),
@@ -143,7 +143,7 @@ fn open(
 ) -> Result<(), Memory>
     requires { IsLawful names.now }
     ensures ok { OnOk result (scopes.new
-        ≡ plans.scopes_for names.now (standing place) scopes.old (map part done.now)) }
+        ≡ plans.scopes_for names.now (part_scope place) scopes.old (map judged_part done.now)) }
     ensures err { OnErr result (scopes.new ≡ scopes.old) }
 {
     match (place, done.first()) {
@@ -167,7 +167,7 @@ pub fn enter(
 ) -> Result<Stand, Memory>
     requires { IsLawful names.now }
     ensures ok { IfOk result (λ s. setting scopes.new s
-        ≡ plans.setting_at names.now (setting scopes.old whole) (head_of head.now) count (map part done.now)) }
+        ≡ plans.setting_at names.now (setting scopes.old whole) (tree_head head.now) count (map judged_part done.now)) }
     ensures outer { OnOk result (take (length scopes.old) scopes.new ≡ scopes.old) }
     ensures one { OnOk result (length scopes.new ≤ length scopes.old + 1) }
     ensures err { OnErr result (scopes.new ≡ scopes.old) }

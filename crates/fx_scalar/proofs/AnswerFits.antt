@@ -12,9 +12,9 @@ use Rattle.fx_core.specs.declared.rows.Answer.{Answer}
 use Rattle.fx_core.specs.declared.rows.Answer.TheVariants as answer
 use Rattle.fx_core.specs.Rows.{row_of}
 use Rattle.fx_scalar.specs.Answers.{IsPosition, OfDate, UnlessFault, date_answer, maybe_answer, number_answer, text_answer}
-use Rattle.fx_scalar.specs.Arguments.{at, date_at, first_fault, text_at}
+use Rattle.fx_scalar.specs.Arguments.{argument_at, date_at, first_fault, text_at}
 use Rattle.fx_scalar.specs.Errors.{IsErrorOf, error_of}
-use Rattle.fx_scalar.specs.ScalarFunctions.{IsResult, answered_fault, coalesced, formatted, is_blank, is_fault}
+use Rattle.fx_scalar.specs.ScalarFunctions.{IsResult, answered_fault, coalesced, formatted, is_blank_or_empty, is_fault}
 use Rattle.fx_scalar.specs.Fitting.{AnswersFit, FitPlaces, FitsAnswer}
 use Rattle.fx_scalar.proofs.Comparing.{fits_at}
 
@@ -59,7 +59,7 @@ formatted_fits f (Some z) r e = rw e refl
 
 coalesced_fits : (a : List Data) (t : Shape) → All (λ d. fits_in d t ≡ true) a → fits_in (coalesced a) t ≡ true
 coalesced_fits [] t h = refl
-coalesced_fits (d ∷ ds) t h = elim (is_blank d) as (λ b. fits_in (if b then coalesced ds else d) t ≡ true) [
+coalesced_fits (d ∷ ds) t h = elim (is_blank_or_empty d) as (λ b. fits_in (if b then coalesced ds else d) t ≡ true) [
   | true ↦ coalesced_fits ds t (λ k e lt. h (suc k) e (omega arith))
   | false ↦ h 0 d (omega arith)
 ]
@@ -160,7 +160,7 @@ result_fits fun.Value a r h e = read_fits (encode_utf8_all (text_at a 0)) r e
 result_fits fun.Text a r h e = rw e (fits_at a 0 texts (h 0))
 result_fits (fun.FormatNumber f) a r h e = formatted_fits _ _ r e
 result_fits (fun.FormatDate f) a r h e = formatted_fits _ _ r e
-result_fits fun.Error a r h e = error_fits (at a 0) r e
+result_fits fun.Error a r h e = error_fits (argument_at a 0) r e
 result_fits fun.Coalesce a r h e = λ t all. rw e (coalesced_fits a t all)
 result_fits f a r h e = absurd e
 

@@ -12,20 +12,20 @@ use Rattle.fx_value.specs.Operators.{AreOrdered, CanCompare}
 use Rattle.fx_value.specs.Fits.{fits_in}
 use Rattle.fx_core.specs.declared.functions.Fun.{Fun}
 use Rattle.fx_core.specs.declared.functions.Fun.TheVariants as fun
-use Rattle.fx_scalar.specs.Arguments.{at, first_fault}
+use Rattle.fx_scalar.specs.Arguments.{argument_at, first_fault}
 use Rattle.fx_scalar.specs.ScalarFunctions.{CanCompareIf, answered_fault, comparison_of, is_fault}
 use Rattle.fx_scalar.specs.Fitting.{FitPlaces, FittingCanApply}
 
 -- behind the last argument stands a blank one
-pub at_past : (a : List Data) (i : ℕ) → length a ≤ i → at a i ≡ blank
+pub at_past : (a : List Data) (i : ℕ) → length a ≤ i → argument_at a i ≡ blank
 at_past a i h = ap (λ o. unwrap_or o blank) (slice_get_past a i h)
 
 -- what fits as an argument also fits where there is none
-pub fits_at : (a : List Data) (i : ℕ) (t : Shape) → (i < length a → fits_in (at a i) t ≡ true) → fits_in (at a i) t ≡ true
+pub fits_at : (a : List Data) (i : ℕ) (t : Shape) → (i < length a → fits_in (argument_at a i) t ≡ true) → fits_in (argument_at a i) t ≡ true
 fits_at a i t h = elim (cases_lt i (length a)) [ inl l ↦ h l | inr g ↦ rw (at_past a i g) refl ]
 
 -- where no argument is an error, none stands at a place
-pub no_fault_at : (a : List Data) (i : ℕ) → first_fault a ≡ None → is_fault (at a i) ≡ false
+pub no_fault_at : (a : List Data) (i : ℕ) → first_fault a ≡ None → is_fault (argument_at a i) ≡ false
 no_fault_at [] zero h = refl
 no_fault_at [] (suc i) h = refl
 no_fault_at (fault k cs ∷ ds) i h = absurd (cc)
@@ -101,40 +101,40 @@ by_order Le d e h = h.1
 by_order Gt d e h = h.1
 by_order Ge d e h = h.1
 
-two_numbers : (a : List Data) → first_fault a ≡ None → (0 < length a → fits_in (at a 0) numbers ≡ true) → (1 < length a → fits_in (at a 1) numbers ≡ true) → AreOfOneType (at a 0) (at a 1) × AreOrdered (at a 0) (at a 1)
+two_numbers : (a : List Data) → first_fault a ≡ None → (0 < length a → fits_in (argument_at a 0) numbers ≡ true) → (1 < length a → fits_in (argument_at a 1) numbers ≡ true) → AreOfOneType (argument_at a 0) (argument_at a 1) × AreOrdered (argument_at a 0) (argument_at a 1)
 two_numbers a n h k =
-    numbers_compare (at a 0) (at a 1) (as_number (at a 0) (fits_at a 0 numbers h) (no_fault_at a 0 n)) (as_number (at a 1) (fits_at a 1 numbers k) (no_fault_at a 1 n))
+    numbers_compare (argument_at a 0) (argument_at a 1) (as_number (argument_at a 0) (fits_at a 0 numbers h) (no_fault_at a 0 n)) (as_number (argument_at a 1) (fits_at a 1 numbers k) (no_fault_at a 1 n))
 
-two_texts : (a : List Data) → first_fault a ≡ None → (0 < length a → fits_in (at a 0) texts ≡ true) → (1 < length a → fits_in (at a 1) texts ≡ true) → AreOfOneType (at a 0) (at a 1)
+two_texts : (a : List Data) → first_fault a ≡ None → (0 < length a → fits_in (argument_at a 0) texts ≡ true) → (1 < length a → fits_in (argument_at a 1) texts ≡ true) → AreOfOneType (argument_at a 0) (argument_at a 1)
 two_texts a n h k =
-    texts_compare (at a 0) (at a 1) (as_text (at a 0) (fits_at a 0 texts h) (no_fault_at a 0 n)) (as_text (at a 1) (fits_at a 1 texts k) (no_fault_at a 1 n))
+    texts_compare (argument_at a 0) (argument_at a 1) (as_text (argument_at a 0) (fits_at a 0 texts h) (no_fault_at a 0 n)) (as_text (argument_at a 1) (fits_at a 1 texts k) (no_fault_at a 1 n))
 
-two_booleans : (a : List Data) → first_fault a ≡ None → (0 < length a → fits_in (at a 0) booleans ≡ true) → (1 < length a → fits_in (at a 1) booleans ≡ true) → AreOfOneType (at a 0) (at a 1)
+two_booleans : (a : List Data) → first_fault a ≡ None → (0 < length a → fits_in (argument_at a 0) booleans ≡ true) → (1 < length a → fits_in (argument_at a 1) booleans ≡ true) → AreOfOneType (argument_at a 0) (argument_at a 1)
 two_booleans a n h k =
-    truths_compare (at a 0) (at a 1) (as_truth (at a 0) (fits_at a 0 booleans h) (no_fault_at a 0 n)) (as_truth (at a 1) (fits_at a 1 booleans k) (no_fault_at a 1 n))
+    truths_compare (argument_at a 0) (argument_at a 1) (as_truth (argument_at a 0) (fits_at a 0 booleans h) (no_fault_at a 0 n)) (as_truth (argument_at a 1) (fits_at a 1 booleans k) (no_fault_at a 1 n))
 
-two_dates : (a : List Data) → first_fault a ≡ None → (0 < length a → fits_in (at a 0) dates ≡ true) → (1 < length a → fits_in (at a 1) dates ≡ true) → AreOfOneType (at a 0) (at a 1) × AreOrdered (at a 0) (at a 1)
+two_dates : (a : List Data) → first_fault a ≡ None → (0 < length a → fits_in (argument_at a 0) dates ≡ true) → (1 < length a → fits_in (argument_at a 1) dates ≡ true) → AreOfOneType (argument_at a 0) (argument_at a 1) × AreOrdered (argument_at a 0) (argument_at a 1)
 two_dates a n h k =
-    dates_compare (at a 0) (at a 1) (as_date (at a 0) (fits_at a 0 dates h) (no_fault_at a 0 n)) (as_date (at a 1) (fits_at a 1 dates k) (no_fault_at a 1 n))
+    dates_compare (argument_at a 0) (argument_at a 1) (as_date (argument_at a 0) (fits_at a 0 dates h) (no_fault_at a 0 n)) (as_date (argument_at a 1) (fits_at a 1 dates k) (no_fault_at a 1 n))
 
 -- the places of a function that compares take two values of one type
 compares : (f : Fun) (a : List Data) → FitPlaces f a → answered_fault f a ≡ None → CanCompareIf (comparison_of f) a
-compares fun.EqualNumbers a h n = by_order Eq (at a 0) (at a 1) (two_numbers a n (h 0) (h 1))
+compares fun.EqualNumbers a h n = by_order Eq (argument_at a 0) (argument_at a 1) (two_numbers a n (h 0) (h 1))
 compares fun.EqualTexts a h n = two_texts a n (h 0) (h 1)
 compares fun.EqualBooleans a h n = two_booleans a n (h 0) (h 1)
-compares fun.EqualDates a h n = by_order Eq (at a 0) (at a 1) (two_dates a n (h 0) (h 1))
-compares fun.UnequalNumbers a h n = by_order Ne (at a 0) (at a 1) (two_numbers a n (h 0) (h 1))
+compares fun.EqualDates a h n = by_order Eq (argument_at a 0) (argument_at a 1) (two_dates a n (h 0) (h 1))
+compares fun.UnequalNumbers a h n = by_order Ne (argument_at a 0) (argument_at a 1) (two_numbers a n (h 0) (h 1))
 compares fun.UnequalTexts a h n = two_texts a n (h 0) (h 1)
 compares fun.UnequalBooleans a h n = two_booleans a n (h 0) (h 1)
-compares fun.UnequalDates a h n = by_order Ne (at a 0) (at a 1) (two_dates a n (h 0) (h 1))
-compares fun.LessNumbers a h n = by_order Lt (at a 0) (at a 1) (two_numbers a n (h 0) (h 1))
-compares fun.LessDates a h n = by_order Lt (at a 0) (at a 1) (two_dates a n (h 0) (h 1))
-compares fun.LessEqualNumbers a h n = by_order Le (at a 0) (at a 1) (two_numbers a n (h 0) (h 1))
-compares fun.LessEqualDates a h n = by_order Le (at a 0) (at a 1) (two_dates a n (h 0) (h 1))
-compares fun.GreaterNumbers a h n = by_order Gt (at a 0) (at a 1) (two_numbers a n (h 0) (h 1))
-compares fun.GreaterDates a h n = by_order Gt (at a 0) (at a 1) (two_dates a n (h 0) (h 1))
-compares fun.GreaterEqualNumbers a h n = by_order Ge (at a 0) (at a 1) (two_numbers a n (h 0) (h 1))
-compares fun.GreaterEqualDates a h n = by_order Ge (at a 0) (at a 1) (two_dates a n (h 0) (h 1))
+compares fun.UnequalDates a h n = by_order Ne (argument_at a 0) (argument_at a 1) (two_dates a n (h 0) (h 1))
+compares fun.LessNumbers a h n = by_order Lt (argument_at a 0) (argument_at a 1) (two_numbers a n (h 0) (h 1))
+compares fun.LessDates a h n = by_order Lt (argument_at a 0) (argument_at a 1) (two_dates a n (h 0) (h 1))
+compares fun.LessEqualNumbers a h n = by_order Le (argument_at a 0) (argument_at a 1) (two_numbers a n (h 0) (h 1))
+compares fun.LessEqualDates a h n = by_order Le (argument_at a 0) (argument_at a 1) (two_dates a n (h 0) (h 1))
+compares fun.GreaterNumbers a h n = by_order Gt (argument_at a 0) (argument_at a 1) (two_numbers a n (h 0) (h 1))
+compares fun.GreaterDates a h n = by_order Gt (argument_at a 0) (argument_at a 1) (two_dates a n (h 0) (h 1))
+compares fun.GreaterEqualNumbers a h n = by_order Ge (argument_at a 0) (argument_at a 1) (two_numbers a n (h 0) (h 1))
+compares fun.GreaterEqualDates a h n = by_order Ge (argument_at a 0) (argument_at a 1) (two_dates a n (h 0) (h 1))
 compares f a h n = tt
 
 pub fitting_applies : FittingCanApply

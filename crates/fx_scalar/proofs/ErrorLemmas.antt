@@ -3,14 +3,14 @@ use Rattle.std.proofs.Common.{◌≡◌, ℕ, List, [], ◌∷◌, Bool, true, f
 use Rattle.std.specs.Str.{chars}
 use Rattle.std.specs.Prelude.{bytes_eq, if◌then◌else◌}
 use Rattle.fx_types.specs.declared.faults.Kind.TheVariants.{Div0, Numeric, InvalidArgument, NotFound, MissingRequired, ConstraintViolated, QuotaExceeded, Validation, Custom}
-use Rattle.fx_types.specs.Lookup.{item_of}
+use Rattle.fx_types.specs.Lookup.{item_named}
 use Rattle.fx_types.specs.Types.{blanks, numbers, texts, booleans, dates}
 use Rattle.fx_types.specs.Values.{Data, blank, text, field_list}
 use Rattle.fx_types.specs.ValueView.{view}
 use Rattle.fx_types.specs.declared.faults.Kind.{Kind}
 use Rattle.fx_types.specs.declared.values.Value.{Value}
 use Rattle.fx_types.specs.declared.values.Value.TheVariants.{Blank, Number, Text, Boolean, Date, Rec, Tab, Fault}
-use Rattle.fx_value.specs.Coercion.{CanCoerce, same, value_in}
+use Rattle.fx_value.specs.Coercion.{CanCoerce, same, field_or_blank}
 use Rattle.fx_types.specs.Faults.{kind_name}
 use Rattle.fx_scalar.specs.Errors.{RecordsTell}
 
@@ -39,21 +39,21 @@ kind_characters Validation = refl
 kind_characters Custom = refl
 
 -- the value under a name that was found, and that of a name that was not
-pub value_found : (n : List ℕ) (fs : List (List ℕ × Data)) (d : Data) → Some d ≡ item_of n fs → value_in n (field_list fs) ≡ d
+pub value_found : (n : List ℕ) (fs : List (List ℕ × Data)) (d : Data) → Some d ≡ item_named n fs → field_or_blank n (field_list fs) ≡ d
 value_found n [] d e = absurd cc
 value_found n (f ∷ fs) d e = by (bytes_eq f.0 n) (value_found n fs d) e
   where
-    by : (b : Bool) → (Some d ≡ item_of n fs → value_in n (field_list fs) ≡ d) → Some d ≡ (if b then Some f.1 else item_of n fs) →
-        (if b then f.1 else value_in n (field_list fs)) ≡ d
+    by : (b : Bool) → (Some d ≡ item_named n fs → field_or_blank n (field_list fs) ≡ d) → Some d ≡ (if b then Some f.1 else item_named n fs) →
+        (if b then f.1 else field_or_blank n (field_list fs)) ≡ d
     by true r e = cc
     by false r e = r e
 
-pub none_found : (n : List ℕ) (fs : List (List ℕ × Data)) → None ≡ item_of n fs → value_in n (field_list fs) ≡ blank
+pub none_found : (n : List ℕ) (fs : List (List ℕ × Data)) → None ≡ item_named n fs → field_or_blank n (field_list fs) ≡ blank
 none_found n [] e = refl
 none_found n (f ∷ fs) e = by (bytes_eq f.0 n) (none_found n fs) e
   where
-    by : (b : Bool) → (None ≡ item_of n fs → value_in n (field_list fs) ≡ blank) → None ≡ (if b then Some f.1 else item_of n fs) →
-        (if b then f.1 else value_in n (field_list fs)) ≡ blank
+    by : (b : Bool) → (None ≡ item_named n fs → field_or_blank n (field_list fs) ≡ blank) → None ≡ (if b then Some f.1 else item_named n fs) →
+        (if b then f.1 else field_or_blank n (field_list fs)) ≡ blank
     by true r e = absurd cc
     by false r e = r e
 

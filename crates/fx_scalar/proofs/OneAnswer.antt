@@ -4,13 +4,13 @@ use Rattle.std.specs.Prelude.{◌+ℤ◌, ◌-ℤ◌, neg_ℤ, encode_utf8_all}
 use Rattle.fx_number.specs.Decimal.{product_of, quotient_of, rounded_to}
 use Rattle.fx_number.specs.declared.Way.TheVariants.{Near, Up, Down, Floor}
 use Rattle.fx_types.specs.Values.{Data, boolean}
-use Rattle.fx_primitives.specs.Folds.{present}
+use Rattle.fx_primitives.specs.Folds.{nonblank}
 use Rattle.fx_core.specs.declared.functions.Fun.{Fun}
 use Rattle.fx_core.specs.declared.functions.Fun.TheVariants as fun
 use Rattle.fx_types.specs.Civil.{civil_of}
 use Rattle.fx_primitives.specs.Dates.{difference, number_of_parts, weekday_of}
 use Rattle.fx_scalar.specs.Answers.{IsPosition, UnlessFault, date_answer, maybe_answer, number_answer, text_answer}
-use Rattle.fx_scalar.specs.Arguments.{at, date_at, maybe_number, maybe_whole_at, number_at, text_at, whole_at}
+use Rattle.fx_scalar.specs.Arguments.{argument_at, date_at, maybe_number, maybe_whole_at, number_at, text_at, whole_at}
 use Rattle.fx_scalar.specs.ScalarFunctions.{IsResult, answered_fault, start_of}
 use Rattle.fx_scalar.specs.Laws.{OneAnswer}
 use Rattle.fx_scalar.proofs.Single.{AtMostOne, answer_one, as_kind_one, checked_one, date_read_one, day_one, equal_one, error_one, found_one, greatest_one, later_one, least_one, of_date_one, position_one, power_one, read_one, shifted_one, substituted_one, sum_one, truth_one, unless_zero_one, whole_one}
@@ -30,9 +30,9 @@ result_one fun.Round a = answer_one number_answer _ (as_kind_one _ (checked_one 
 result_one fun.RoundUp a = answer_one number_answer _ (as_kind_one _ (checked_one (rounded_to (number_at a 0) (whole_at a 1) Up)))
 result_one fun.RoundDown a = answer_one number_answer _ (as_kind_one _ (checked_one (rounded_to (number_at a 0) (whole_at a 1) Down)))
 result_one fun.Mod a = answer_one number_answer _ (as_kind_one _ (unless_zero_one (number_at a 1) _ (equal_one _)))
-result_one fun.Sum a = answer_one maybe_answer _ (sum_one (present (map maybe_number a)))
-result_one fun.Min a = answer_one maybe_answer _ (λ r s h k. h.2 ∙ ap Ok (least_one (present (map maybe_number a)) h.0 k.0 h.1 k.1) ∙ sym k.2)
-result_one fun.Max a = answer_one maybe_answer _ (λ r s h k. h.2 ∙ ap Ok (greatest_one (present (map maybe_number a)) h.0 k.0 h.1 k.1) ∙ sym k.2)
+result_one fun.Sum a = answer_one maybe_answer _ (sum_one (nonblank (map maybe_number a)))
+result_one fun.Min a = answer_one maybe_answer _ (λ r s h k. h.2 ∙ ap Ok (least_one (nonblank (map maybe_number a)) h.0 k.0 h.1 k.1) ∙ sym k.2)
+result_one fun.Max a = answer_one maybe_answer _ (λ r s h k. h.2 ∙ ap Ok (greatest_one (nonblank (map maybe_number a)) h.0 k.0 h.1 k.1) ∙ sym k.2)
 result_one fun.Average a = answer_one maybe_answer _ (equal_one _)
 result_one fun.Value a = read_one (encode_utf8_all (text_at a 0))
 result_one fun.Concatenation a = answer_one text_answer _ (equal_one _)
@@ -72,7 +72,7 @@ result_one fun.Blank a = equal_one _
 result_one fun.IsBlank a = equal_one _
 result_one fun.Coalesce a = equal_one _
 result_one fun.IsError a = equal_one _
-result_one fun.Error a = error_one (at a 0)
+result_one fun.Error a = error_one (argument_at a 0)
 result_one fun.IsBlankOrError a = equal_one _
 result_one (fun.FormatNumber f) a = equal_one _
 result_one (fun.FormatDate f) a = equal_one _

@@ -17,20 +17,20 @@ use Rattle.fx_types.specs.declared.faults.Kind.{Kind}
 use Rattle.fx_types.specs.Days.{IsDay}
 use Rattle.fx_types.specs.Types.{texts}
 use Rattle.fx_types.specs.Values.{Data, blank, number, text, boolean, date, rec, tab, fault}
-use Rattle.fx_value.specs.Coercion.{IsCoerced, IsReadAs, are_spaces, value_in}
+use Rattle.fx_value.specs.Coercion.{IsCoerced, IsReadAs, are_spaces, field_or_blank}
 use Rattle.fx_types.specs.Civil.{civil_of}
 use Rattle.fx_types.proofs.CivilDays.{civil_is_date}
 use Rattle.fx_types.specs.declared.formats.TimeUnit.{TimeUnit}
 use Rattle.fx_types.specs.declared.formats.TimeUnit.TheVariants.{Days, Months, Quarters, Years}
-use Rattle.fx_primitives.specs.Dates.{IsDayOrInvalid, IsInMonth, IsInMonthOrInvalid, IsLater, IsShifted}
+use Rattle.fx_primitives.specs.Dates.{IsDayOrInvalid, IsInMonth, IsInMonthOrInvalid, IsDayLater, IsShifted}
 use Rattle.fx_primitives.specs.Months.{year_of, month_of, month_number}
 use Rattle.fx_primitives.specs.Numbers.{AsKind, with_kind}
 use Rattle.fx_primitives.specs.Folds.{IsGreatest, IsLeast, IsSum}
-use Rattle.fx_primitives.specs.Search.{IsFirst, IsFound, IsFoundFrom, position_of}
+use Rattle.fx_primitives.specs.Search.{IsFirstPlace, IsFound, IsFoundFrom, position_of}
 use Rattle.fx_primitives.specs.Substitution.{IsSubstituted, substitute_of}
 use Rattle.fx_primitives.proofs.Replacing.{one_list, trichotomy}
 use Rattle.fx_scalar.specs.Errors.{IsErrorOf, error_of}
-use Rattle.fx_scalar.specs.Answers.{IsPosition, IsWhole, OfDate, number_answer}
+use Rattle.fx_scalar.specs.Answers.{IsPosition, IsWholeNumber, OfDate, number_answer}
 use Rattle.fx_scalar.specs.ScalarFunctions.{IsDateRead}
 
 -- at most one value has the property
@@ -205,7 +205,7 @@ in_month_one m place (Ok d) (Err e) h k = absurd (k.1 (year_in_range m place d h
 in_month_one m place (Err d) (Ok e) h k = absurd (h.1 (year_in_range m place e k.0 k.1))
 in_month_one m place (Err d) (Err e) h k = ap Err (h.0 ∙ sym k.0)
 
-pub later_one : (u : TimeUnit) (z n : ℤ) → AtMostOne (IsLater u z n)
+pub later_one : (u : TimeUnit) (z n : ℤ) → AtMostOne (IsDayLater u z n)
 later_one Days z n = day_one (z +ℤ n)
 later_one Months z n = in_month_one (pos (month_number (civil_of z)) +ℤ n) (civil_of z).day
 later_one Quarters z n = in_month_one (pos (month_number (civil_of z)) +ℤ (n *ℤ pos 3)) (civil_of z).day
@@ -217,7 +217,7 @@ date_read_one bs (Err d) (Ok z) h k = (h.0 z).1 ((k.0 z).0 refl)
 date_read_one bs (Err d) (Err e) h k = ap Err (h.1 ∙ sym k.1)
 
 -- ---- texts
-first_one : (part all : List ℕ) (from p q : ℕ) → IsFirst part all from p → IsFirst part all from q → p ≡ q
+first_one : (part all : List ℕ) (from p q : ℕ) → IsFirstPlace part all from p → IsFirstPlace part all from q → p ≡ q
 first_one part all from p q h k = elim (trichotomy p q) [
   | inl l ↦ absurd (k.first p h.behind l h.stands)
   | inr (inl e) ↦ e
@@ -263,7 +263,7 @@ pub of_date_one : (o : Option ℤ) (P : ℤ → Data → Type 0) → ((z : ℤ) 
 of_date_one None P one r s h k = h ∙ sym k
 of_date_one (Some z) P one r s h k = one z r s h k
 
-pub whole_one : (n : ℤ) → AtMostOne (IsWhole n)
+pub whole_one : (n : ℤ) → AtMostOne (IsWholeNumber n)
 whole_one n = answer_one number_answer _ (as_kind_one _ (checked_one (n *ℤ pos 10000)))
 
 pub position_one : (q : Result (Option ℕ) Kind) → AtMostOne (IsPosition q)
@@ -284,6 +284,6 @@ text_one (fault e cs) r s h k = h ∙ sym k
 
 pub error_one : (d : Data) → AtMostOne (IsErrorOf d)
 error_one (rec fs) r s h k =
-    h.4 ∙ ap (λ x. error_of x h.1) (text_one (value_in (codes "Kind") fs) h.0 k.0 h.2 k.2)
-    ∙ ap (error_of k.0) (text_one (value_in (codes "Message") fs) h.1 k.1 h.3 k.3) ∙ sym k.4
+    h.4 ∙ ap (λ x. error_of x h.1) (text_one (field_or_blank (codes "Kind") fs) h.0 k.0 h.2 k.2)
+    ∙ ap (error_of k.0) (text_one (field_or_blank (codes "Message") fs) h.1 k.1 h.3 k.3) ∙ sym k.4
 error_one d r s h k = h ∙ sym k

@@ -36,17 +36,17 @@ IsText P r = (q : Result (List ℕ) Kind) × P q × (r ≡ text_answer q)
 abbrev pub IsDate : (Result ℤ Kind → Type 0) → Data → Type 0
 IsDate P r = (q : Result ℤ Kind) × P q × (r ≡ date_answer q)
 
-abbrev pub IsTruth : (Bool → Type 0) → Data → Type 0
-IsTruth P r = (b : Bool) × P b × (r ≡ boolean b)
+abbrev pub IsTruthAnswer : (Bool → Type 0) → Data → Type 0
+IsTruthAnswer P r = (b : Bool) × P b × (r ≡ boolean b)
 
 -- the answer is this whole number, or Numeric where it is out of range
-abbrev pub IsWhole : ℤ → Data → Type 0
-IsWhole n = IsNumber (AsKind (Checked (n *ℤ pos 10000)))
+abbrev pub IsWholeNumber : ℤ → Data → Type 0
+IsWholeNumber n = IsNumber (AsKind (Checked (n *ℤ pos 10000)))
 
 -- the answer is this position or none, which is blank, or the error of one
 abbrev pub IsPosition : Result (Option ℕ) Kind → Data → Type 0
 IsPosition (Ok None) r = r ≡ blank
-IsPosition (Ok (Some n)) r = IsWhole (pos n) r
+IsPosition (Ok (Some n)) r = IsWholeNumber (pos n) r
 IsPosition (Err k) r = r ≡ fault k []
 
 -- a blank date makes the answer blank

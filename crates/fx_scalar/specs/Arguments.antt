@@ -10,8 +10,8 @@ abbrev pub views : List Value → List Data
 views = map view
 
 -- the argument at a place, counted from 0, which is blank where there is none
-abbrev pub at : List Data → ℕ → Data
-at ds i = unwrap_or (slice_get ds i) blank
+abbrev pub argument_at : List Data → ℕ → Data
+argument_at ds i = unwrap_or (slice_get ds i) blank
 
 -- the number, the text, the Boolean or the day in a value, which is none in a blank one
 abbrev pub maybe_number : Data → Option ℤ
@@ -41,16 +41,16 @@ abbrev pub truth_in : Data → Bool
 truth_in d = unwrap_or (maybe_truth d) false
 
 abbrev pub number_at : List Data → ℕ → ℤ
-number_at ds i = number_in (at ds i)
+number_at ds i = number_in (argument_at ds i)
 
 abbrev pub text_at : List Data → ℕ → List ℕ
-text_at ds i = text_in (at ds i)
+text_at ds i = text_in (argument_at ds i)
 
 abbrev pub truth_at : List Data → ℕ → Bool
-truth_at ds i = truth_in (at ds i)
+truth_at ds i = truth_in (argument_at ds i)
 
 abbrev pub date_at : List Data → ℕ → Option ℤ
-date_at ds i = maybe_date (at ds i)
+date_at ds i = maybe_date (argument_at ds i)
 
 -- a number cut towards zero to a whole one
 abbrev pub whole_at : List Data → ℕ → ℤ

@@ -9,7 +9,7 @@ use Rattle.fx_core.specs.declared.rows.Answer.TheVariants as answer
 use Rattle.fx_core.specs.declared.rows.Takes.{Takes}
 use Rattle.fx_core.specs.declared.rows.Takes.TheVariants as takes
 use Rattle.fx_core.specs.Rows.{row_of, shape_of, takes_at}
-use Rattle.fx_scalar.specs.Arguments.{at}
+use Rattle.fx_scalar.specs.Arguments.{argument_at}
 use Rattle.fx_scalar.specs.ScalarFunctions.{CanApply, IsAnswer, is_value}
 
 -- whether a value fits what a place takes: its type, where that has no parts
@@ -20,7 +20,7 @@ fits_place t d = true
 
 -- each argument fits its place
 abbrev pub FitPlaces : Fun → List Data → Type 0
-FitPlaces f a = (i : ℕ) → i < length a → fits_place (takes_at (row_of f) (length a) i) (at a i) ≡ true
+FitPlaces f a = (i : ℕ) → i < length a → fits_place (takes_at (row_of f) (length a) i) (argument_at a i) ≡ true
 
 -- the answer fits its type; a common one is each type that all arguments fit
 abbrev pub FitsAnswer : Answer → List Data → Data → Type 0

@@ -12,7 +12,7 @@ use Rattle.fx_core.specs.declared.functions.Form.{Form}
 use Rattle.fx_core.specs.declared.functions.Form.TheVariants as form
 use Rattle.fx_scalar.specs.declared.lazy_forms.Decision.{Decision}
 use Rattle.fx_scalar.specs.declared.lazy_forms.Decision.TheVariants.{Met, Unmet, Error}
-use Rattle.fx_scalar.specs.ScalarFunctions.{is_blank}
+use Rattle.fx_scalar.specs.ScalarFunctions.{is_blank_or_empty}
 
 -- ---- conditions
 
@@ -91,4 +91,4 @@ PassedOr false P Q = Q
 -- a value that is blank or an empty text is passed over, so that P holds, and another one, also an error, is
 -- the answer
 abbrev pub UnlessBlank : Data → Type 0 → Data → Type 0
-UnlessBlank w P v = PassedOr (is_blank w) P (v ≡ w)
+UnlessBlank w P v = PassedOr (is_blank_or_empty w) P (v ≡ w)

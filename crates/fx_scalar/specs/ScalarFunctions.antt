@@ -18,20 +18,20 @@ use Rattle.fx_core.specs.declared.functions.Fun.TheVariants as fun
 use Rattle.fx_core.specs.declared.rows.Takes.{Takes}
 use Rattle.fx_core.specs.declared.rows.Takes.TheVariants as takes
 use Rattle.fx_core.specs.Rows.{row_of}
-use Rattle.fx_primitives.specs.Texts.{made, left_of, right_of, mid_of, replace_of, joined, lower_of, upper_of, trimmed}
+use Rattle.fx_primitives.specs.Texts.{text_or_quota, left_of, right_of, mid_of, replace_of, joined, lower_of, upper_of, trimmed}
 use Rattle.fx_primitives.specs.Search.{IsFound}
 use Rattle.fx_primitives.specs.Substitution.{IsSubstituted}
 use Rattle.fx_primitives.specs.Folding.{BeginsWithoutCase, EndsWithoutCase, HasPart, HasPartWithoutCase}
 use Rattle.fx_primitives.specs.Numbers.{AsKind}
-use Rattle.fx_primitives.specs.Folds.{present, IsSum, IsLeast, IsGreatest, average_of}
-use Rattle.fx_primitives.specs.Formats.{format_of}
+use Rattle.fx_primitives.specs.Folds.{nonblank, IsSum, IsLeast, IsGreatest, average_of}
+use Rattle.fx_primitives.specs.Formats.{formatted_number}
 use Rattle.fx_types.specs.Civil.{civil_of}
 use Rattle.fx_types.specs.DateText.{date_text}
-use Rattle.fx_primitives.specs.Dates.{IsDayOrInvalid, IsLater, IsShifted, difference, number_of_parts, weekday_of}
-use Rattle.fx_primitives.specs.DateTexts.{text_in as date_text_in}
-use Rattle.fx_scalar.specs.Arguments.{at, text_in, number_at, text_at, truth_at, date_at, whole_at, maybe_whole_at, maybe_number, first_fault}
+use Rattle.fx_primitives.specs.Dates.{IsDayOrInvalid, IsDayLater, IsShifted, difference, number_of_parts, weekday_of}
+use Rattle.fx_primitives.specs.DateTexts.{day_text as date_text_in}
+use Rattle.fx_scalar.specs.Arguments.{argument_at, text_in, number_at, text_at, truth_at, date_at, whole_at, maybe_whole_at, maybe_number, first_fault}
 use Rattle.fx_scalar.specs.Errors.{IsErrorOf}
-use Rattle.fx_scalar.specs.Answers.{IsNumber, IsMaybeNumber, IsText, IsDate, IsPosition, IsTruth, IsWhole, OfDate, UnlessFault}
+use Rattle.fx_scalar.specs.Answers.{IsNumber, IsMaybeNumber, IsText, IsDate, IsPosition, IsTruthAnswer, IsWholeNumber, OfDate, UnlessFault}
 
 -- ---- words of single lines
 
@@ -40,10 +40,10 @@ abbrev pub IsQuotient : ℤ → ℤ → Result ℤ NumErr → Type 0
 IsQuotient n d = UnlessZero d (Checked (quotient_of n d))
 
 -- an empty text is blank too
-abbrev pub is_blank : Data → Bool
-is_blank blank = true
-is_blank (text []) = true
-is_blank d = false
+abbrev pub is_blank_or_empty : Data → Bool
+is_blank_or_empty blank = true
+is_blank_or_empty (text []) = true
+is_blank_or_empty d = false
 
 abbrev pub is_fault : Data → Bool
 is_fault (fault k cs) = true
@@ -52,7 +52,7 @@ is_fault d = false
 -- the first value that is neither blank nor an empty text, else blank
 abbrev pub coalesced : List Data → Data
 coalesced [] = blank
-coalesced (d ∷ ds) = if is_blank d then coalesced ds else d
+coalesced (d ∷ ds) = if is_blank_or_empty d then coalesced ds else d
 
 -- the text of a number or of a day by a format; of a blank one the empty text
 abbrev pub formatted : (ℤ → List ℕ) → Option ℤ → Data
@@ -90,7 +90,7 @@ comparison_of f = None
 -- a function that compares answers whether its operator holds of the two arguments
 abbrev pub IsCompared : Option Cmp → List Data → Data → Type 0
 IsCompared None a r = ⊥
-IsCompared (Some op) a r = r ≡ boolean (holds_of op (at a 0) (at a 1))
+IsCompared (Some op) a r = r ≡ boolean (holds_of op (argument_at a 0) (argument_at a 1))
 
 -- ---- the table: what a function answers where it answers no error of its arguments. Functions of tables have no line.
 abbrev pub IsResult : Fun → List Data → Data → Type 0
@@ -104,11 +104,11 @@ IsResult fun.Negate a = IsNumber (AsKind (Checked (pos 0 -ℤ number_at a 0)))
 IsResult fun.AddDateNumber a = OfDate (date_at a 0) (λ d. IsDate (IsShifted d (number_at a 1)))
 IsResult fun.AddNumberDate a = OfDate (date_at a 1) (λ d. IsDate (IsShifted d (number_at a 0)))
 IsResult fun.SubDateNumber a = OfDate (date_at a 0) (λ d. IsDate (IsShifted d (neg_ℤ (number_at a 1))))
-IsResult fun.SubDates a = OfDate (date_at a 0) (λ d. OfDate (date_at a 1) (λ e. IsWhole (d -ℤ e)))
-IsResult fun.Concatenation a = IsText (λ q. q ≡ made (joined (map text_in a)))
-IsResult fun.Concatenate a = IsText (λ q. q ≡ made (joined (map text_in a)))
-IsResult fun.In a = IsTruth (λ b. IsTrue b ↔ HasPartWithoutCase (text_at a 1) (text_at a 0))
-IsResult fun.ExactIn a = IsTruth (λ b. IsTrue b ↔ HasPart (text_at a 1) (text_at a 0))
+IsResult fun.SubDates a = OfDate (date_at a 0) (λ d. OfDate (date_at a 1) (λ e. IsWholeNumber (d -ℤ e)))
+IsResult fun.Concatenation a = IsText (λ q. q ≡ text_or_quota (joined (map text_in a)))
+IsResult fun.Concatenate a = IsText (λ q. q ≡ text_or_quota (joined (map text_in a)))
+IsResult fun.In a = IsTruthAnswer (λ b. IsTrue b ↔ HasPartWithoutCase (text_at a 1) (text_at a 0))
+IsResult fun.ExactIn a = IsTruthAnswer (λ b. IsTrue b ↔ HasPart (text_at a 1) (text_at a 0))
 IsResult fun.Not a = λ r. r ≡ boolean (not (truth_at a 0))
 IsResult fun.Abs a = λ r. r ≡ number (pos (unsigned_abs (number_at a 0)))
 IsResult fun.Int a = IsNumber (AsKind (Checked (rounded_to (number_at a 0) (pos 0) Floor)))
@@ -118,39 +118,39 @@ IsResult fun.RoundUp a = IsNumber (AsKind (Checked (rounded_to (number_at a 0) (
 IsResult fun.RoundDown a = IsNumber (AsKind (Checked (rounded_to (number_at a 0) (whole_at a 1) Down)))
 IsResult fun.Mod a = IsNumber (AsKind (UnlessZero (number_at a 1) (λ q. q ≡ Ok (remainder_of (number_at a 0) (number_at a 1)))))
 IsResult fun.Power a = IsNumber (AsKind (IsPower (number_at a 0) (number_at a 1)))
-IsResult fun.Sum a = IsMaybeNumber (IsSum (present (map maybe_number a)))
-IsResult fun.Min a = IsMaybeNumber (λ q. (o : Option ℤ) × IsLeast (present (map maybe_number a)) o × (q ≡ Ok o))
-IsResult fun.Max a = IsMaybeNumber (λ q. (o : Option ℤ) × IsGreatest (present (map maybe_number a)) o × (q ≡ Ok o))
-IsResult fun.Average a = IsMaybeNumber (λ q. q ≡ Ok (average_of (present (map maybe_number a))))
+IsResult fun.Sum a = IsMaybeNumber (IsSum (nonblank (map maybe_number a)))
+IsResult fun.Min a = IsMaybeNumber (λ q. (o : Option ℤ) × IsLeast (nonblank (map maybe_number a)) o × (q ≡ Ok o))
+IsResult fun.Max a = IsMaybeNumber (λ q. (o : Option ℤ) × IsGreatest (nonblank (map maybe_number a)) o × (q ≡ Ok o))
+IsResult fun.Average a = IsMaybeNumber (λ q. q ≡ Ok (average_of (nonblank (map maybe_number a))))
 IsResult fun.Value a = IsCoerced (text (text_at a 0)) numbers
-IsResult fun.Len a = IsWhole (pos (length (text_at a 0)))
+IsResult fun.Len a = IsWholeNumber (pos (length (text_at a 0)))
 IsResult fun.Left a = IsText (λ q. q ≡ left_of (text_at a 0) (whole_at a 1))
 IsResult fun.Right a = IsText (λ q. q ≡ right_of (text_at a 0) (whole_at a 1))
 IsResult fun.Mid a = IsText (λ q. q ≡ mid_of (text_at a 0) (whole_at a 1) (maybe_whole_at a 2))
 IsResult fun.Lower a = IsText (λ q. q ≡ lower_of (text_at a 0))
 IsResult fun.Upper a = IsText (λ q. q ≡ upper_of (text_at a 0))
-IsResult fun.Trim a = IsText (λ q. q ≡ made (trimmed (text_at a 0)))
+IsResult fun.Trim a = IsText (λ q. q ≡ text_or_quota (trimmed (text_at a 0)))
 IsResult fun.Find a = λ r. (q : Result (Option ℕ) Kind) × IsFound (text_at a 0) (text_at a 1) (start_of a) q × IsPosition q r
 IsResult fun.Substitute a = IsText (IsSubstituted (text_at a 0) (text_at a 1) (text_at a 2) (maybe_whole_at a 3))
 IsResult fun.Replace a = IsText (λ q. q ≡ replace_of (text_at a 0) (whole_at a 1) (whole_at a 2) (text_at a 3))
-IsResult fun.StartsWith a = IsTruth (λ b. IsTrue b ↔ BeginsWithoutCase (text_at a 0) (text_at a 1))
-IsResult fun.EndsWith a = IsTruth (λ b. IsTrue b ↔ EndsWithoutCase (text_at a 0) (text_at a 1))
-IsResult fun.Text a = λ r. r ≡ at a 0
-IsResult (fun.FormatNumber f) a = λ r. r ≡ formatted (format_of f) (maybe_number (at a 0))
+IsResult fun.StartsWith a = IsTruthAnswer (λ b. IsTrue b ↔ BeginsWithoutCase (text_at a 0) (text_at a 1))
+IsResult fun.EndsWith a = IsTruthAnswer (λ b. IsTrue b ↔ EndsWithoutCase (text_at a 0) (text_at a 1))
+IsResult fun.Text a = λ r. r ≡ argument_at a 0
+IsResult (fun.FormatNumber f) a = λ r. r ≡ formatted (formatted_number f) (maybe_number (argument_at a 0))
 IsResult (fun.FormatDate f) a = λ r. r ≡ formatted (date_text_in f) (date_at a 0)
 IsResult fun.Blank a = λ r. r ≡ blank
-IsResult fun.IsBlank a = λ r. r ≡ boolean (is_blank (at a 0))
+IsResult fun.IsBlank a = λ r. r ≡ boolean (is_blank_or_empty (argument_at a 0))
 IsResult fun.Coalesce a = λ r. r ≡ coalesced a
-IsResult fun.IsError a = λ r. r ≡ boolean (is_fault (at a 0))
-IsResult fun.IsBlankOrError a = λ r. r ≡ boolean (is_fault (at a 0) || is_blank (at a 0))
-IsResult fun.Error a = IsErrorOf (at a 0)
+IsResult fun.IsError a = λ r. r ≡ boolean (is_fault (argument_at a 0))
+IsResult fun.IsBlankOrError a = λ r. r ≡ boolean (is_fault (argument_at a 0) || is_blank_or_empty (argument_at a 0))
+IsResult fun.Error a = IsErrorOf (argument_at a 0)
 IsResult fun.Date a = IsDate (IsDayOrInvalid (number_of_parts (whole_at a 0) (whole_at a 1) (whole_at a 2)))
-IsResult (fun.DateAdd u) a = OfDate (date_at a 0) (λ d. IsDate (IsLater u d (whole_at a 1)))
-IsResult (fun.DateDiff u) a = OfDate (date_at a 0) (λ d. OfDate (date_at a 1) (λ e. IsWhole (difference u d e)))
-IsResult fun.Day a = OfDate (date_at a 0) (λ d. IsWhole (pos (civil_of d).day))
-IsResult fun.Month a = OfDate (date_at a 0) (λ d. IsWhole (pos (civil_of d).month))
-IsResult fun.Year a = OfDate (date_at a 0) (λ d. IsWhole (pos (civil_of d).year))
-IsResult fun.Weekday a = OfDate (date_at a 0) (λ d. IsWhole (pos (weekday_of d)))
+IsResult (fun.DateAdd u) a = OfDate (date_at a 0) (λ d. IsDate (IsDayLater u d (whole_at a 1)))
+IsResult (fun.DateDiff u) a = OfDate (date_at a 0) (λ d. OfDate (date_at a 1) (λ e. IsWholeNumber (difference u d e)))
+IsResult fun.Day a = OfDate (date_at a 0) (λ d. IsWholeNumber (pos (civil_of d).day))
+IsResult fun.Month a = OfDate (date_at a 0) (λ d. IsWholeNumber (pos (civil_of d).month))
+IsResult fun.Year a = OfDate (date_at a 0) (λ d. IsWholeNumber (pos (civil_of d).year))
+IsResult fun.Weekday a = OfDate (date_at a 0) (λ d. IsWholeNumber (pos (weekday_of d)))
 IsResult fun.DateValue a = IsDate (IsDateRead (encode_utf8_all (text_at a 0)))
 IsResult f a = IsCompared (comparison_of f) a
 
@@ -179,7 +179,7 @@ is_value t = true
 -- a function that compares takes arguments that its operator compares; all others take any
 abbrev pub CanCompareIf : Option Cmp → List Data → Type 0
 CanCompareIf None a = Unit {0}
-CanCompareIf (Some op) a = CanCompare op (at a 0) (at a 1)
+CanCompareIf (Some op) a = CanCompare op (argument_at a 0) (argument_at a 1)
 
 -- a function of values can be applied to arguments that it compares, if it does, unless it answers an error
 pub record CanApply (f : Fun) (a : List Data) : Type 0 where

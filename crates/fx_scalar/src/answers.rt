@@ -3,7 +3,7 @@ ghost use Rattle.std.specs.Prelude.{◌≡◌, IfOk, pos, ◌*ℤ◌, []};
 ghost use Rattle.fx_number.specs.Decimal.{Checked};
 ghost use Rattle.fx_types.specs.ValueView.{view};
 ghost use Rattle.fx_types.specs.Values.{fault as fault_data};
-ghost use Rattle.fx_scalar.specs.Answers.{IsPosition, IsWhole, date_answer, maybe_answer, number_answer, text_answer};
+ghost use Rattle.fx_scalar.specs.Answers.{IsPosition, IsWholeNumber, date_answer, maybe_answer, number_answer, text_answer};
 
 use crate::arguments::no_text;
 use fx_base::Memory;
@@ -65,7 +65,7 @@ pub(crate) fn date(alloc: Global, answer: Result<Day, Kind>) -> Result<Value, Me
 
 /// The value of a whole number: `Numeric` exactly where it is out of range.
 pub(crate) fn whole(alloc: Global, whole: i128) -> Result<Value, Memory>
-    ensures { IfOk result (λ v. IsWhole whole (view v)) }
+    ensures { IfOk result (λ v. IsWholeNumber whole (view v)) }
 {
     number(alloc, with_kind(whole_number(whole)))
 }
@@ -95,7 +95,7 @@ pub(crate) fn position(alloc: Global, answer: Result<Option<usize>, Kind>) -> Re
 
 /// The value of a count.
 pub(crate) fn count(alloc: Global, count: usize) -> Result<Value, Memory>
-    ensures { IfOk result (λ v. IsWhole (pos count) (view v)) }
+    ensures { IfOk result (λ v. IsWholeNumber (pos count) (view v)) }
 {
     whole(alloc, count as i128)
 }

@@ -4,9 +4,9 @@ ghost use Rattle.fx_types.specs.Types.{texts};
 ghost use Rattle.fx_types.specs.ValueView.{view};
 ghost use Rattle.fx_types.specs.Values.{field_list, rec};
 ghost use Rattle.fx_core.specs.declared.functions.Fun.TheVariants as fun;
-ghost use Rattle.fx_value.specs.Coercion.{IsCoerced, value_in};
+ghost use Rattle.fx_value.specs.Coercion.{IsCoerced, field_or_blank};
 ghost use Rattle.fx_scalar.specs.Arguments.{text_in, views};
-ghost use Rattle.fx_scalar.specs.Errors.{IsErrorOf, as_record, error_of as error_value, kind_in};
+ghost use Rattle.fx_scalar.specs.Errors.{IsErrorOf, fault_record, error_of as error_value, error_kind_named};
 ghost use Rattle.fx_scalar.specs.ScalarFunctions.{IsResult};
 
 use crate::arguments::{at, text};
@@ -36,7 +36,7 @@ fn error_of_fields(alloc: Global, fields: &Fields) -> Result<Value, Memory>
 
 // A field as a text, which is blank where there is none of this name.
 fn field_text(alloc: Global, fields: &Fields, name: &Words) -> Result<Value, Memory>
-    ensures { IfOk result (λ v. IsCoerced (value_in name.now (field_list fields.now)) texts (view v)) }
+    ensures { IfOk result (λ v. IsCoerced (field_or_blank name.now (field_list fields.now)) texts (view v)) }
 {
     match fields.value(name) {
         Some(value) => as_text(alloc, value),
@@ -70,14 +70,14 @@ fn error_of(alloc: Global, kind: &Value, message: &Value) -> Result<Value, Memor
 }
 
 fn kind_of(name: &Words) -> Kind
-    ensures { result ≡ kind_in name.now }
+    ensures { result ≡ error_kind_named name.now }
 {
     fx_core::literals::error_kind(name.as_str()).unwrap_or(Kind::Custom)
 }
 
 /// An error as a record of its kind's name and its message, which is what `FirstError` is worth.
 pub fn error_record(alloc: Global, fault: &Fault) -> Result<Value, Memory>
-    ensures { IfOk result (λ v. view v ≡ as_record fault.now.kind fault.now.message) }
+    ensures { IfOk result (λ v. view v ≡ fault_record fault.now.kind fault.now.message) }
 {
     let mut fields = Fields::new(alloc);
     let kind = Words::of(alloc, fault.kind.name())?;

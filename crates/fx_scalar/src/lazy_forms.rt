@@ -2,7 +2,7 @@
 ghost use Rattle.std.specs.Prelude.{◌≡◌};
 ghost use Rattle.fx_types.specs.ValueView.{view};
 ghost use Rattle.fx_scalar.specs.LazyForms.{CanMatch, IsSplit, decision_of, equality, none_left as none_left_of};
-ghost use Rattle.fx_scalar.specs.ScalarFunctions.{is_blank as is_blank_value};
+ghost use Rattle.fx_scalar.specs.ScalarFunctions.{is_blank_or_empty as is_blank_value};
 
 use fx_core::Form;
 use fx_types::{Cmp, Fault, Value};

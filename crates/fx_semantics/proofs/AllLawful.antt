@@ -11,7 +11,7 @@ use Rattle.fx_core.specs.declared.deeds.Deed.TheVariants as deed
 use Rattle.fx_core.specs.Term.{Term, Terms, of, nil, cons, Top}
 use Rattle.fx_core.specs.Term as top
 use Rattle.fx_typing.specs.Acts.{is_acting}
-use Rattle.fx_typing.specs.WellTyped.{Context, IsDone, IsRuled, IsTyped, AreTyped, context_for, last_type, parts_count, standing_at, target_source}
+use Rattle.fx_typing.specs.WellTyped.{Context, DeedHasType, IsRuled, IsTyped, AreTyped, context_for, last_type, parts_count, standing_at, target_source}
 use Rattle.fx_semantics.proofs.Lawful.{context_lawful, types_more}
 
 -- ---- what acts
@@ -23,7 +23,7 @@ last_lawful (u ∷ v ∷ us) t l e = last_lawful (v ∷ us) t l.1 e
 answers_true : (t : Shape) → t ≡ booleans → IsLawfulType t
 answers_true t e = subst IsLawfulType (sym e) tt
 
-deed_lawful : (c : Context) (d : Deed) (ts : Terms) (us : List Shape) (t : Shape) → IsLawfulContext c → IsDone c d ts us t → IsLawfulType t
+deed_lawful : (c : Context) (d : Deed) (ts : Terms) (us : List Shape) (t : Shape) → IsLawfulContext c → DeedHasType c d ts us t → IsLawfulType t
 deed_lawful c (deed.Set i) ts (u ∷ []) t k r = answers_true t r.1
 deed_lawful c (deed.UpdateContext ss) ts us t k r = answers_true t r.1
 deed_lawful c (deed.Collect i) ts us t k r = answers_true t r.3

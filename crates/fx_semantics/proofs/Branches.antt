@@ -10,11 +10,11 @@ use Rattle.fx_core.specs.declared.functions.Form.TheVariants as form
 use Rattle.fx_core.specs.declared.rows.Row.{Row}
 use Rattle.fx_core.specs.declared.rows.Takes.{Takes}
 use Rattle.fx_core.specs.declared.rows.Takes.TheVariants as takes
-use Rattle.fx_typing.specs.WellTyped.{Context, Stands, AllStand, AreAll}
+use Rattle.fx_typing.specs.WellTyped.{Context, Stands, AllStand, AreAllOfShape}
 use Rattle.fx_value.specs.Fits.{fits_in}
 use Rattle.fx_semantics.specs.Around.{Meaning}
 use Rattle.fx_scalar.specs.LazyForms.{equality}
-use Rattle.fx_semantics.specs.Forms.{IsIf, IsMatched, IsSwitch, IsRecovered, IsCaughtBy}
+use Rattle.fx_semantics.specs.Forms.{IsIf, IsSwitchMatch, IsSwitch, IsRecovered, IsCaughtBy}
 use Rattle.fx_semantics.proofs.Forms.{given_fits, by_condition, error_or, each_take}
 use Rattle.fx_semantics.proofs.Parts.{Giving, stands, Suits, Holds, AllPlain}
 
@@ -85,12 +85,12 @@ if_fits g c rows item caught s n first t (C ∷ P ∷ Ps) (x ∷ []) i k e q w v
 
 pub matched_fits : (g : Giving) (c : Context) (rows : List Data) (item : Option Data) (caught : Option Fault) → Suits g c rows item →
     (n : ℕ) (first t : Shape) (d : Data) (Ps : List Meaning) (us : List Shape) (i : ℕ) → AllPlain g c Ps us → i % 2 ≡ 1 → i + length us ≡ n → AllStand switch_row n i first t us →
-    (v : Data) → IsMatched d Ps (stands g rows item caught) v → fits_in v t ≡ true
+    (v : Data) → IsSwitchMatch d Ps (stands g rows item caught) v → fits_in v t ≡ true
 matched_fits g c rows item caught s n first t d [] us i k e q w v h = given_fits v blank t refl h
 matched_fits g c rows item caught s n first t d (P ∷ []) (u ∷ []) i k e q w v h =
     held g c rows item caught P u t v s k.0 (of_branch (takes_at switch_row n i) first t u (switch_last n i (omega (arith, q))) w.0) h
 matched_fits g c rows item caught s n first t d (M ∷ P ∷ Ps) (x ∷ u ∷ us) i k e q w v h =
-    by_condition (equality d h.0) (P (stands g rows item caught) v) (IsMatched d Ps (stands g rows item caught) v) v t
+    by_condition (equality d h.0) (P (stands g rows item caught) v) (IsSwitchMatch d Ps (stands g rows item caught) v) v t
     (held g c rows item caught P u t v s k.1.0 (of_branch (takes_at switch_row n (suc i)) first t u (switch_branch n i e) w.1.0))
     (matched_fits g c rows item caught s n first t d Ps us (suc (suc i)) k.1.1 (omega (arith, e)) (omega (arith, q)) w.1.1 v)
     h.2
@@ -104,7 +104,7 @@ pub switch_fits : (g : Giving) (c : Context) (rows : List Data) (item : Option D
 switch_fits g c rows item caught s n first t [] us k q w v h = absurd h
 switch_fits g c rows item caught s n first t (P ∷ Ps) [] k q w v h = absurd k
 switch_fits g c rows item caught s n first t (P ∷ Ps) (u ∷ us) k q w v h =
-    error_or h.0 (IsMatched h.0 Ps (stands g rows item caught) v) v t
+    error_or h.0 (IsSwitchMatch h.0 Ps (stands g rows item caught) v) v t
     (matched_fits g c rows item caught s n first t h.0 Ps us 1 k.1 refl (omega (arith, q)) w.1 v) h.2
 
 -- all parts of an `IfError` have the common type
@@ -112,7 +112,7 @@ common_take : (first common u : Shape) (n i : ℕ) → Stands (takes_at (form_ro
 common_take first common u n i =
     each_take (λ k. Stands k first common u → u ≡ common) (form_row form.IfError) n i (λ h. h) (λ h. h) (λ h. h) (λ h. h) (λ h. h)
 
-pub error_types : (first common : Shape) (n i : ℕ) (us : List Shape) → AllStand (form_row form.IfError) n i first common us → AreAll common us
+pub error_types : (first common : Shape) (n i : ℕ) (us : List Shape) → AllStand (form_row form.IfError) n i first common us → AreAllOfShape common us
 error_types first common n i [] h = tt
 error_types first common n i (u ∷ us) h = (common_take first common u n i h.0, error_types first common n (suc i) us h.1)
 
@@ -128,7 +128,7 @@ caught_by (rec fs) F g c rows item caught P v t s k p h = p h
 caught_by (tab rs) F g c rows item caught P v t s k p h = p h
 
 pub recovered_fits : (g : Giving) (c : Context) (rows : List Data) (item : Option Data) (caught : Option Fault) → Suits g c rows item →
-    (t : Shape) (d : Data) (Ps : List Meaning) (us : List Shape) → fits_in d t ≡ true → AllPlain g c Ps us → AreAll t us →
+    (t : Shape) (d : Data) (Ps : List Meaning) (us : List Shape) → fits_in d t ≡ true → AllPlain g c Ps us → AreAllOfShape t us →
     (v : Data) → IsRecovered d Ps (stands g rows item caught) v → fits_in v t ≡ true
 recovered_fits g c rows item caught s t d [] us f k e v h = given_fits v d t f h
 recovered_fits g c rows item caught s t d (P ∷ []) (u ∷ us) f k e v h = held g c rows item caught P u t v s k.0 e.0 h

@@ -13,11 +13,11 @@ use Rattle.fx_core.specs.declared.rows.Takes.{Takes}
 use Rattle.fx_core.specs.declared.rows.Takes.TheVariants as takes
 use Rattle.fx_core.specs.declared.rows.Row.{Row}
 use Rattle.fx_scalar.proofs.AnswerFits.{answers_fit}
-use Rattle.fx_scalar.specs.Arguments.{at}
+use Rattle.fx_scalar.specs.Arguments.{argument_at}
 use Rattle.fx_scalar.specs.Fitting.{FitPlaces, FitsAnswer, fits_place}
 use Rattle.fx_scalar.specs.ScalarFunctions.{IsAnswer}
 use Rattle.fx_core.specs.Term.{Terms, call}
-use Rattle.fx_typing.specs.WellTyped.{Context, Stands, AllStand, AreAll, head_of, standing_at, answered, first_type, paired}
+use Rattle.fx_typing.specs.WellTyped.{Context, Stands, AllStand, AreAllOfShape, head_of, standing_at, answered_type, first_type, typed_pairs}
 use Rattle.fx_value.specs.Fits.{fits_in}
 use Rattle.fx_semantics.specs.Around.{Meaning}
 use Rattle.fx_semantics.specs.Fresh.{IsCalled, OfAll}
@@ -57,7 +57,7 @@ choice_take : (first common u : Shape) (n i : ℕ) → Stands (takes_at (row_of 
 choice_take first common u n i =
     each_take (λ k. Stands k first common u → u ≡ common) (row_of fun.Coalesce) n i (λ h. h) (λ h. h) (λ h. h) (λ h. h) (λ h. h)
 
-choice_types : (first common : Shape) (n i : ℕ) (us : List Shape) → AllStand (row_of fun.Coalesce) n i first common us → AreAll common us
+choice_types : (first common : Shape) (n i : ℕ) (us : List Shape) → AllStand (row_of fun.Coalesce) n i first common us → AreAllOfShape common us
 choice_types first common n i [] h = tt
 choice_types first common n i (u ∷ us) h = (choice_take first common u n i h.0, choice_types first common n (suc i) us h.1)
 
@@ -68,14 +68,14 @@ place_fits (takes.Exact s) first common t d e f = let P : Shape → Type 0 = λ 
 place_fits k first common t d e f = refl
 
 places_fit : (r : Row) (n : ℕ) (first common : Shape) (j : ℕ) (us : List Shape) (ds : List Data) → AllStand r n j first common us → AreFit ds us →
-    (i : ℕ) → i < length ds → fits_place (takes_at r n (j + i)) (at ds i) ≡ true
+    (i : ℕ) → i < length ds → fits_place (takes_at r n (j + i)) (argument_at ds i) ≡ true
 places_fit r n first common j [] [] a f i l = absurd (omega (arith, l))
 places_fit r n first common j (u ∷ us) (d ∷ ds) a f zero l =
     let P : ℕ → Type 0 = λ k. fits_place (takes_at r n k) d ≡ true in
     let e : j ≡ j + 0 = omega arith in
     subst P e (place_fits (takes_at r n j) first common u d a.0 f.0)
 places_fit r n first common j (u ∷ us) (d ∷ ds) a f (suc i) l =
-    let P : ℕ → Type 0 = λ k. fits_place (takes_at r n k) (at ds i) ≡ true in
+    let P : ℕ → Type 0 = λ k. fits_place (takes_at r n k) (argument_at ds i) ≡ true in
     let e : suc j + i ≡ j + suc i = omega arith in
     subst P e (places_fit r n first common (suc j) us ds a.1 f.1 i (omega (arith, l)))
 places_fit r n first common j [] (d ∷ ds) a f i l = absurd f
@@ -89,8 +89,8 @@ same_length (d ∷ ds) [] f = absurd f
 
 fit_places : (f : Fun) (first common : Shape) (us : List Shape) (ds : List Data) → AllStand (row_of f) (length us) 0 first common us → AreFit ds us → FitPlaces f ds
 fit_places f first common us ds a h = λ i l.
-    let P : ℕ → Type 0 = λ n. fits_place (takes_at (row_of f) n i) (at ds i) ≡ true in
-    let Q : ℕ → Type 0 = λ k. fits_place (takes_at (row_of f) (length us) k) (at ds i) ≡ true in
+    let P : ℕ → Type 0 = λ n. fits_place (takes_at (row_of f) n i) (argument_at ds i) ≡ true in
+    let Q : ℕ → Type 0 = λ k. fits_place (takes_at (row_of f) (length us) k) (argument_at ds i) ≡ true in
     let e : 0 + i ≡ i = omega arith in
     subst P (same_length ds us h) (subst Q e (places_fit (row_of f) (length us) first common 0 us ds a h i l))
 
@@ -105,7 +105,7 @@ strict_fits g c rows item caught s f r Ps us first common t v a k w e h =
 
 pub call_fits : (g : Giving) (c : Context) (rows : List Data) (item : Option Data) (caught : Option Fault) → Suits g c rows item →
     (f : Fun) → head_of f ≡ call f → (ts : Terms) (Ps : List Meaning) (us : List Shape) (common t : Shape) → AllPlain g c Ps us →
-    AllStand (row_of f) (length us) 0 (first_type us) common us → answered (row_of f).answer common (paired ts us) ≡ Ok t →
+    AllStand (row_of f) (length us) 0 (first_type us) common us → answered_type (row_of f).answer common (typed_pairs ts us) ≡ Ok t →
     (v : Data) → IsCalled f Ps (stands g rows item caught) v → fits_in v t ≡ true
 call_fits g c rows item caught s fun.Coalesce q ts Ps us common t k w e v h =
     along common t v e (coalesced_fits g c rows item caught s Ps us common k (choice_types (first_type us) common (length us) 0 us w) v h)

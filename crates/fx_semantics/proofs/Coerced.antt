@@ -7,10 +7,10 @@ use Rattle.fx_types.specs.Types.{Shape, blanks, numbers, texts, booleans, dates,
 use Rattle.fx_types.specs.Values.{Data, blank, number, text, boolean, date, rec, tab, fault, no_fields, field}
 use Rattle.fx_tables.specs.RowCalls.{CanBeRowType}
 use Rattle.fx_tables.specs.Distinct.{value_name}
-use Rattle.fx_tables.specs.Unions.{fields_in, is_fault, rows_of, union_of}
+use Rattle.fx_tables.specs.Unions.{fields_in, is_fault, values_as_rows, union_of}
 use Rattle.fx_core.specs.ColumnLists.{row_columns, value_column}
 use Rattle.fx_typing.specs.Ways.{way, widening, joined_way, same_shape, changed, refused, same}
-use Rattle.fx_typing.specs.WellTyped.{AreAll}
+use Rattle.fx_typing.specs.WellTyped.{AreAllOfShape}
 use Rattle.fx_typing.proofs.Same.{shape_same}
 use Rattle.fx_value.specs.Coercion.{IsCoerced, IsReadAs, widened, widened_fields}
 use Rattle.fx_value.specs.Fits.{fits_in, fields_fit, rows_fit}
@@ -107,7 +107,7 @@ row_fits booleans (boolean b) l n f e = scalar_row (boolean b) booleans refl
 row_fits dates (date z) l n f e = scalar_row (date z) dates refl
 row_fits r d l n f e = cc
 
-list_rows_fit : (r : Shape) → IsLawfulType r → CanBeRowType r → (ds : List Data) → AllFit r ds → find is_fault ds ≡ None → rows_fit (rows_of (row_columns r) ds) (row_columns r) ≡ true
+list_rows_fit : (r : Shape) → IsLawfulType r → CanBeRowType r → (ds : List Data) → AllFit r ds → find is_fault ds ≡ None → rows_fit (values_as_rows (row_columns r) ds) (row_columns r) ≡ true
 list_rows_fit r l n [] h e = refl
 list_rows_fit r l n (fault k cs ∷ ds) h e = cc
 list_rows_fit r l n (blank ∷ ds) h e = and_from _ _ (row_fits r blank l n h.0 refl) (list_rows_fit r l n ds h.1 e)
@@ -119,10 +119,10 @@ list_rows_fit r l n (rec fs ∷ ds) h e = and_from _ _ (row_fits r (rec fs) l n 
 list_rows_fit r l n (tab rs ∷ ds) h e = and_from _ _ (row_fits r (tab rs) l n h.0 refl) (list_rows_fit r l n ds h.1 e)
 
 pub list_fits : (r : Shape) → IsLawfulType r → CanBeRowType r → (ds : List Data) → AllFit r ds → fits_in (union_of (tables (row_columns r)) ds) (tables (row_columns r)) ≡ true
-list_fits r l n ds h = fault_or_fits ds (tab (rows_of (row_columns r) ds)) (tables (row_columns r)) (list_rows_fit r l n ds h)
+list_fits r l n ds h = fault_or_fits ds (tab (values_as_rows (row_columns r) ds)) (tables (row_columns r)) (list_rows_fit r l n ds h)
 
 -- values of one type
-pub all_of_one : (r : Shape) (ds : List Data) (us : List Shape) → AreAll r us → AreFit ds us → AllFit r ds
+pub all_of_one : (r : Shape) (ds : List Data) (us : List Shape) → AreAllOfShape r us → AreFit ds us → AllFit r ds
 all_of_one r [] [] a f = tt
 all_of_one r (d ∷ ds) (u ∷ us) a f = let P : Shape → Type 0 = λ z. fits_in d z ≡ true in (subst P a.0 f.0, all_of_one r ds us a.1 f.1)
 all_of_one r [] (u ∷ us) a f = absurd f

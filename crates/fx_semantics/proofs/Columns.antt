@@ -7,29 +7,29 @@ use Rattle.std.specs.declared.cmp.Ordering.{Ordering}
 use Rattle.std.specs.declared.cmp.Ordering.TheVariants.{Less, Equal, Greater}
 use Rattle.std.proofs.lemmas.List.Elements.{All-nil, All-cons}
 use Rattle.std.proofs.lemmas.Map.Text.{is_eq-slice_cmp}
-use Rattle.fx_types.specs.Lookup.{item_of}
+use Rattle.fx_types.specs.Lookup.{item_named}
 use Rattle.fx_types.specs.Types.{Shape, tables, ColumnList, no_columns, column}
 use Rattle.fx_types.specs.Values.{Data, text, field_list}
 use Rattle.fx_core.specs.SourceTypes.{put_column}
 use Rattle.fx_tables.proofs.FitColumns.{all_renamed_fit, dropped_fit, rows_only_fit, rises_put}
 use Rattle.fx_tables.specs.AggregateCalls.{characters_in}
 use Rattle.fx_tables.specs.ColumnCalls.{in_turn, renamed_columns, without_columns}
-use Rattle.fx_value.specs.Columns.{LacksColumn, Row, only, renamed, with_column, with_field}
+use Rattle.fx_value.specs.Columns.{LacksColumn, Row, fields_only, field_renamed, rows_with_column, with_field}
 use Rattle.fx_tables.proofs.FitRows.{RowFits}
 use Rattle.fx_core.specs.Term.{Term, Terms, of, nil, cons, const}
-use Rattle.fx_typing.specs.Columns.{by_label, dropped, label_of, names_there, shown}
+use Rattle.fx_typing.specs.Columns.{by_label, dropped, label_of, names_there, columns_shown}
 use Rattle.fx_core.specs.ColumnLists.{and_then, field_in, if_free, if_there, with_renamed}
 use Rattle.fx_typing.specs.Columns as columns
 use Rattle.fx_core.specs.ColumnLists as lists
-use Rattle.fx_typing.specs.WellTyped.{paired}
+use Rattle.fx_typing.specs.WellTyped.{typed_pairs}
 use Rattle.fx_typing.proofs.Operators.{then_ok}
 use Rattle.fx_value.proofs.Unions.{Under, Rises}
 use Rattle.fx_value.proofs.Widenings.{own_name, same_name}
 use Rattle.fx_value.specs.Fits.{fits_in, fields_fit}
 use Rattle.fx_semantics.specs.Around.{Around}
 use Rattle.fx_semantics.specs.Fresh.{meaning, meanings}
-use Rattle.fx_semantics.specs.Rows.{AreNames, ArePairs, table_of}
-use Rattle.fx_semantics.specs.Sound.{AreLawfulColumns, IsUnder}
+use Rattle.fx_semantics.specs.Rows.{AreNames, AreRenamings, table_of}
+use Rattle.fx_semantics.specs.Sound.{AreLawfulColumns, IsBelowColumns}
 use Rattle.fx_semantics.proofs.Fields.{name_fits, first_fits, rest_fits, all_fit}
 use Rattle.fx_semantics.proofs.Tables.{RowsFit, AllFit, fit_table, table_fits}
 
@@ -66,20 +66,20 @@ with_fit n d t (x ∷ xs) (column m u cs) f h e =
         all_fit x.0 x.1 u (field_list (with_field n d xs)) (put_column n t cs) (first_fits x.0 m x.1 u (field_list xs) cs h) (more q)
 
 -- a name that no column has is that of no field
-pub lacks : (n : List ℕ) (r : Row) (cs : ColumnList) → RowFits cs r → field_in n cs ≡ None → item_of n r ≡ None
+pub lacks : (n : List ℕ) (r : Row) (cs : ColumnList) → RowFits cs r → field_in n cs ≡ None → item_named n r ≡ None
 lacks n [] cs h e = refl
 lacks n (x ∷ r) no_columns h e = cc
 lacks n (x ∷ r) (column m t cs) h e =
     let P : List ℕ → Type 0 = λ z. (if bytes_eq z n then Some t else field_in n cs) ≡ None in
     by (bytes_eq x.0 n) (subst P (sym (name_fits x.0 m x.1 t (field_list r) cs h)) e) (λ q. lacks n r cs (rest_fits x.0 m x.1 t (field_list r) cs h) q)
   where
-    by : (b : Bool) → (if b then Some t else field_in n cs) ≡ None → (field_in n cs ≡ None → item_of n r ≡ None) → (if b then Some x.1 else item_of n r) ≡ None
+    by : (b : Bool) → (if b then Some t else field_in n cs) ≡ None → (field_in n cs ≡ None → item_named n r ≡ None) → (if b then Some x.1 else item_named n r) ≡ None
     by true q k = cc
     by false q k = k q
 
 -- ---- columns keep rising
 
-under_of : (n : List ℕ) (cs : ColumnList) → IsUnder n cs → Under n cs
+under_of : (n : List ℕ) (cs : ColumnList) → IsBelowColumns n cs → Under n cs
 under_of n no_columns u = tt
 under_of n (column m t cs) u = (u.0, under_of n cs u.1)
 
@@ -87,30 +87,30 @@ pub rises_of : (cs : ColumnList) → AreLawfulColumns cs → Rises cs
 rises_of no_columns l = tt
 rises_of (column n t cs) l = (under_of n cs l.0, rises_of cs l.2)
 
-under_without : (k n : List ℕ) (cs : ColumnList) → Under k cs → Under k (lists.without n cs)
+under_without : (k n : List ℕ) (cs : ColumnList) → Under k cs → Under k (lists.columns_without n cs)
 under_without k n no_columns u = tt
 under_without k n (column m t cs) u = by (bytes_eq m n) (under_without k n cs u.1)
   where
-    by : (b : Bool) → Under k (lists.without n cs) → Under k (if b then cs else column m t (lists.without n cs))
+    by : (b : Bool) → Under k (lists.columns_without n cs) → Under k (if b then cs else column m t (lists.columns_without n cs))
     by true w = u.1
     by false w = (u.0, w)
 
-pub rises_without : (n : List ℕ) (cs : ColumnList) → Rises cs → Rises (lists.without n cs)
+pub rises_without : (n : List ℕ) (cs : ColumnList) → Rises cs → Rises (lists.columns_without n cs)
 rises_without n no_columns r = tt
 rises_without n (column m t cs) r = by (bytes_eq m n) (rises_without n cs r.1)
   where
-    by : (b : Bool) → Rises (lists.without n cs) → Rises (if b then cs else column m t (lists.without n cs))
+    by : (b : Bool) → Rises (lists.columns_without n cs) → Rises (if b then cs else column m t (lists.columns_without n cs))
     by true w = r.1
     by false w = (under_without m n cs r.0, w)
 
 -- ---- all rows
 
 pub all_lack : (n : List ℕ) (rows : List Row) (cs : ColumnList) → RowsFit cs rows → field_in n cs ≡ None → LacksColumn n rows
-all_lack n [] cs h e = All-nil (λ (z : Row). item_of n z ≡ None)
-all_lack n (r ∷ rows) cs h e = All-cons (λ (z : Row). item_of n z ≡ None) r rows (lacks n r cs h.0 e) (all_lack n rows cs h.1 e)
+all_lack n [] cs h e = All-nil (λ (z : Row). item_named n z ≡ None)
+all_lack n (r ∷ rows) cs h e = All-cons (λ (z : Row). item_named n z ≡ None) r rows (lacks n r cs h.0 e) (all_lack n rows cs h.1 e)
 
 pub with_column_fit : (n : List ℕ) (t : Shape) (cs : ColumnList) → field_in n cs ≡ None → (rows : List Row) (ds : List Data) → RowsFit cs rows → AllFit t ds →
-    RowsFit (put_column n t cs) (with_column n rows ds)
+    RowsFit (put_column n t cs) (rows_with_column n rows ds)
 with_column_fit n t cs e [] [] h f = tt
 with_column_fit n t cs e [] (d ∷ ds) h f = tt
 with_column_fit n t cs e (r ∷ rows) [] h f = tt
@@ -156,12 +156,12 @@ SoMany (cons t ts) (u ∷ us) = SoMany ts us
 SoMany ts us = ⊥
 
 names_same : (a : Around) (ts : Terms) (us : List Shape) (cs : ColumnList) (ms ns : List (List ℕ)) → SoMany ts us →
-    names_there (paired ts us) cs ≡ Ok ms → AreNames (meanings ts) a ns → ns ≡ ms
+    names_there (typed_pairs ts us) cs ≡ Ok ms → AreNames (meanings ts) a ns → ns ≡ ms
 names_same a nil [] cs ms [] m e k = ok_is [] ms e
 names_same a (cons t ts) (u ∷ us) cs ms (n ∷ ns) m e k =
     let x = label_ok (label_of t) _ ms e in
     let y = then_ok (if_there (field_in x.0 cs)) _ ms x.2 in
-    let z = then_ok (names_there (paired ts us) cs) _ ms y.2 in
+    let z = then_ok (names_there (typed_pairs ts us) cs) _ ms y.2 in
     (λ i. name_is t a x.0 n x.1 k.0 i ∷ names_same a ts us cs z.0 ns m z.1 k.1 i) ∙ ok_is (x.0 ∷ z.0) ms z.2
 names_same a nil [] cs ms (n ∷ ns) m e k = absurd k
 names_same a (cons t ts) (u ∷ us) cs ms [] m e k = absurd k
@@ -169,23 +169,23 @@ names_same a nil (u ∷ us) cs ms ns m e k = absurd m
 names_same a (cons t ts) [] cs ms ns m e k = absurd m
 
 pub dropped_rows : (a : Around) (ts : Terms) (us : List Shape) (cs es : ColumnList) (ns : List (List ℕ)) (rows : List Row) → SoMany ts us → Rises cs →
-    dropped (paired ts us) cs ≡ Ok es → AreNames (meanings ts) a ns → fits_in (table_of rows) (tables cs) ≡ true → fits_in (table_of (without_columns ns rows)) (tables es) ≡ true
+    dropped (typed_pairs ts us) cs ≡ Ok es → AreNames (meanings ts) a ns → fits_in (table_of rows) (tables cs) ≡ true → fits_in (table_of (without_columns ns rows)) (tables es) ≡ true
 dropped_rows a ts us cs es ns rows m rising e k h =
-    let x = then_ok (names_there (paired ts us) cs) _ es e in
+    let x = then_ok (names_there (typed_pairs ts us) cs) _ es e in
     let P : List (List ℕ) → Type 0 = λ w. fits_in (table_of (without_columns ns rows)) (tables (lists.without_all w cs)) ≡ true in
     let R : ColumnList → Type 0 = λ w. fits_in (table_of (without_columns ns rows)) (tables w) ≡ true in
     subst R (ok_is (lists.without_all x.0 cs) es x.2) (subst P (names_same a ts us cs x.0 ns m x.1 k) (dropped_fit ns rows cs rising h))
 
 pub shown_rows : (a : Around) (ts : Terms) (us : List Shape) (cs es : ColumnList) (ns : List (List ℕ)) (rows : List Row) → SoMany ts us →
-    shown (paired ts us) cs ≡ Ok es → AreNames (meanings ts) a ns → fits_in (table_of rows) (tables cs) ≡ true → fits_in (table_of (map (only ns) rows)) (tables es) ≡ true
+    columns_shown (typed_pairs ts us) cs ≡ Ok es → AreNames (meanings ts) a ns → fits_in (table_of rows) (tables cs) ≡ true → fits_in (table_of (map (fields_only ns) rows)) (tables es) ≡ true
 shown_rows a ts us cs es ns rows m e k h =
-    let x = then_ok (names_there (paired ts us) cs) _ es e in
-    let P : List (List ℕ) → Type 0 = λ w. fits_in (table_of (map (only ns) rows)) (tables (lists.only w cs)) ≡ true in
-    let R : ColumnList → Type 0 = λ w. fits_in (table_of (map (only ns) rows)) (tables w) ≡ true in
-    subst R (ok_is (lists.only x.0 cs) es x.2) (subst P (names_same a ts us cs x.0 ns m x.1 k) (rows_only_fit ns rows cs h))
+    let x = then_ok (names_there (typed_pairs ts us) cs) _ es e in
+    let P : List (List ℕ) → Type 0 = λ w. fits_in (table_of (map (fields_only ns) rows)) (tables (lists.columns_only w cs)) ≡ true in
+    let R : ColumnList → Type 0 = λ w. fits_in (table_of (map (fields_only ns) rows)) (tables w) ≡ true in
+    subst R (ok_is (lists.columns_only x.0 cs) es x.2) (subst P (names_same a ts us cs x.0 ns m x.1 k) (rows_only_fit ns rows cs h))
 
 pub renamed_rows : (a : Around) (ts : Terms) (us : List Shape) (cs es : ColumnList) (ps : List (List ℕ × List ℕ)) (rows : List Row) → SoMany ts us → Rises cs →
-    columns.renamed (paired ts us) cs ≡ Ok es → ArePairs (meanings ts) a ps → RowsFit cs rows → RowsFit es (renamed_columns ps rows)
+    columns.columns_renamed (typed_pairs ts us) cs ≡ Ok es → AreRenamings (meanings ts) a ps → RowsFit cs rows → RowsFit es (renamed_columns ps rows)
 renamed_rows a nil [] cs es [] rows m rising e k h = let P : ColumnList → Type 0 = λ z. RowsFit z rows in subst P (ok_is cs es e) h
 renamed_rows a (cons t (cons t' ts)) (u ∷ u' ∷ us) cs es (p ∷ ps) rows m rising e k h =
     let x = label_ok (label_of t) _ es e in
@@ -197,12 +197,12 @@ renamed_rows a (cons t (cons t' ts)) (u ∷ u' ∷ us) cs es (p ∷ ps) rows m r
     let same' : p.1 ≡ x'.0 = name_is t' a x'.0 p.1 x'.1 k.1 in
     let step : List ℕ × List ℕ → ColumnList → Result ColumnList ℕ = λ q ds. with_renamed q.0 q.1 ds in
     let go : ColumnList → Result ColumnList ℕ = λ ds. in_turn step [] ds in
-    let P : List ℕ → Type 0 = λ v. RowsFit y.0 (map (renamed v p.1) rows) in
-    let P' : List ℕ → Type 0 = λ v. RowsFit y.0 (map (renamed x.0 v) rows) in
+    let P : List ℕ → Type 0 = λ v. RowsFit y.0 (map (field_renamed v p.1) rows) in
+    let P' : List ℕ → Type 0 = λ v. RowsFit y.0 (map (field_renamed x.0 v) rows) in
     let made = all_renamed_fit ((x.0, x'.0) ∷ []) rows cs y.0 rising (all_lack x'.0 rows cs h w.0, tt) (table_fits cs rows h) (ap (λ (r : Result ColumnList ℕ). and_then r go) y.1) in
-    renamed_rows a ts us y.0 es ps (map (renamed p.0 p.1) rows) m
-    (subst Rises w.1 (rises_put x'.0 z.0 (lists.without x.0 cs) (rises_without x.0 cs rising))) y.2 k.2
-    (subst P (sym same) (subst P' (sym same') (fit_table y.0 (map (renamed x.0 x'.0) rows) made)))
+    renamed_rows a ts us y.0 es ps (map (field_renamed p.0 p.1) rows) m
+    (subst Rises w.1 (rises_put x'.0 z.0 (lists.columns_without x.0 cs) (rises_without x.0 cs rising))) y.2 k.2
+    (subst P (sym same) (subst P' (sym same') (fit_table y.0 (map (field_renamed x.0 x'.0) rows) made)))
 renamed_rows a nil [] cs es (p ∷ ps) rows m rising e k h = absurd k
 renamed_rows a (cons t nil) (u ∷ []) cs es [] rows m rising e k h = absurd k
 renamed_rows a (cons t nil) (u ∷ []) cs es (p ∷ ps) rows m rising e k h = absurd k

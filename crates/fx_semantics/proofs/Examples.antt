@@ -8,7 +8,7 @@ use Rattle.fx_core.specs.declared.functions.Fun.TheVariants as fun
 use Rattle.fx_core.specs.Term.{Term, of, nil, cons, const, caught, dot, over}
 use Rattle.fx_core.specs.Term as top
 use Rattle.fx_semantics.specs.Around.{Around}
-use Rattle.fx_scalar.specs.Errors.{as_record}
+use Rattle.fx_scalar.specs.Errors.{fault_record}
 use Rattle.fx_semantics.specs.Fresh.{IsValue}
 
 abbrev pub error : Term
@@ -20,7 +20,7 @@ no_branch a = (boolean false, refl, refl)
 
 -- IfError(1/0, FirstError.Kind) is "Div0"
 pub caught_kind : (a : Around) → IsValue a (of (top.form form.IfError) (cons error (cons (of (dot (codes "Kind")) (cons (of caught nil) nil)) nil))) (text (codes "Div0"))
-caught_kind a = (fault Div0 [], refl, (as_record Div0 [], refl, refl))
+caught_kind a = (fault Div0 [], refl, (fault_record Div0 [], refl, refl))
 
 -- true || 1/0 is true: the error isn't reached
 pub not_reached : (a : Around) → IsValue a (of (top.form form.Any) (cons (of (const (boolean true)) nil) (cons error nil))) (boolean true)

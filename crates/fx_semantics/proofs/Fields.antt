@@ -11,7 +11,7 @@ use Rattle.fx_core.specs.ColumnLists.{field_in}
 use Rattle.fx_typing.specs.Columns as columns
 use Rattle.fx_typing.specs.WellTyped.{columns_by}
 use Rattle.fx_value.proofs.Widenings.{own_name, same_name}
-use Rattle.fx_value.specs.Coercion.{value_in}
+use Rattle.fx_value.specs.Coercion.{field_or_blank}
 use Rattle.fx_value.specs.Fits.{fits_in, fields_fit}
 use Rattle.fx_semantics.specs.Fresh.{field_of, fields_by}
 use Rattle.fx_semantics.specs.Sound.{AreFit}
@@ -30,20 +30,20 @@ pub all_fit : (n : List ℕ) (d : Data) (t : Shape) (fs : FieldList) (cs : Colum
 all_fit n d t fs cs f g = and_from (bytes_eq n n) (fits_in d t && fields_fit fs cs) (own_name n) (and_from (fits_in d t) (fields_fit fs cs) f g)
 
 -- the value under a column's name fits its type
-pub field_fits : (n : List ℕ) (fs : FieldList) (cs : ColumnList) (t : Shape) → fields_fit fs cs ≡ true → field_in n cs ≡ Some t → fits_in (value_in n fs) t ≡ true
+pub field_fits : (n : List ℕ) (fs : FieldList) (cs : ColumnList) (t : Shape) → fields_fit fs cs ≡ true → field_in n cs ≡ Some t → fits_in (field_or_blank n fs) t ≡ true
 field_fits n no_fields no_columns t f h = cc
 field_fits n no_fields (column m u cs) t f h = cc
 field_fits n (field m d fs) no_columns t f h = cc
 field_fits n (field m d fs) (column k u cs) t f h =
-    let P : List ℕ → Type 0 = λ z. (if bytes_eq z n then Some u else field_in n cs) ≡ Some t → fits_in (if bytes_eq m n then d else value_in n fs) t ≡ true in
+    let P : List ℕ → Type 0 = λ z. (if bytes_eq z n then Some u else field_in n cs) ≡ Some t → fits_in (if bytes_eq m n then d else field_or_blank n fs) t ≡ true in
     subst P (name_fits m k d u fs cs f) (by (bytes_eq m n) (λ q. field_fits n fs cs t (rest_fits m k d u fs cs f) q)) h
   where
-    by : (b : Bool) → (field_in n cs ≡ Some t → fits_in (value_in n fs) t ≡ true) → (if b then Some u else field_in n cs) ≡ Some t → fits_in (if b then d else value_in n fs) t ≡ true
+    by : (b : Bool) → (field_in n cs ≡ Some t → fits_in (field_or_blank n fs) t ≡ true) → (if b then Some u else field_in n cs) ≡ Some t → fits_in (if b then d else field_or_blank n fs) t ≡ true
     by true r q = let e : u ≡ t = cc in let R : Shape → Type 0 = λ z. fits_in d z ≡ true in subst R e (first_fits m k d u fs cs f)
     by false r q = r q
 
 -- a field of a value of a record's type
-pub dot_fits : (n : List ℕ) (u t : Shape) (d : Data) → columns.field_of n u ≡ Some t → fits_in d u ≡ true → fits_in (field_of n d) t ≡ true
+pub dot_fits : (n : List ℕ) (u t : Shape) (d : Data) → columns.field_shape n u ≡ Some t → fits_in d u ≡ true → fits_in (field_of n d) t ≡ true
 dot_fits n (records cs) t (rec fs) h f = field_fits n fs cs t f h
 dot_fits n (records cs) t d h f = refl
 dot_fits n u t d h f = cc

@@ -12,7 +12,7 @@ use Rattle.fx_core.specs.declared.rows.Row.{Row}
 use Rattle.fx_core.specs.declared.rows.Takes.{Takes}
 use Rattle.fx_core.specs.declared.rows.Takes.TheVariants as takes
 use Rattle.fx_core.specs.Term.{Top, form}
-use Rattle.fx_typing.specs.WellTyped.{Context, Standing, plain, catching, inside, bound, standing_at, standing_of, context_for, AreAll}
+use Rattle.fx_typing.specs.WellTyped.{Context, PartScope, plain, catching, inside, bound, standing_at, standing_of, context_for, AreAllOfShape}
 use Rattle.std.specs.Prelude.{nat_eq, ◌%◌, if◌then◌else◌}
 use Rattle.fx_value.specs.Fits.{fits_in}
 use Rattle.fx_scalar.specs.LazyForms.{ByCondition, ErrorOr, UnlessBlank}
@@ -70,7 +70,7 @@ unless_blank (rec fs) P v t f p h = given_fits v (rec fs) t f h
 unless_blank (tab rs) P v t f p h = given_fits v (tab rs) t f h
 
 pub coalesced_fits : (g : Giving) (c : Context) (rows : List Data) (item : Option Data) (caught : Option Fault) → Suits g c rows item →
-    (Ps : List Meaning) (us : List Shape) (t : Shape) → AllPlain g c Ps us → AreAll t us →
+    (Ps : List Meaning) (us : List Shape) (t : Shape) → AllPlain g c Ps us → AreAllOfShape t us →
     (v : Data) → IsCoalesced Ps (stands g rows item caught) v → fits_in v t ≡ true
 coalesced_fits g c rows item caught s [] us t k e v h = given_fits v blank t refl h
 coalesced_fits g c rows item caught s (P ∷ Ps) [] t k e v h = absurd k
@@ -101,12 +101,12 @@ each_take Q r n i e a b c d = by r.ending
     by ending.Whole = inner_take Q r i a b c d
 
 -- a part that stands where the whole stands, also where an error is caught
-abbrev pub IsQuiet : Standing → Type 0
+abbrev pub IsQuiet : PartScope → Type 0
 IsQuiet plain = Unit {0}
 IsQuiet catching = Unit {0}
 IsQuiet s = ⊥
 
-quiet_holds : (g : Giving) (c : Context) (s : Standing) (done : List Shape) (P : Meaning) (u : Shape) → IsQuiet s → Holds g (context_for s c done) P u → Holds g c P u
+quiet_holds : (g : Giving) (c : Context) (s : PartScope) (done : List Shape) (P : Meaning) (u : Shape) → IsQuiet s → Holds g (context_for s c done) P u → Holds g c P u
 quiet_holds g c plain done P u q h = h
 quiet_holds g c catching done P u q h = λ rows item caught v s p. h rows item caught v (catching_suits g c rows item s) p
 quiet_holds g c inside done P u q h = absurd q

@@ -20,12 +20,12 @@ use Rattle.fx_core.specs.declared.sources.Source.{Source}
 use Rattle.fx_core.specs.SourceTypes.{put_column}
 use Rattle.fx_core.specs.Term.{Term, Terms, of, nil, cons, Top}
 use Rattle.fx_core.specs.Term as top
-use Rattle.fx_typing.specs.Columns.{added, dropped, label_of, names_there, shown}
+use Rattle.fx_typing.specs.Columns.{added, dropped, label_of, names_there, columns_shown}
 use Rattle.fx_core.specs.ColumnLists.{field_in, if_there, is_one_of, row_columns, value_column, with_new, with_renamed}
 use Rattle.fx_typing.specs.Columns as columns
 use Rattle.fx_core.specs.ColumnLists as lists
-use Rattle.fx_typing.specs.LawfulTypes.{AreLawfulColumns, IsLawfulType, IsUnder}
-use Rattle.fx_typing.specs.WellTyped.{Context, Standing, plain, inside, bound, catching, Stands, AllStand, IsBelowNames, NamesRise, IsConstantType, IsRuled, IsTyped, AreTyped, answered, as_table, columns_by, context_for, first_type, paired, parts_count, row_type, standing_at, target_source}
+use Rattle.fx_typing.specs.LawfulTypes.{AreLawfulColumns, IsLawfulType, IsBelowColumns}
+use Rattle.fx_typing.specs.WellTyped.{Context, PartScope, plain, inside, bound, catching, Stands, AllStand, IsBelowNames, NamesRise, IsConstantType, IsRuled, IsTyped, AreTyped, answered_type, as_table, columns_by, context_for, first_type, typed_pairs, parts_count, row_type, standing_at, target_source}
 use Rattle.fx_typing.proofs.Operators.{then_ok}
 use Rattle.fx_value.proofs.Unions.{Under, Rises}
 use Rattle.fx_semantics.specs.Sound.{AreLawfulTrees, AreLawfulTypes, AreLawfulTypings, IsLawfulContext, IsLawfulTree, IsLawfulTyping, NamesLawful, TypingsLawful}
@@ -46,7 +46,7 @@ pub inner_of : (cs : ColumnList) → AreLawfulColumns cs → AreInner cs
 inner_of no_columns l = tt
 inner_of (column n t cs) l = (l.1, inner_of cs l.2)
 
-pub is_under : (n : List ℕ) (cs : ColumnList) → Under n cs → IsUnder n cs
+pub is_under : (n : List ℕ) (cs : ColumnList) → Under n cs → IsBelowColumns n cs
 is_under n no_columns u = tt
 is_under n (column m t cs) u = (u.0, is_under n cs u.1)
 
@@ -63,46 +63,46 @@ inner_put n u (column m t cs) l i = by (slice_cmp nat_cmp n m) (inner_put n u cs
     by Equal z = (l, i.1)
     by Greater z = (i.0, z)
 
-inner_without : (n : List ℕ) (cs : ColumnList) → AreInner cs → AreInner (lists.without n cs)
+inner_without : (n : List ℕ) (cs : ColumnList) → AreInner cs → AreInner (lists.columns_without n cs)
 inner_without n no_columns i = tt
 inner_without n (column m t cs) i = by (bytes_eq m n) (inner_without n cs i.1)
   where
-    by : (b : Bool) → AreInner (lists.without n cs) → AreInner (if b then cs else column m t (lists.without n cs))
+    by : (b : Bool) → AreInner (lists.columns_without n cs) → AreInner (if b then cs else column m t (lists.columns_without n cs))
     by true z = i.1
     by false z = (i.0, z)
 
-inner_only : (ns : List (List ℕ)) (cs : ColumnList) → AreInner cs → AreInner (lists.only ns cs)
+inner_only : (ns : List (List ℕ)) (cs : ColumnList) → AreInner cs → AreInner (lists.columns_only ns cs)
 inner_only ns no_columns i = tt
 inner_only ns (column m t cs) i = by (is_one_of m ns) (inner_only ns cs i.1)
   where
-    by : (b : Bool) → AreInner (lists.only ns cs) → AreInner (if b then column m t (lists.only ns cs) else lists.only ns cs)
+    by : (b : Bool) → AreInner (lists.columns_only ns cs) → AreInner (if b then column m t (lists.columns_only ns cs) else lists.columns_only ns cs)
     by true z = (i.0, z)
     by false z = z
 
-under_only : (k : List ℕ) (ns : List (List ℕ)) (cs : ColumnList) → Under k cs → Under k (lists.only ns cs)
+under_only : (k : List ℕ) (ns : List (List ℕ)) (cs : ColumnList) → Under k cs → Under k (lists.columns_only ns cs)
 under_only k ns no_columns u = tt
 under_only k ns (column m t cs) u = by (is_one_of m ns) (under_only k ns cs u.1)
   where
-    by : (b : Bool) → Under k (lists.only ns cs) → Under k (if b then column m t (lists.only ns cs) else lists.only ns cs)
+    by : (b : Bool) → Under k (lists.columns_only ns cs) → Under k (if b then column m t (lists.columns_only ns cs) else lists.columns_only ns cs)
     by true z = (u.0, z)
     by false z = z
 
-rises_only : (ns : List (List ℕ)) (cs : ColumnList) → Rises cs → Rises (lists.only ns cs)
+rises_only : (ns : List (List ℕ)) (cs : ColumnList) → Rises cs → Rises (lists.columns_only ns cs)
 rises_only ns no_columns r = tt
 rises_only ns (column m t cs) r = by (is_one_of m ns) (rises_only ns cs r.1)
   where
-    by : (b : Bool) → Rises (lists.only ns cs) → Rises (if b then column m t (lists.only ns cs) else lists.only ns cs)
+    by : (b : Bool) → Rises (lists.columns_only ns cs) → Rises (if b then column m t (lists.columns_only ns cs) else lists.columns_only ns cs)
     by true z = (under_only m ns cs r.0, z)
     by false z = z
 
 pub put_lawful : (n : List ℕ) (u : Shape) (cs : ColumnList) → IsLawfulType u → AreLawfulColumns cs → AreLawfulColumns (put_column n u cs)
 put_lawful n u cs k l = lawful_by (put_column n u cs) (rises_put n u cs (rises_of cs l)) (inner_put n u cs k (inner_of cs l))
 
-without_lawful : (n : List ℕ) (cs : ColumnList) → AreLawfulColumns cs → AreLawfulColumns (lists.without n cs)
-without_lawful n cs l = lawful_by (lists.without n cs) (rises_without n cs (rises_of cs l)) (inner_without n cs (inner_of cs l))
+without_lawful : (n : List ℕ) (cs : ColumnList) → AreLawfulColumns cs → AreLawfulColumns (lists.columns_without n cs)
+without_lawful n cs l = lawful_by (lists.columns_without n cs) (rises_without n cs (rises_of cs l)) (inner_without n cs (inner_of cs l))
 
-only_lawful : (ns : List (List ℕ)) (cs : ColumnList) → AreLawfulColumns cs → AreLawfulColumns (lists.only ns cs)
-only_lawful ns cs l = lawful_by (lists.only ns cs) (rises_only ns cs (rises_of cs l)) (inner_only ns cs (inner_of cs l))
+only_lawful : (ns : List (List ℕ)) (cs : ColumnList) → AreLawfulColumns cs → AreLawfulColumns (lists.columns_only ns cs)
+only_lawful ns cs l = lawful_by (lists.columns_only ns cs) (rises_only ns cs (rises_of cs l)) (inner_only ns cs (inner_of cs l))
 
 field_lawful : (n : List ℕ) (cs : ColumnList) (t : Shape) → AreLawfulColumns cs → field_in n cs ≡ Some t → IsLawfulType t
 field_lawful n no_columns t l e = absurd cc
@@ -117,7 +117,7 @@ abbrev pub ArePairsLawful : List (Term × Shape) → Type 0
 ArePairsLawful [] = Unit {0}
 ArePairsLawful (x ∷ xs) = IsLawfulType x.1 × ArePairsLawful xs
 
-pairs_lawful : (ts : Terms) (us : List Shape) → AreLawfulTypes us → ArePairsLawful (paired ts us)
+pairs_lawful : (ts : Terms) (us : List Shape) → AreLawfulTypes us → ArePairsLawful (typed_pairs ts us)
 pairs_lawful nil us l = tt
 pairs_lawful (cons t ts) [] l = tt
 pairs_lawful (cons t ts) (u ∷ us) l = (l.0, pairs_lawful ts us l.1)
@@ -133,19 +133,19 @@ added_lawful (x ∷ f ∷ more) cs es k l e =
 
 without_all_lawful : (ns : List (List ℕ)) (cs : ColumnList) → AreLawfulColumns cs → AreLawfulColumns (lists.without_all ns cs)
 without_all_lawful [] cs l = l
-without_all_lawful (n ∷ ns) cs l = without_all_lawful ns (lists.without n cs) (without_lawful n cs l)
+without_all_lawful (n ∷ ns) cs l = without_all_lawful ns (lists.columns_without n cs) (without_lawful n cs l)
 
 dropped_lawful : (xs : List (Term × Shape)) (cs es : ColumnList) → AreLawfulColumns cs → dropped xs cs ≡ Ok es → AreLawfulColumns es
 dropped_lawful xs cs es l e =
     let y = then_ok (names_there xs cs) _ es e in
     subst AreLawfulColumns (ok_is (lists.without_all y.0 cs) es y.2) (without_all_lawful y.0 cs l)
 
-shown_lawful : (xs : List (Term × Shape)) (cs es : ColumnList) → AreLawfulColumns cs → shown xs cs ≡ Ok es → AreLawfulColumns es
+shown_lawful : (xs : List (Term × Shape)) (cs es : ColumnList) → AreLawfulColumns cs → columns_shown xs cs ≡ Ok es → AreLawfulColumns es
 shown_lawful xs cs es l e =
     let y = then_ok (names_there xs cs) _ es e in
-    subst AreLawfulColumns (ok_is (lists.only y.0 cs) es y.2) (only_lawful y.0 cs l)
+    subst AreLawfulColumns (ok_is (lists.columns_only y.0 cs) es y.2) (only_lawful y.0 cs l)
 
-renamed_lawful : (xs : List (Term × Shape)) (cs es : ColumnList) → AreLawfulColumns cs → columns.renamed xs cs ≡ Ok es → AreLawfulColumns es
+renamed_lawful : (xs : List (Term × Shape)) (cs es : ColumnList) → AreLawfulColumns cs → columns.columns_renamed xs cs ≡ Ok es → AreLawfulColumns es
 renamed_lawful [] cs es l e = subst AreLawfulColumns (ok_is cs es e) l
 renamed_lawful (x ∷ []) cs es l e = subst AreLawfulColumns (ok_is cs es e) l
 renamed_lawful (x ∷ y ∷ more) cs es l e =
@@ -155,7 +155,7 @@ renamed_lawful (x ∷ y ∷ more) cs es l e =
     let t = then_ok (if_there (field_in n.0 cs)) _ d.0 d.1 in
     let w = free_ok (field_in m.0 cs) _ d.0 t.2 in
     let own = field_lawful n.0 cs t.0 l (there_ok (field_in n.0 cs) t.0 t.1) in
-    renamed_lawful more d.0 es (subst AreLawfulColumns w.1 (put_lawful m.0 t.0 (lists.without n.0 cs) own (without_lawful n.0 cs l))) d.2
+    renamed_lawful more d.0 es (subst AreLawfulColumns w.1 (put_lawful m.0 t.0 (lists.columns_without n.0 cs) own (without_lawful n.0 cs l))) d.2
 
 -- ---- answers
 scalar_lawful : (s : Scalar) → IsLawfulType (shape_of s)
@@ -188,7 +188,7 @@ table_lawful : (r : Result ColumnList ℕ) (t : Shape) → ((es : ColumnList) �
 table_lawful r t k e = let x = table_ok r t e in is_lawful (tables x.0) t x.2 (k x.0 x.1)
 
 answer_lawful : (a : Answer) (common : Shape) (xs : List (Term × Shape)) (t : Shape) → (IsCommon a → IsLawfulType common) → ArePairsLawful xs →
-    answered a common xs ≡ Ok t → IsLawfulType t
+    answered_type a common xs ≡ Ok t → IsLawfulType t
 answer_lawful (answer.Scalar s) common xs t c l e = is_lawful (shape_of s) t e (scalar_lawful s)
 answer_lawful answer.Same common [] t c l e = absurd cc
 answer_lawful answer.Same common (x ∷ xs) t c l e = is_lawful x.1 t e l.0
@@ -206,10 +206,10 @@ answer_lawful answer.Dropped common [] t c l e = absurd cc
 answer_lawful answer.Dropped common ((x, tables cs) ∷ xs) t c l e = table_lawful (dropped xs cs) t (λ es q. dropped_lawful xs cs es l.0 q) e
 answer_lawful answer.Dropped common ((x, u) ∷ xs) t c l e = absurd cc
 answer_lawful answer.Shown common [] t c l e = absurd cc
-answer_lawful answer.Shown common ((x, tables cs) ∷ xs) t c l e = table_lawful (shown xs cs) t (λ es q. shown_lawful xs cs es l.0 q) e
+answer_lawful answer.Shown common ((x, tables cs) ∷ xs) t c l e = table_lawful (columns_shown xs cs) t (λ es q. shown_lawful xs cs es l.0 q) e
 answer_lawful answer.Shown common ((x, u) ∷ xs) t c l e = absurd cc
 answer_lawful answer.Renamed common [] t c l e = absurd cc
-answer_lawful answer.Renamed common ((x, tables cs) ∷ xs) t c l e = table_lawful (columns.renamed xs cs) t (λ es q. renamed_lawful xs cs es l.0 q) e
+answer_lawful answer.Renamed common ((x, tables cs) ∷ xs) t c l e = table_lawful (columns.columns_renamed xs cs) t (λ es q. renamed_lawful xs cs es l.0 q) e
 answer_lawful answer.Renamed common ((x, u) ∷ xs) t c l e = absurd cc
 answer_lawful answer.Values common [] t c l e = absurd cc
 answer_lawful answer.Values common (x ∷ []) t c l e = absurd cc
@@ -261,7 +261,7 @@ dot_lawful n (records cs ∷ []) c ts t l r = field_lawful n cs t l.0 r
 dot_lawful n (u ∷ []) c ts t l r = absurd cc
 dot_lawful n (u ∷ v ∷ us) c ts t l r = absurd r
 
-under_names : (n : List ℕ) (ns : List (List ℕ)) (us : List Shape) → IsBelowNames n ns → IsUnder n (columns_by ns us)
+under_names : (n : List ℕ) (ns : List (List ℕ)) (us : List Shape) → IsBelowNames n ns → IsBelowColumns n (columns_by ns us)
 under_names n [] us b = tt
 under_names n (m ∷ ns) [] b = tt
 under_names n (m ∷ ns) (u ∷ us) b = (b.0, under_names n ns us b.1)
@@ -302,11 +302,11 @@ node_lawful c top.item ts us t k n l r = k.of_item t r
 node_lawful c top.caught ts us t k n l r = subst IsLawfulType (sym r.1) ((refl, tt), tt, (tt, tt, tt))
 node_lawful c (top.dot x) ts us t k n l r = dot_lawful x us c ts t l r
 node_lawful c (top.call f) ts us t k n l r =
-    answer_lawful (row_of f).answer r.1.1 (paired ts us) t (common_of f us r.1.1 r.1.0 r.1.2 l) (pairs_lawful ts us l) r.1.3
+    answer_lawful (row_of f).answer r.1.1 (typed_pairs ts us) t (common_of f us r.1.1 r.1.0 r.1.2 l) (pairs_lawful ts us l) r.1.3
 node_lawful c (top.over f) ts us t k n l r =
-    answer_lawful (row_of f).answer r.1.1 (paired ts us) t (common_of f us r.1.1 r.1.0 r.1.2 l) (pairs_lawful ts us l) r.1.3
+    answer_lawful (row_of f).answer r.1.1 (typed_pairs ts us) t (common_of f us r.1.1 r.1.0 r.1.2 l) (pairs_lawful ts us l) r.1.3
 node_lawful c (top.form f) ts us t k n l r =
-    answer_lawful (form_row f).answer r.1 (paired ts us) t (common_branch f us r.1 r.0 r.2 l) (pairs_lawful ts us l) r.3
+    answer_lawful (form_row f).answer r.1 (typed_pairs ts us) t (common_branch f us r.1 r.0 r.2 l) (pairs_lawful ts us l) r.3
 node_lawful c top.within ts us t k n l r = within_lawful c ts us t l r
 node_lawful c (top.rec ns) ts us t k n l r = subst IsLawfulType (sym r.2) (record_lawful ns us r.1 l)
 node_lawful c (top.list q) ts us t k n l r = listed_lawful q c ts us t n r
@@ -319,7 +319,7 @@ pub types_more : (ts : List Shape) (t : Shape) → AreLawfulTypes ts → IsLawfu
 types_more [] t l k = (k, tt)
 types_more (u ∷ ts) t l k = (l.0, types_more ts t l.1 k)
 
-pub context_lawful : (st : Standing) (c : Context) (done : List Shape) → AreLawfulTypes done → IsLawfulContext c → IsLawfulContext (context_for st c done)
+pub context_lawful : (st : PartScope) (c : Context) (done : List Shape) → AreLawfulTypes done → IsLawfulContext c → IsLawfulContext (context_for st c done)
 context_lawful inside c [] l k = k
 context_lawful inside c (t ∷ ts) l k = record { of_sources = k.of_sources; of_scopes = types_more c.rows (row_type t) k.of_scopes (row_lawful t l.0); of_item = k.of_item }
 context_lawful bound c [] l k = k

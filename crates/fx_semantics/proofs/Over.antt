@@ -14,21 +14,21 @@ use Rattle.fx_core.specs.SourceTypes.{put_column}
 use Rattle.fx_tables.specs.AggregateCalls.{IsNumberOrBlank, IsSumValue, averaged, concatenated, concatenated_by}
 use Rattle.fx_tables.specs.ColumnCalls.{renamed_columns, with_columns, without_columns}
 use Rattle.fx_tables.specs.Ends.{emptiness_of, first_rows, last_of, last_rows}
-use Rattle.fx_tables.specs.RowCalls.{CanBeRowType, holds, IsCountValue, distinct_or, filtered, first_of, for_all_of, looked_up}
+use Rattle.fx_tables.specs.RowCalls.{CanBeRowType, holds, IsCountValue, distinct_or, filtered, first_row_record, for_all_of, looked_up}
 use Rattle.fx_primitives.specs.Folds.{IsGreatest, IsLeast}
 use Rattle.fx_value.specs.Aggregates.{numbers_in}
-use Rattle.fx_value.specs.Columns.{Row, only, with_column}
+use Rattle.fx_value.specs.Columns.{Row, fields_only, rows_with_column}
 use Rattle.fx_core.specs.Term.{Term, Terms, nil, cons, Top, over}
-use Rattle.fx_typing.specs.Columns.{added, dropped, shown, renamed, label_of}
+use Rattle.fx_typing.specs.Columns.{added, dropped, columns_shown, columns_renamed, label_of}
 use Rattle.fx_core.specs.ColumnLists.{field_in, row_columns, value_column, with_new}
-use Rattle.fx_typing.specs.WellTyped.{Context, Standing, inside, standing_at, context_for, Stands, AllStand, paired, answered, as_table}
+use Rattle.fx_typing.specs.WellTyped.{Context, PartScope, inside, standing_at, context_for, Stands, AllStand, typed_pairs, answered_type, as_table}
 use Rattle.fx_typing.proofs.Operators.{then_ok}
 use Rattle.fx_value.proofs.Unions.{Rises}
 use Rattle.fx_value.specs.Fits.{fits_in}
 use Rattle.fx_scalar.specs.LazyForms.{ErrorOr}
 use Rattle.fx_semantics.specs.Around.{Around, Meaning}
 use Rattle.fx_semantics.specs.Fresh.{meaning, meanings}
-use Rattle.fx_semantics.specs.Rows.{AreNew, IsConcat, IsMade, IsOver, IsTaken, OfEach, is_falling, rows_in, table_of}
+use Rattle.fx_semantics.specs.Rows.{AreNew, IsConcat, IsMade, IsTableCall, TakesRows, OfEach, is_falling, rows_in, table_of}
 use Rattle.fx_semantics.proofs.Branches.{differs}
 use Rattle.fx_semantics.proofs.Columns.{SoMany, dropped_rows, fine, free_ok, label_ok, name_is, ok_is, renamed_rows, shown_rows, with_column_fit}
 use Rattle.fx_semantics.proofs.Forms.{error_or, given_fits}
@@ -52,7 +52,7 @@ of_each tr (F ∷ []) a R X go h = go h.0 h.2
 of_each tr (F ∷ G ∷ Ps) a R X go h = absurd h
 
 some_taken : (cs : ColumnList) (taken : Option Data → Data) → ((count : Option Data) → fits_in (taken count) (tables cs) ≡ true) → (Ps : List Meaning) (a : Around) (v : Data) →
-    IsTaken taken Ps a v → fits_in v (tables cs) ≡ true
+    TakesRows taken Ps a v → fits_in v (tables cs) ≡ true
 some_taken cs taken k [] a v h = given_fits v (taken None) (tables cs) (k None) h
 some_taken cs taken k (N ∷ []) a v h = given_fits v (taken (Some h.0)) (tables cs) (k (Some h.0)) h.2
 some_taken cs taken k (N ∷ M ∷ Ps) a v h = absurd h
@@ -97,7 +97,7 @@ formula_at n i e =
 added_rows : (g : Giving) (c : Context) (rows : List Data) (item : Option Data) (caught : Option Fault) → Suits g c rows item →
     (bs : ColumnList) (given : List Row) → RowsFit bs given → (n : ℕ) (more : List Shape) (ts : Terms) (us : List Shape) (cs es : ColumnList) (tr : List Row) (news : List (List ℕ × List Data)) →
     length (tables bs ∷ more) % 2 ≡ 1 → AllHold g c (over fun.AddColumns) n (tables bs ∷ more) (meanings ts) us →
-    added (paired ts us) cs ≡ Ok es → RowsFit cs tr → AreNew given (meanings ts) (stands g rows item caught) news → RowsFit es (with_columns news tr)
+    added (typed_pairs ts us) cs ≡ Ok es → RowsFit cs tr → AreNew given (meanings ts) (stands g rows item caught) news → RowsFit es (with_columns news tr)
 added_rows g c rows item caught s bs given b n more nil [] cs es tr [] o k e h q = let P : ColumnList → Type 0 = λ z. RowsFit z tr in subst P (ok_is cs es e) h
 added_rows g c rows item caught s bs given b n more (cons t (cons f ts)) (u ∷ w ∷ us) cs es tr (d ∷ news) o k e h q =
     let x = label_ok (label_of t) _ es e in
@@ -106,11 +106,11 @@ added_rows g c rows item caught s bs given b n more (cons t (cons f ts)) (u ∷ 
     let same : d.0 ≡ x.0 = name_is t (stands g rows item caught) x.0 d.0 x.1 q.0 in
     let place : standing_at (over fun.AddColumns) n (length ((tables bs ∷ more) ++ u ∷ [])) ≡ inside =
     ap (standing_at (over fun.AddColumns) n) (length_more (tables bs ∷ more) u) ∙ formula_at n (length (tables bs ∷ more)) o in
-    let H : Standing → Type 0 = λ st. Holds g (context_for st c ((tables bs ∷ more) ++ u ∷ [])) (meaning f) w in
+    let H : PartScope → Type 0 = λ st. Holds g (context_for st c ((tables bs ∷ more) ++ u ∷ [])) (meaning f) w in
     let fit = each_fits g c rows item caught s bs (meaning f) w (subst H place k.1.0) given d.1 b q.1 in
-    let P : List ℕ → Type 0 = λ m. RowsFit (put_column x.0 w cs) (with_column m tr d.1) in
-    let R : ColumnList → Type 0 = λ m. RowsFit m (with_column d.0 tr d.1) in
-    added_rows g c rows item caught s bs given b n ((more ++ u ∷ []) ++ w ∷ []) ts us y.0 es (with_column d.0 tr d.1) news
+    let P : List ℕ → Type 0 = λ m. RowsFit (put_column x.0 w cs) (rows_with_column m tr d.1) in
+    let R : ColumnList → Type 0 = λ m. RowsFit m (rows_with_column d.0 tr d.1) in
+    added_rows g c rows item caught s bs given b n ((more ++ u ∷ []) ++ w ∷ []) ts us y.0 es (rows_with_column d.0 tr d.1) news
     (two_more (tables bs ∷ more) u w o) k.1.1 y.2
     (subst R z.1 (subst P (sym same) (with_column_fit x.0 w cs z.0 tr d.1 h fit))) q.2
   where
@@ -131,8 +131,8 @@ abbrev pub OverFits : Giving → Context → List Data → Option Data → Optio
 OverFits g c rows item caught f u =
     (n m : ℕ) (t0 : Term) (ts : Terms) (us : List Shape) (common t : Shape) →
     AllHold g c (over f) n [] (meaning t0 ∷ meanings ts) (u ∷ us) → AllStand (row_of f) m 1 u common us →
-    answered (row_of f).answer common (paired (cons t0 ts) (u ∷ us)) ≡ Ok t →
-    (v : Data) → IsOver f (meaning t0 ∷ meanings ts) (stands g rows item caught) v → fits_in v t ≡ true
+    answered_type (row_of f).answer common (typed_pairs (cons t0 ts) (u ∷ us)) ≡ Ok t →
+    (v : Data) → IsTableCall f (meaning t0 ∷ meanings ts) (stands g rows item caught) v → fits_in v t ≡ true
 
 look_fits : (g : Giving) (c : Context) (rows : List Data) (item : Option Data) (caught : Option Fault) → Suits g c rows item →
     (cs : ColumnList) → OverFits g c rows item caught fun.LookUp (tables cs)
@@ -189,7 +189,7 @@ over_table g c rows item caught s cs rising (fun.Sort o) n m t0 ts us common t k
     (λ tr rf q. along (tables cs) t v e (of_each tr (meanings ts) (stands g rows item caught) _ _ (λ ds z. sort_fits (is_falling o) cs tr ds v rf z) q)) h
 over_table g c rows item caught s cs rising fun.First n m t0 ts us common t k w e v h =
     by_rows g c rows item caught s (meaning t0) cs k.0 (λ tr. IsMade fun.First tr (meanings ts) (stands g rows item caught) v) v t
-    (λ tr rf q. along (records cs) t v e (given_fits v (first_of tr) (records cs) (first_fits cs tr rf) q)) h
+    (λ tr rf q. along (records cs) t v e (given_fits v (first_row_record tr) (records cs) (first_fits cs tr rf) q)) h
 over_table g c rows item caught s cs rising fun.Last n m t0 ts us common t k w e v h =
     by_rows g c rows item caught s (meaning t0) cs k.0 (λ tr. IsMade fun.Last tr (meanings ts) (stands g rows item caught) v) v t
     (λ tr rf q. along (records cs) t v e (given_fits v (last_of tr) (records cs) (last_fits cs tr rf) q)) h
@@ -221,22 +221,22 @@ over_table g c rows item caught s cs rising fun.AverageRows n m t0 ts us common 
     by_rows g c rows item caught s (meaning t0) cs k.0 (λ tr. IsMade fun.AverageRows tr (meanings ts) (stands g rows item caught) v) v t
     (λ tr rf q. along numbers t v e (of_each tr (meanings ts) (stands g rows item caught) _ _ (λ ds z. given_fits v (averaged ds) numbers (averaged_fits ds) z) q)) h
 over_table g c rows item caught s cs rising fun.AddColumns n m t0 ts us common t k w e v h =
-    let r = table_ok (added (paired ts us) cs) t e in
+    let r = table_ok (added (typed_pairs ts us) cs) t e in
     by_rows g c rows item caught s (meaning t0) cs k.0 (λ tr. IsMade fun.AddColumns tr (meanings ts) (stands g rows item caught) v) v t
     (λ tr rf q. along (tables r.0) t v r.2 (given_fits v (table_of (with_columns q.0 tr)) (tables r.0) (table_fits r.0 (with_columns q.0 tr)
     (added_rows g c rows item caught s cs tr rf n [] ts us cs r.0 tr q.0 refl k.1 r.1 rf q.1)) q.2)) h
 over_table g c rows item caught s cs rising fun.DropColumns n m t0 ts us common t k w e v h =
-    let r = table_ok (dropped (paired ts us) cs) t e in
+    let r = table_ok (dropped (typed_pairs ts us) cs) t e in
     by_rows g c rows item caught s (meaning t0) cs k.0 (λ tr. IsMade fun.DropColumns tr (meanings ts) (stands g rows item caught) v) v t
     (λ tr rf q. along (tables r.0) t v r.2 (given_fits v (table_of (without_columns q.0 tr)) (tables r.0)
     (dropped_rows (stands g rows item caught) ts us cs r.0 q.0 tr (so_many g c (over fun.DropColumns) n (tables cs ∷ []) ts us k.1) rising r.1 q.1 (table_fits cs tr rf)) q.2)) h
 over_table g c rows item caught s cs rising fun.ShowColumns n m t0 ts us common t k w e v h =
-    let r = table_ok (shown (paired ts us) cs) t e in
+    let r = table_ok (columns_shown (typed_pairs ts us) cs) t e in
     by_rows g c rows item caught s (meaning t0) cs k.0 (λ tr. IsMade fun.ShowColumns tr (meanings ts) (stands g rows item caught) v) v t
-    (λ tr rf q. along (tables r.0) t v r.2 (given_fits v (table_of (map (only q.0) tr)) (tables r.0)
+    (λ tr rf q. along (tables r.0) t v r.2 (given_fits v (table_of (map (fields_only q.0) tr)) (tables r.0)
     (shown_rows (stands g rows item caught) ts us cs r.0 q.0 tr (so_many g c (over fun.ShowColumns) n (tables cs ∷ []) ts us k.1) r.1 q.1 (table_fits cs tr rf)) q.2)) h
 over_table g c rows item caught s cs rising fun.RenameColumns n m t0 ts us common t k w e v h =
-    let r = table_ok (renamed (paired ts us) cs) t e in
+    let r = table_ok (columns_renamed (typed_pairs ts us) cs) t e in
     by_rows g c rows item caught s (meaning t0) cs k.0 (λ tr. IsMade fun.RenameColumns tr (meanings ts) (stands g rows item caught) v) v t
     (λ tr rf q. along (tables r.0) t v r.2 (given_fits v (table_of (renamed_columns q.0 tr)) (tables r.0) (table_fits r.0 (renamed_columns q.0 tr)
     (renamed_rows (stands g rows item caught) ts us cs r.0 q.0 tr (so_many g c (over fun.RenameColumns) n (tables cs ∷ []) ts us k.1) rising r.1 q.1 rf)) q.2)) h

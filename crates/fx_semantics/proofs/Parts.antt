@@ -5,7 +5,7 @@ use Rattle.fx_types.specs.Types.{Shape}
 use Rattle.fx_types.specs.Values.{Data}
 use Rattle.fx_core.specs.declared.sources.Source.{Source}
 use Rattle.fx_core.specs.Term.{Top}
-use Rattle.fx_typing.specs.WellTyped.{Context, Standing, plain, standing_at, context_for}
+use Rattle.fx_typing.specs.WellTyped.{Context, PartScope, plain, standing_at, context_for}
 use Rattle.fx_value.specs.Fits.{fits_in}
 use Rattle.fx_semantics.specs.Around.{Around, Meaning, AreValues}
 use Rattle.fx_semantics.specs.Sound.{AreFit, IsItemFit}
@@ -47,7 +47,7 @@ pub all_plain : (g : Giving) (c : Context) (h : Top) (n : ℕ) → ((i : ℕ) �
     (done : List Shape) (Ps : List Meaning) (us : List Shape) → AllHold g c h n done Ps us → AllPlain g c Ps us
 all_plain g c h n p done [] [] k = tt
 all_plain g c h n p done (P ∷ Ps) (u ∷ us) k =
-    (subst (λ (s : Standing). Holds g (context_for s c done) P u) (p (length done)) k.0, all_plain g c h n p (done ++ u ∷ []) Ps us k.1)
+    (subst (λ (s : PartScope). Holds g (context_for s c done) P u) (p (length done)) k.0, all_plain g c h n p (done ++ u ∷ []) Ps us k.1)
 all_plain g c h n p done [] (u ∷ us) k = absurd k
 all_plain g c h n p done (P ∷ Ps) [] k = absurd k
 

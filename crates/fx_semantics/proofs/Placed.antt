@@ -22,7 +22,7 @@ use Rattle.fx_core.specs.declared.signatures.SigShape.{SigShape}
 use Rattle.fx_core.specs.declared.signatures.SigShape.TheVariants as sig
 use Rattle.fx_core.specs.declared.signatures.Signature.{Signature}
 use Rattle.fx_core.specs.declared.sources.Source.TheVariants as source
-use Rattle.fx_core.specs.Rows.{row_of, form_row, takes_at, inner_at, is_within}
+use Rattle.fx_core.specs.Rows.{row_of, form_row, takes_at, inner_at, is_arity}
 use Rattle.fx_core.specs.Signatures.{signature_in}
 use Rattle.fx_core.specs.declared.expr.Op.{Op}
 use Rattle.fx_core.specs.Tree.{Tree, node, Forest, none, more, Head}
@@ -33,17 +33,17 @@ use Rattle.fx_typing.proofs.Frame.{onward_ok, at_node_ok, put_one}
 use Rattle.fx_typing.proofs.Quiet.{Calm, calm_first, judged_quiet, may_do}
 use Rattle.fx_typing.proofs.QuietParts.{AllQuiet, EachQuiet, Made, PartQuiet, TreeQuiet, dot_by_quiet, formed_quiet, global_by_quiet, if_quiet, in_globals_quiet, made_if_quiet, made_quiet, meaning_quiet, name_by_quiet, pieces_quiet, take_quiet, then_quiet, tree_quiet, unless_quiet, values_quiet}
 use Rattle.fx_typing.specs.Breaks.{taken_at, mistells}
-use Rattle.fx_typing.specs.Builds.{as_record, blank_record, bounded, bounded_by, field_names, field_parts, is_bounded, are_distinct, list_as, list_by, list_of, put_field, put_fields, record_by, record_of, rows_to, table_of, types_of, with_of}
+use Rattle.fx_typing.specs.Builds.{as_record, blank_record, bounded, bounded_by, field_names, field_parts, is_bounded, are_names_distinct, list_as, list_by, typed_list, put_field, put_fields, record_by, typed_record, rows_to, typed_table, types_of, with_of}
 use Rattle.fx_typing.specs.Calls.{called, called_by, called_with, defaults_of, function_by, literal_in, made_if, made_literal, made_or_lowest}
 use Rattle.fx_core.specs.ColumnLists.{and_then, field_in}
-use Rattle.fx_typing.specs.Local.{value, by_way, firsts, formed, join_all, made, put_first}
+use Rattle.fx_typing.specs.Local.{value, by_way, firsts, formed, join_all, node_made, put_first}
 use Rattle.fx_typing.specs.Meaning.{Place, valued, controlled, screened, enumerated, field_read, in_globals, known_field, meaning_of}
 use Rattle.fx_typing.specs.Operators.{function_of}
-use Rattle.fx_typing.specs.Parts.{Grant, nothing, an_alias, aliased_target, on_screen, Part, piece, meant, target, assigned, Setting, parts_in, pieces, values}
+use Rattle.fx_typing.specs.Parts.{Grant, nothing, an_alias, aliased_target, on_screen, JudgedPart, piece, meant, target, assigned, Setting, part_count, pieces, values}
 use Rattle.fx_typing.specs.Parts as part
-use Rattle.fx_typing.specs.Plans.{field_grant, grant_of, pick, plan_act, plan_at, plan_by_row, plan_call, plan_either, plan_literal, planned, setting_at, shape_in}
+use Rattle.fx_typing.specs.Plans.{field_grant, grant_of, pick, plan_act, plan_at, plan_by_row, plan_call, plan_either, plan_literal, argument_rule, setting_at, shape_in}
 use Rattle.fx_typing.specs.Targets.{rows_named}
-use Rattle.fx_typing.specs.Typing.{admit, alias_by, assigned_of, at_node, chain_as, chain_by, dot_by, global_by, is_too_deep, judge, judge_parts, name_by, outermost, paired_by, position, record_as, to_wanted, whole_of, woven_by}
+use Rattle.fx_typing.specs.Typing.{admit, alias_by, assigned_of, at_node, chain_as, chain_by, dot_by, global_by, is_too_deep, judge, judge_parts, name_by, outermost_setting, paired_by, position, record_as, to_wanted, whole_argument, woven_by}
 use Rattle.fx_typing.specs.WellTyped.{plain, last_type}
 use Rattle.fx_typing.specs.Ways.{way}
 
@@ -84,15 +84,15 @@ calm_row : (b : Bool) (f : Fun) (n i : ℕ) → is_for_all f ≡ false → Calm 
 calm_row b f n i e = calm_takes b (takes_at (row_of f) n i) (calm_function f n i e)
 
 -- parts that may be the first of these
-abbrev IsBegun : List Part → List Part → Type 0
-IsBegun d qs = (rest : List Part) × (d ++ rest ≡ qs)
+abbrev IsBegun : List JudgedPart → List JudgedPart → Type 0
+IsBegun d qs = (rest : List JudgedPart) × (d ++ rest ≡ qs)
 
-pick_first : (f g : Fun) (q : Part) (xs ys : List Part) → pick f g (q ∷ xs) ≡ pick f g (q ∷ ys)
+pick_first : (f g : Fun) (q : JudgedPart) (xs ys : List JudgedPart) → pick f g (q ∷ xs) ≡ pick f g (q ∷ ys)
 pick_first f g (piece (value (Some a) c t)) xs ys = refl
 pick_first f g (piece (value None c (tables cs))) xs ys = refl
 pick_first f g q xs ys = refl
 
-calm_either : (b : Bool) (f g : Fun) (n : ℕ) (qs : List Part) → is_for_all (pick f g qs) ≡ false → (d : List Part) → IsBegun d qs → Calm (plan_either b f g n d)
+calm_either : (b : Bool) (f g : Fun) (n : ℕ) (qs : List JudgedPart) → is_for_all (pick f g qs) ≡ false → (d : List JudgedPart) → IsBegun d qs → Calm (plan_either b f g n d)
 calm_either b f g n qs e [] m = refl
 calm_either b f g n qs e (q ∷ d) m =
     let same : pick f g (q ∷ d) ≡ pick f g qs = pick_first f g q d (d ++ m.0) ∙ ap (pick f g) m.1 in
@@ -101,7 +101,7 @@ calm_either b f g n qs e (q ∷ d) m =
 calm_literal : (b : Bool) (f : Fun) (n i : ℕ) → is_for_all f ≡ false → Calm (plan_literal b f n i)
 calm_literal b f n i e = by_test (nat_lt i (row_of f).most)
   where
-    by_test : (t : Bool) → Calm (if t then plan_by_row b (row_of f) n i else planned plain nothing)
+    by_test : (t : Bool) → Calm (if t then plan_by_row b (row_of f) n i else argument_rule plain nothing)
     by_test true = calm_row b f n i e
     by_test false = refl
 
@@ -138,16 +138,16 @@ fields_quiet (n ∷ ns) [] h = tt
 fields_quiet (n ∷ ns) (x ∷ xs) h = field_quiet n x (put_fields ns xs) h.0 (fields_quiet ns xs h.1)
 
 -- a field doesn't act
-record_placed : (ns : List (List ℕ)) (xs : List (Term × Shape)) → AllQuiet xs → Made TreePlaced (record_of ns xs)
+record_placed : (ns : List (List ℕ)) (xs : List (Term × Shape)) → AllQuiet xs → Made TreePlaced (typed_record ns xs)
 record_placed ns xs h =
     let fs = put_fields ns xs in
-    if_quiet TreePlaced (are_distinct ns) (bounded (Ok (record_by fs))) (Err 5)
+    if_quiet TreePlaced (are_names_distinct ns) (bounded (Ok (record_by fs))) (Err 5)
     (bounded_placed (Ok (record_by fs)) (quiet_placed (record_by fs).0 (tree_quiet (term.rec (field_names fs)) (field_parts fs) refl (fields_quiet ns xs h)))) tt
 
-record_part : (g : Grant) (ns : List (List ℕ)) (qs : List Part) → EachPlaced qs → (may_do (field_grant g) ≡ false → EachQuiet qs) → Made PartPlaced (and_then (values qs) (record_as g ns))
+record_part : (g : Grant) (ns : List (List ℕ)) (qs : List JudgedPart) → EachPlaced qs → (may_do (field_grant g) ≡ false → EachQuiet qs) → Made PartPlaced (and_then (values qs) (record_as g ns))
 record_part (on_screen b) ns qs h q =
-    then_quiet AllPlaced PartPlaced (values qs) (assigned_of ns) (values_placed qs h) (λ xs k. if_quiet PartPlaced (are_distinct ns) (Ok (assigned ns xs)) (Err 5) k tt)
-record_part g ns qs h q = then_quiet AllQuiet PartPlaced (values qs) (record_as g ns) (values_quiet qs (q refl)) (λ xs k. as_part_placed (record_of ns xs) (record_placed ns xs k))
+    then_quiet AllPlaced PartPlaced (values qs) (assigned_of ns) (values_placed qs h) (λ xs k. if_quiet PartPlaced (are_names_distinct ns) (Ok (assigned ns xs)) (Err 5) k tt)
+record_part g ns qs h q = then_quiet AllQuiet PartPlaced (values qs) (record_as g ns) (values_quiet qs (q refl)) (λ xs k. as_part_placed (typed_record ns xs) (record_placed ns xs k))
 
 rows_placed : (t : Shape) (xs : List (Term × Shape)) → AllPlaced xs → Made AllPlaced (rows_to t xs)
 rows_placed t [] h = tt
@@ -164,7 +164,7 @@ list_as_placed None xs h = tt
 list_as_placed (Some (tables cs)) xs h = tt
 list_as_placed (Some t) xs h = rows_listed t xs h
 
-list_placed : (xs : List (Term × Shape)) → AllPlaced xs → Made TreePlaced (list_of xs)
+list_placed : (xs : List (Term × Shape)) → AllPlaced xs → Made TreePlaced (typed_list xs)
 list_placed [] h = bounded_placed (list_as (Some (records no_columns)) []) (list_as_placed (Some (records no_columns)) [] h)
 list_placed (x ∷ xs) h =
     let joined = join_all (Some blanks) (x ∷ xs) in
@@ -184,53 +184,53 @@ with_placed (r ∷ f ∷ []) h =
     (λ c k. node_placed within (cons c (cons f.0 nil)) refl (k, (h.1.0, tt)))
 with_placed (r ∷ f ∷ x ∷ xs) h = tt
 
-function_placed : (f : Fun) (qs : List Part) → EachPlaced qs → (is_for_all f ≡ false → EachQuiet qs) → Made TreePlaced (made f (pieces qs))
+function_placed : (f : Fun) (qs : List JudgedPart) → EachPlaced qs → (is_for_all f ≡ false → EachQuiet qs) → Made TreePlaced (node_made f (pieces qs))
 function_placed f qs h q = made_placed f (pieces qs) (pieces_placed qs h) (λ e. pieces_quiet qs (q e))
 
-made_or_lowest_placed : (f : Fun) (qs : List Part) → EachPlaced qs → (is_for_all f ≡ false → EachQuiet qs) → Made TreePlaced (made_or_lowest f qs)
+made_or_lowest_placed : (f : Fun) (qs : List JudgedPart) → EachPlaced qs → (is_for_all f ≡ false → EachQuiet qs) → Made TreePlaced (made_or_lowest f qs)
 made_or_lowest_placed f qs h q =
-    unless_quiet TreePlaced (is_some (taken_at f qs)) 5 _ (unless_quiet TreePlaced (mistells f qs) 6 (made f (pieces qs)) (function_placed f qs h q))
+    unless_quiet TreePlaced (is_some (taken_at f qs)) 5 _ (unless_quiet TreePlaced (mistells f qs) 6 (node_made f (pieces qs)) (function_placed f qs h q))
 
 -- no literal changes `ForAll`
-changed_placed : (f : Fun) (o : Option (List ℕ)) (qs : List Part) → (is_for_all f ≡ false → EachQuiet qs) → Made TreePlaced (made_if (function_by f o) (take (row_of f).most (pieces qs)))
+changed_placed : (f : Fun) (o : Option (List ℕ)) (qs : List JudgedPart) → (is_for_all f ≡ false → EachQuiet qs) → Made TreePlaced (made_if (function_by f o) (take (row_of f).most (pieces qs)))
 changed_placed f None qs q = tt
 changed_placed fun.ForAll (Some x) qs q = tt
 changed_placed f (Some x) qs q =
     tree_still (made_if (function_by f (Some x)) (take (row_of f).most (pieces qs))) (made_if_quiet (function_by f (Some x)) (take (row_of f).most (pieces qs)) (take_quiet (row_of f).most (pieces qs) (pieces_quiet qs (q refl))))
 
-literal_placed : (f : Fun) (qs : List Part) → EachPlaced qs → (is_for_all f ≡ false → EachQuiet qs) → Made TreePlaced (made_literal f (pieces qs))
+literal_placed : (f : Fun) (qs : List JudgedPart) → EachPlaced qs → (is_for_all f ≡ false → EachQuiet qs) → Made TreePlaced (made_literal f (pieces qs))
 literal_placed f qs h q =
     if_quiet TreePlaced (nat_le (length (pieces qs)) (row_of f).most) _ _ (function_placed f qs h q)
     (if_quiet TreePlaced (nat_eq (length (pieces qs)) (suc (row_of f).most)) _ _ (changed_placed f (literal_in (drop (row_of f).most (pieces qs))) qs q) tt)
 
 -- parts none of which acts where none may
-abbrev Rests : Bool → ℕ → Option SigShape → List Part → Type 0
-Rests b n o qs = ((d : List Part) → IsBegun d qs → Calm (plan_call b o n d)) → EachQuiet qs
+abbrev Rests : Bool → ℕ → Option SigShape → List JudgedPart → Type 0
+Rests b n o qs = ((d : List JudgedPart) → IsBegun d qs → Calm (plan_call b o n d)) → EachQuiet qs
 
-form_placed : (b : Bool) (n : ℕ) (f : Form) (qs : List Part) → EachPlaced qs → Rests b n (Some (sig.Form f)) qs → Made TreePlaced (formed f (pieces qs))
+form_placed : (b : Bool) (n : ℕ) (f : Form) (qs : List JudgedPart) → EachPlaced qs → Rests b n (Some (sig.Form f)) qs → Made TreePlaced (formed f (pieces qs))
 form_placed b n form.All qs h q = tree_still (formed form.All (pieces qs)) (formed_quiet form.All (pieces qs) (pieces_quiet qs (q (λ d m. calm_all b n (length d)))))
 form_placed b n form.Any qs h q = tree_still (formed form.Any (pieces qs)) (formed_quiet form.Any (pieces qs) (pieces_quiet qs (q (λ d m. calm_any b n (length d)))))
 form_placed b n form.If qs h q = made_by_placed (form_row form.If) (term.form form.If) (pieces qs) refl (pieces_placed qs h)
 form_placed b n form.Switch qs h q = made_by_placed (form_row form.Switch) (term.form form.Switch) (pieces qs) refl (pieces_placed qs h)
 form_placed b n form.IfError qs h q = made_by_placed (form_row form.IfError) (term.form form.IfError) (pieces qs) refl (pieces_placed qs h)
 
-called_by_placed : (p : Place) (s : Setting) (k : SigShape) (n : ℕ) (qs : List Part) → EachPlaced qs → Rests (part.may_act s.grant) n (Some k) qs → Made TreePlaced (called_by p s k qs)
+called_by_placed : (p : Place) (s : Setting) (k : SigShape) (n : ℕ) (qs : List JudgedPart) → EachPlaced qs → Rests (part.may_act s.grant) n (Some k) qs → Made TreePlaced (called_by p s k qs)
 called_by_placed p s (sig.One f) n qs h q = made_or_lowest_placed f qs h (λ e. q (λ d m. calm_row (part.may_act s.grant) f n (length d) e))
 called_by_placed p s (sig.Either f g) n qs h q = function_placed (pick f g qs) qs h (λ e. q (λ d m. calm_either (part.may_act s.grant) f g n qs e d m))
 called_by_placed p s (sig.Literal f) n qs h q = literal_placed f qs h (λ e. q (λ d m. calm_literal (part.may_act s.grant) f n (length d) e))
 called_by_placed p s (sig.Form f) n qs h q = form_placed (part.may_act s.grant) n f qs h q
 called_by_placed p s sig.With n qs h q = then_quiet AllPlaced TreePlaced (values qs) with_of (values_placed qs h) (λ xs k. with_placed xs k)
 called_by_placed p s sig.Table n qs h q =
-    then_quiet AllPlaced TreePlaced (values qs) table_of (values_placed qs h) (λ xs k. list_as_placed (join_all (Some (records no_columns)) xs) xs k)
+    then_quiet AllPlaced TreePlaced (values qs) typed_table (values_placed qs h) (λ xs k. list_as_placed (join_all (Some (records no_columns)) xs) xs k)
 called_by_placed p s sig.Today n qs h q = quiet_placed (of (term.read source.Today) nil) refl
 called_by_placed p s sig.Defaults n qs h q =
     name_made qs (defaults_of p.names) (λ x rs k. rows_made (rows_named p.names x) (λ r. Ok (blank_record r.1)) (λ r. quiet_placed (blank_record r.1).0 refl)) h
 called_by_placed p s (sig.Act a) n qs h q = act_placed p s a qs h (λ e. q (λ d m. calm_filtered a e (part.may_act s.grant) (length d)))
 
-called_with_placed : (p : Place) (s : Setting) (o : Option Signature) (n : ℕ) (qs : List Part) → EachPlaced qs → Rests (part.may_act s.grant) n (shape_in o) qs →
+called_with_placed : (p : Place) (s : Setting) (o : Option Signature) (n : ℕ) (qs : List JudgedPart) → EachPlaced qs → Rests (part.may_act s.grant) n (shape_in o) qs →
     Made TreePlaced (called_with p s o qs)
 called_with_placed p s (Some f) n qs h q =
-    if_quiet TreePlaced (is_within f.least f.most (length qs)) (bounded (called_by p s f.shape qs)) (Err 7)
+    if_quiet TreePlaced (is_arity f.least f.most (length qs)) (bounded (called_by p s f.shape qs)) (Err 7)
     (bounded_placed (called_by p s f.shape qs) (called_by_placed p s f.shape n qs h q)) tt
 called_with_placed p s None n qs h q = tt
 
@@ -243,7 +243,7 @@ field_placed : (c : Term) (x : List ℕ) (t : Shape) → IsPlaced c → Made Tre
 field_placed c x (records cs) h = known_placed c x (field_in x cs) h
 field_placed c x t h = tt
 
-dot_placed : (p : Place) (x : List ℕ) (qs : List Part) → EachPlaced qs → Made TreePlaced (dot_by p x qs)
+dot_placed : (p : Place) (x : List ℕ) (qs : List JudgedPart) → EachPlaced qs → Made TreePlaced (dot_by p x qs)
 dot_placed p x (piece (value a c t) ∷ []) h = field_placed c x t h.0
 dot_placed p x (meant (valued c t) ∷ []) h = field_placed c x t h.0
 dot_placed p x (meant (controlled k c) ∷ []) h = tree_still (dot_by p x (meant (controlled k c) ∷ [])) (dot_by_quiet p x (meant (controlled k c) ∷ []) (tt, tt))
@@ -251,7 +251,7 @@ dot_placed p x (meant screened ∷ []) h = tree_still (dot_by p x (meant screene
 dot_placed p x (meant (enumerated e) ∷ []) h = tree_still (dot_by p x (meant (enumerated e) ∷ [])) (dot_by_quiet p x (meant (enumerated e) ∷ []) (tt, tt))
 dot_placed p x qs h = tt
 
-alias_placed : (g : Grant) (x : List ℕ) (qs : List Part) → EachPlaced qs → Made PartPlaced (alias_by g x qs)
+alias_placed : (g : Grant) (x : List ℕ) (qs : List JudgedPart) → EachPlaced qs → Made PartPlaced (alias_by g x qs)
 alias_placed an_alias x (piece (value a c t) ∷ []) h = h.0
 alias_placed aliased_target x (piece (value a c t) ∷ []) h = h.0
 alias_placed aliased_target x (target None y ∷ []) h = tt
@@ -261,23 +261,23 @@ chain_placed : (xs : List (Term × Shape)) (o : Option Shape) → AllPlaced xs �
 chain_placed xs (Some t) h = node_placed term.chain (all (firsts xs)) refl (terms_placed xs h)
 chain_placed xs None h = tt
 
-paired_placed : (o : Op) (xs : List (Term × Shape)) (qs : List Part) → EachQuiet qs → Made TreePlaced (paired_by o xs (pieces qs))
+paired_placed : (o : Op) (xs : List (Term × Shape)) (qs : List JudgedPart) → EachQuiet qs → Made TreePlaced (paired_by o xs (pieces qs))
 paired_placed o (x ∷ y ∷ []) qs q = tree_still (made_if (function_of o x.1 y.1) (pieces qs)) (made_if_quiet (function_of o x.1 y.1) (pieces qs) (pieces_quiet qs q))
 paired_placed o xs qs q = tt
 
-still_function : (f : Fun) (qs : List Part) → EachQuiet qs → Made TreePlaced (made f (pieces qs))
-still_function f qs q = tree_still (made f (pieces qs)) (made_quiet f (pieces qs) (pieces_quiet qs q))
+still_function : (f : Fun) (qs : List JudgedPart) → EachQuiet qs → Made TreePlaced (node_made f (pieces qs))
+still_function f qs q = tree_still (node_made f (pieces qs)) (made_quiet f (pieces qs) (pieces_quiet qs q))
 
-still_form : (f : Form) (qs : List Part) → EachQuiet qs → Made TreePlaced (formed f (pieces qs))
+still_form : (f : Form) (qs : List JudgedPart) → EachQuiet qs → Made TreePlaced (formed f (pieces qs))
 still_form f qs q = tree_still (formed f (pieces qs)) (formed_quiet f (pieces qs) (pieces_quiet qs q))
 
-woven_placed : (qs : List Part) → EachQuiet qs → Made TreePlaced (woven_by qs)
+woven_placed : (qs : List JudgedPart) → EachQuiet qs → Made TreePlaced (woven_by qs)
 woven_placed [] q = quiet_placed (of (term.const (text [])) nil) refl
 woven_placed (p ∷ qs) q = still_function fun.Concatenation (p ∷ qs) q
 
 -- ---- the local rule
-admit_placed : (p : Place) (s : Setting) (h : Head) (n : ℕ) (qs : List Part) → EachPlaced qs →
-    (((d : List Part) → IsBegun d qs → Calm (plan_at p.names s.grant h n d)) → EachQuiet qs) → Made PartPlaced (admit p s h qs)
+admit_placed : (p : Place) (s : Setting) (h : Head) (n : ℕ) (qs : List JudgedPart) → EachPlaced qs →
+    (((d : List JudgedPart) → IsBegun d qs → Calm (plan_at p.names s.grant h n d)) → EachQuiet qs) → Made PartPlaced (admit p s h qs)
 admit_placed p s (tree.num z) n [] k q = quiet_placed (of (term.const (number z)) nil) refl
 admit_placed p s (tree.num z) n (r ∷ qs) k q = tt
 admit_placed p s (tree.text cs) n [] k q = quiet_placed (of (term.const (text cs)) nil) refl
@@ -306,28 +306,28 @@ admit_placed p s tree.chain n qs k q =
     (then_quiet AllPlaced TreePlaced (values qs) chain_by (values_placed qs k) (λ xs m. chain_placed xs (last_type (types_of xs)) m)))
 admit_placed p s (tree.alias x) n qs k q = alias_placed s.grant x qs k
 admit_placed p s (tree.rec ns ps) n qs k q = record_part s.grant ns qs k (λ e. q (λ d m. e))
-admit_placed p s tree.list n qs k q = as_part_placed _ (then_quiet AllPlaced TreePlaced (values qs) list_of (values_placed qs k) (λ xs m. list_placed xs m))
+admit_placed p s tree.list n qs k q = as_part_placed _ (then_quiet AllPlaced TreePlaced (values qs) typed_list (values_placed qs k) (λ xs m. list_placed xs m))
 admit_placed p s tree.woven n qs k q = as_part_placed (woven_by qs) (woven_placed qs (q (λ d m. refl)))
 
 -- ---- parts, and whole formulas
-begun : (p : Place) (s : Setting) (h : Head) (n : ℕ) (done : List Part) (ts : Forest) (qs : List Part) → judge_parts p s h n done ts ≡ Ok qs → IsBegun done qs
+begun : (p : Place) (s : Setting) (h : Head) (n : ℕ) (done : List JudgedPart) (ts : Forest) (qs : List JudgedPart) → judge_parts p s h n done ts ≡ Ok qs → IsBegun done qs
 begun p s h n done none qs e = let k : done ≡ qs = cc in ([], append-nil done ∙ k)
 begun p s h n done (more t ts) qs e =
     let a = onward_ok (judge p (setting_at p.names s h n done) t) (λ q. judge_parts p s h n (done ++ q ∷ []) ts) qs e in
     let b = begun p s h n (done ++ a.0 ∷ []) ts qs a.2 in
     (a.0 ∷ b.0, sym (put_one done a.0 b.0) ∙ b.1)
 
-one_more_quiet : (done : List Part) (q : Part) → EachQuiet done → PartQuiet q → EachQuiet (done ++ q ∷ [])
+one_more_quiet : (done : List JudgedPart) (q : JudgedPart) → EachQuiet done → PartQuiet q → EachQuiet (done ++ q ∷ [])
 one_more_quiet [] q h k = (k, tt)
 one_more_quiet (d ∷ done) q h k = (h.0, one_more_quiet done q h.1 k)
 
-one_more_placed : (done : List Part) (q : Part) → EachPlaced done → PartPlaced q → EachPlaced (done ++ q ∷ [])
+one_more_placed : (done : List JudgedPart) (q : JudgedPart) → EachPlaced done → PartPlaced q → EachPlaced (done ++ q ∷ [])
 one_more_placed [] q h k = (k, tt)
 one_more_placed (d ∷ done) q h k = (h.0, one_more_placed done q h.1 k)
 
 -- where no place lets a part act, none does
-calm_parts : (p : Place) (s : Setting) (h : Head) (n : ℕ) (done : List Part) (ts : Forest) (qs : List Part) →
-    ((d : List Part) → IsBegun d qs → Calm (plan_at p.names s.grant h n d)) → EachQuiet done → judge_parts p s h n done ts ≡ Ok qs → EachQuiet qs
+calm_parts : (p : Place) (s : Setting) (h : Head) (n : ℕ) (done : List JudgedPart) (ts : Forest) (qs : List JudgedPart) →
+    ((d : List JudgedPart) → IsBegun d qs → Calm (plan_at p.names s.grant h n d)) → EachQuiet done → judge_parts p s h n done ts ≡ Ok qs → EachQuiet qs
 calm_parts p s h n done none qs c k e = let same : done ≡ qs = cc in subst EachQuiet same k
 calm_parts p s h n done (more t ts) qs c k e =
     let a = onward_ok (judge p (setting_at p.names s h n done) t) (λ q. judge_parts p s h n (done ++ q ∷ []) ts) qs e in
@@ -335,14 +335,14 @@ calm_parts p s h n done (more t ts) qs c k e =
     calm_parts p s h n (done ++ a.0 ∷ []) ts qs c (one_more_quiet done a.0 k one) a.2
 
 mutual
-  pub judged_placed : (p : Place) (s : Setting) (e : Tree) (q : Part) → judge p s e ≡ Ok q → PartPlaced q
+  pub judged_placed : (p : Place) (s : Setting) (e : Tree) (q : JudgedPart) → judge p s e ≡ Ok q → PartPlaced q
   judged_placed p s (node at h ts) q e =
-      let a = onward_ok (judge_parts p s h (parts_in ts) [] ts) (λ qs. at_node at (admit p s h qs)) q e in
+      let a = onward_ok (judge_parts p s h (part_count ts) [] ts) (λ qs. at_node at (admit p s h qs)) q e in
       let k = at_node_ok at (admit p s h a.0) q a.2 in
-      subst (Made PartPlaced) k (admit_placed p s h (parts_in ts) a.0 (parts_placed p s h (parts_in ts) [] ts a.0 tt a.1)
-      (λ c. calm_parts p s h (parts_in ts) [] ts a.0 c tt a.1))
+      subst (Made PartPlaced) k (admit_placed p s h (part_count ts) a.0 (parts_placed p s h (part_count ts) [] ts a.0 tt a.1)
+      (λ c. calm_parts p s h (part_count ts) [] ts a.0 c tt a.1))
 
-  pub parts_placed : (p : Place) (s : Setting) (h : Head) (n : ℕ) (done : List Part) (ts : Forest) (qs : List Part) → EachPlaced done →
+  pub parts_placed : (p : Place) (s : Setting) (h : Head) (n : ℕ) (done : List JudgedPart) (ts : Forest) (qs : List JudgedPart) → EachPlaced done →
       judge_parts p s h n done ts ≡ Ok qs → EachPlaced qs
   parts_placed p s h n done none qs d e = let k : done ≡ qs = cc in subst EachPlaced k d
   parts_placed p s h n done (more t ts) qs d e =
@@ -354,13 +354,13 @@ wanted_placed None c t h = h
 wanted_placed (Some (tables no_columns)) c (tables cs) h = h
 wanted_placed (Some u) c t h = by_way_placed (way t u) c u h
 
-whole_part_placed : (w : Option Shape) (q : Part) → PartPlaced q → Made TreePlaced (whole_of w q)
+whole_part_placed : (w : Option Shape) (q : JudgedPart) → PartPlaced q → Made TreePlaced (whole_argument w q)
 whole_part_placed w (piece (value a c t)) h = wanted_placed w c t h
 whole_part_placed w q h = tt
 
 -- THE law: what acts in an admitted formula acts in its place
 pub whole_placed : AdmittedIsPlaced
 whole_placed p b w e x h =
-    let a = onward_ok (judge p (outermost b) e) (λ q. at_node (position e) (whole_of w q)) x h in
-    let k = at_node_ok (position e) (whole_of w a.0) x a.2 in
-    subst (Made TreePlaced) k (whole_part_placed w a.0 (judged_placed p (outermost b) e a.0 a.1))
+    let a = onward_ok (judge p (outermost_setting b) e) (λ q. at_node (position e) (whole_argument w q)) x h in
+    let k = at_node_ok (position e) (whole_argument w a.0) x a.2 in
+    subst (Made TreePlaced) k (whole_part_placed w a.0 (judged_placed p (outermost_setting b) e a.0 a.1))

@@ -10,7 +10,7 @@ use Rattle.fx_scalar.specs.LazyForms.{AtAll, AtAny, ByCondition, CaughtOr, Error
 use Rattle.fx_scalar.proofs.Single.{AtMostOne}
 use Rattle.fx_value.specs.Columns.{Row}
 use Rattle.fx_semantics.specs.Around.{Around, Meaning, AreEach, AreValues, catching, record_of}
-use Rattle.fx_semantics.specs.Forms.{IsAll, IsAny, IsCaughtBy, IsCoalesced, IsFormed, IsIf, IsMatched, IsRecovered, IsSwitch}
+use Rattle.fx_semantics.specs.Forms.{IsAll, IsAny, IsCaughtBy, IsCoalesced, IsFormed, IsIf, IsSwitchMatch, IsRecovered, IsSwitch}
 use Rattle.fx_semantics.proofs.Parts.{Giving, stands}
 
 -- a formula has one value at most, wherever it stands
@@ -102,18 +102,18 @@ module _ (g : Giving) (rows : List Data) (item : Option Data) (caught : Option F
       then_one (C here) (λ x v. ByCondition x (P here v) (IsIf Ps here v) v) (s.0 rows item caught)
       (λ x. by_condition_one x (P here) (IsIf Ps here) (s.1.0 rows item caught) (if_one Ps s.1.1))
 
-  matched_one : (d : Data) (Ps : List Meaning) → AllSingle g Ps → AtMostOne (IsMatched d Ps here)
+  matched_one : (d : Data) (Ps : List Meaning) → AllSingle g Ps → AtMostOne (IsSwitchMatch d Ps here)
   matched_one d [] s = equal_one blank
   matched_one d (P ∷ []) s = s.0 rows item caught
   matched_one d (M ∷ P ∷ Ps) s =
-      then_one (M here) (λ x v. ByCondition (equality d x) (P here v) (IsMatched d Ps here v) v) (s.0 rows item caught)
-      (λ x. by_condition_one (equality d x) (P here) (IsMatched d Ps here) (s.1.0 rows item caught) (matched_one d Ps s.1.1))
+      then_one (M here) (λ x v. ByCondition (equality d x) (P here v) (IsSwitchMatch d Ps here v) v) (s.0 rows item caught)
+      (λ x. by_condition_one (equality d x) (P here) (IsSwitchMatch d Ps here) (s.1.0 rows item caught) (matched_one d Ps s.1.1))
 
   switch_one : (Ps : List Meaning) → AllSingle g Ps → AtMostOne (IsSwitch Ps here)
   switch_one [] s = λ v w h k. absurd h
   switch_one (P ∷ Ps) s =
-      then_one (P here) (λ x v. ErrorOr x (IsMatched x Ps here v) v) (s.0 rows item caught)
-      (λ x. error_or_one x (IsMatched x Ps here) (matched_one x Ps s.1))
+      then_one (P here) (λ x v. ErrorOr x (IsSwitchMatch x Ps here v) v) (s.0 rows item caught)
+      (λ x. error_or_one x (IsSwitchMatch x Ps here) (matched_one x Ps s.1))
 
   recovered_one : (d : Data) (Ps : List Meaning) → AllSingle g Ps → AtMostOne (IsRecovered d Ps here)
   recovered_one d [] s = equal_one d

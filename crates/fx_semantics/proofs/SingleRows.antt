@@ -8,12 +8,12 @@ use Rattle.fx_tables.specs.AggregateCalls.{IsGreatestOf, IsLeastOf, IsSumOf, ave
 use Rattle.fx_tables.specs.ColumnCalls.{renamed_columns, with_columns, without_columns}
 use Rattle.fx_tables.specs.Ends.{emptiness_of, first_rows, last_of, last_rows}
 use Rattle.fx_tables.specs.Laws.{CountIfOnce, CountOnce, GreatestOnce, LeastOnce, SortOnce, SumOnce}
-use Rattle.fx_tables.specs.RowCalls.{IsCountIfOf, IsSortOf, distinct_or, filtered, first_of, for_all_of, looked_up, verdict_of}
+use Rattle.fx_tables.specs.RowCalls.{IsCountIfOf, IsSortOf, distinct_or, filtered, first_row_record, for_all_of, looked_up, verdict_of}
 use Rattle.fx_scalar.specs.LazyForms.{ErrorOr}
 use Rattle.fx_scalar.proofs.Single.{AtMostOne}
-use Rattle.fx_value.specs.Columns.{Row, only}
+use Rattle.fx_value.specs.Columns.{Row, fields_only}
 use Rattle.fx_semantics.specs.Around.{Around, Meaning, AreEach, AreValues}
-use Rattle.fx_semantics.specs.Rows.{AreNames, AreNew, ArePairs, IsConcat, IsLookedUp, IsMade, IsNamed, IsOfFound, IsOver, IsTaken, IsVerdict, OfEach, OfVerdicts, is_falling, rows_in, table_of}
+use Rattle.fx_semantics.specs.Rows.{AreNames, AreNew, AreRenamings, IsConcat, IsLookedUp, IsMade, MakesByNames, IsOfFound, IsTableCall, TakesRows, IsConjunction, OfEach, OfVerdicts, is_falling, rows_in, table_of}
 use Rattle.fx_semantics.proofs.Parts.{Giving, stands}
 use Rattle.fx_semantics.proofs.Single.{AllSingle, Single, cons_same, each_one, equal_one, error_or_one, then_one, values_one}
 
@@ -26,7 +26,7 @@ pub record Once : Type 0 where
   pub counted : CountIfOnce
   pub sorted : SortOnce
 
-verdict_single : (g : Giving) (Cs : List Meaning) → AllSingle g Cs → Single g (IsVerdict Cs)
+verdict_single : (g : Giving) (Cs : List Meaning) → AllSingle g Cs → Single g (IsConjunction Cs)
 verdict_single g Cs s rows item caught =
     then_one (AreValues Cs (stands g rows item caught)) (λ ds v. v ≡ verdict_of ds) (values_one g Cs s rows item caught) (λ ds. equal_one (verdict_of ds))
 
@@ -43,7 +43,7 @@ module _ (g : Giving) (rows : List Data) (item : Option Data) (caught : Option F
   of_each_one rs (F ∷ P ∷ Ps) s R r = λ v w h k. absurd h
 
   of_verdicts_one : (rs : List Row) (Cs : List Meaning) → AllSingle g Cs → (R : List Data → Data → Type 0) → ((ds : List Data) → AtMostOne (R ds)) → AtMostOne (λ v. OfVerdicts rs Cs here (λ ds. R ds v))
-  of_verdicts_one rs Cs s R r = then_one (AreEach (IsVerdict Cs) here rs) R (each_here (IsVerdict Cs) (verdict_single g Cs s) rs) r
+  of_verdicts_one rs Cs s R r = then_one (AreEach (IsConjunction Cs) here rs) R (each_here (IsConjunction Cs) (verdict_single g Cs s) rs) r
 
   found_one : (d : Data) (F : Meaning) → Single g F → AtMostOne (IsOfFound d F here)
   found_one (rec fs) F s = s (rows ++ rec fs ∷ []) item caught
@@ -56,7 +56,7 @@ module _ (g : Giving) (rows : List Data) (item : Option Data) (caught : Option F
       then_one (AreEach C here rs) (λ ds v. IsOfFound (looked_up rs ds) F here v) (each_here C s.0 rs) (λ ds. found_one (looked_up rs ds) F s.1.0)
   looked_up_one rs (C ∷ F ∷ P ∷ Ps) s = λ v w h k. absurd h
 
-  taken_one : (taken : Option Data → Data) (Ps : List Meaning) → AllSingle g Ps → AtMostOne (IsTaken taken Ps here)
+  taken_one : (taken : Option Data → Data) (Ps : List Meaning) → AllSingle g Ps → AtMostOne (TakesRows taken Ps here)
   taken_one taken [] s = equal_one (taken None)
   taken_one taken (N ∷ []) s = then_one (N here) (λ n v. v ≡ taken (Some n)) (s.0 rows item caught) (λ n. equal_one (taken (Some n)))
   taken_one taken (N ∷ P ∷ Ps) s = λ v w h k. absurd h
@@ -81,7 +81,7 @@ module _ (g : Giving) (rows : List Data) (item : Option Data) (caught : Option F
   names_one (P ∷ Ps) s (m ∷ ms) [] h k = absurd k
   names_one (P ∷ Ps) s (m ∷ ms) (n ∷ ns) h k = cons_same m n ms ns (name_one P s.0 m n h.0 k.0) (names_one Ps s.1 ms ns h.1 k.1)
 
-  named_one : (made : List (List ℕ) → List Row) (Ps : List Meaning) → AllSingle g Ps → AtMostOne (IsNamed made Ps here)
+  named_one : (made : List (List ℕ) → List Row) (Ps : List Meaning) → AllSingle g Ps → AtMostOne (MakesByNames made Ps here)
   named_one made Ps s = then_one (AreNames Ps here) (λ ns v. v ≡ table_of (made ns)) (names_one Ps s) (λ ns. equal_one (table_of (made ns)))
 
   new_one : (rs : List Row) (Ps : List Meaning) → AllSingle g Ps → AtMostOne (AreNew rs Ps here)
@@ -96,7 +96,7 @@ module _ (g : Giving) (rows : List Data) (item : Option Data) (caught : Option F
       let values = each_here F s.1.0 rs c.1 d.1 h.1 k.1 in
       cons_same c d cs ds (λ i. (name i, values i)) (new_one rs Ps s.1.1 cs ds h.2 k.2)
 
-  pairs_one : (Ps : List Meaning) → AllSingle g Ps → AtMostOne (ArePairs Ps here)
+  pairs_one : (Ps : List Meaning) → AllSingle g Ps → AtMostOne (AreRenamings Ps here)
   pairs_one [] s [] [] h k = λ i. []
   pairs_one [] s [] (d ∷ ds) h k = absurd k
   pairs_one [] s (c ∷ cs) ds h k = absurd h
@@ -112,7 +112,7 @@ module _ (g : Giving) (rows : List Data) (item : Option Data) (caught : Option F
   made_one o fun.Filter rs Ps s = of_verdicts_one rs Ps s (λ ds v. v ≡ filtered rs ds) (λ ds. equal_one (filtered rs ds))
   made_one o fun.LookUp rs Ps s = looked_up_one rs Ps s
   made_one o (fun.Sort x) rs Ps s = of_each_one rs Ps s (λ ds v. IsSortOf (is_falling x) rs ds v) (λ ds. o.sorted (is_falling x) rs ds)
-  made_one o fun.First rs Ps s = equal_one (first_of rs)
+  made_one o fun.First rs Ps s = equal_one (first_row_record rs)
   made_one o fun.Last rs Ps s = equal_one (last_of rs)
   made_one o fun.FirstN rs Ps s = taken_one (first_rows rs) Ps s
   made_one o fun.LastN rs Ps s = taken_one (last_rows rs) Ps s
@@ -125,14 +125,14 @@ module _ (g : Giving) (rows : List Data) (item : Option Data) (caught : Option F
   made_one o fun.AverageRows rs Ps s = of_each_one rs Ps s (λ ds v. v ≡ averaged ds) (λ ds. equal_one (averaged ds))
   made_one o fun.AddColumns rs Ps s = then_one (AreNew rs Ps here) (λ cs v. v ≡ table_of (with_columns cs rs)) (new_one rs Ps s) (λ cs. equal_one (table_of (with_columns cs rs)))
   made_one o fun.DropColumns rs Ps s = named_one (λ ns. without_columns ns rs) Ps s
-  made_one o fun.ShowColumns rs Ps s = named_one (λ ns. map (only ns) rs) Ps s
-  made_one o fun.RenameColumns rs Ps s = then_one (ArePairs Ps here) (λ ps v. v ≡ table_of (renamed_columns ps rs)) (pairs_one Ps s) (λ ps. equal_one (table_of (renamed_columns ps rs)))
+  made_one o fun.ShowColumns rs Ps s = named_one (λ ns. map (fields_only ns) rs) Ps s
+  made_one o fun.RenameColumns rs Ps s = then_one (AreRenamings Ps here) (λ ps v. v ≡ table_of (renamed_columns ps rs)) (pairs_one Ps s) (λ ps. equal_one (table_of (renamed_columns ps rs)))
   made_one o fun.Distinct rs Ps s = of_each_one rs Ps s (λ ds v. v ≡ distinct_or ds) (λ ds. equal_one (distinct_or ds))
   made_one o fun.ForAll rs Ps s = of_each_one rs Ps s (λ ds v. v ≡ for_all_of ds) (λ ds. equal_one (for_all_of ds))
   made_one o fun.Concat rs Ps s = concat_one rs Ps s
   made_one o f rs Ps s = λ v w h k. absurd h
 
-  pub over_one : Once → (f : Fun) (Ps : List Meaning) → AllSingle g Ps → AtMostOne (IsOver f Ps here)
+  pub over_one : Once → (f : Fun) (Ps : List Meaning) → AllSingle g Ps → AtMostOne (IsTableCall f Ps here)
   over_one o f [] s = λ v w h k. absurd h
   over_one o f (P ∷ Ps) s =
       then_one (P here) (λ x v. ErrorOr x (IsMade f (rows_in x) Ps here v) v) (s.0 rows item caught)

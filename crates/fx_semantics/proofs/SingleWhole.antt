@@ -9,7 +9,7 @@ use Rattle.fx_core.specs.declared.functions.Fun.TheVariants as fun
 use Rattle.fx_core.specs.declared.sources.Source.{Source}
 use Rattle.fx_core.specs.declared.sources.Source.TheVariants as source
 use Rattle.fx_scalar.proofs.OneAnswer.{one_answer}
-use Rattle.fx_scalar.specs.Errors.{as_record}
+use Rattle.fx_scalar.specs.Errors.{fault_record}
 use Rattle.fx_scalar.specs.LazyForms.{ErrorOr}
 use Rattle.fx_scalar.specs.ScalarFunctions.{IsAnswer}
 use Rattle.fx_scalar.proofs.Single.{AtMostOne}
@@ -41,7 +41,7 @@ coerced_one d (records cs) = λ v w h k. h ∙ sym k
 coerced_one d (tables cs) = λ v w h k. h ∙ sym k
 
 caught_one : (o : Option Fault) → AtMostOne (IsCaught o)
-caught_one (Some e) = equal_one (as_record e.kind e.message)
+caught_one (Some e) = equal_one (fault_record e.kind e.message)
 caught_one None = λ v w h k. absurd h
 
 module _ (g : Giving) (rows : List Data) (item : Option Data) (caught : Option Fault) where

@@ -9,9 +9,9 @@ use Rattle.fx_core.specs.Rows.{form_row, row_of}
 use Rattle.fx_core.specs.Term.{Term, Terms, of, nil, cons, Top}
 use Rattle.fx_core.specs.Term as top
 use Rattle.fx_typing.specs.Acts.{is_acting}
-use Rattle.fx_typing.specs.Columns.{added, by_label, label_of, names_there, renamed}
-use Rattle.fx_core.specs.ColumnLists.{and_then, field_in, if_there, only, with_new, with_renamed, without_all}
-use Rattle.fx_typing.specs.WellTyped.{Context, IsRuled, IsTyped, AreTyped, answered, as_table, context_for, paired, parts_count, standing_at}
+use Rattle.fx_typing.specs.Columns.{added, by_label, label_of, names_there, columns_renamed}
+use Rattle.fx_core.specs.ColumnLists.{and_then, field_in, if_there, columns_only, with_new, with_renamed, without_all}
+use Rattle.fx_typing.specs.WellTyped.{Context, IsRuled, IsTyped, AreTyped, answered_type, as_table, context_for, typed_pairs, parts_count, standing_at}
 
 -- a tree that has every type and does nothing; a name of a column stays
 abbrev pub still : Term → Term
@@ -74,7 +74,7 @@ abbrev stilled : List (Term × Shape) → List (Term × Shape)
 stilled [] = []
 stilled (x ∷ xs) = (still x.0, x.1) ∷ stilled xs
 
-same_pairs : (ts : Terms) (us : List Shape) → paired (stills ts) us ≡ stilled (paired ts us)
+same_pairs : (ts : Terms) (us : List Shape) → typed_pairs (stills ts) us ≡ stilled (typed_pairs ts us)
 same_pairs nil us = refl
 same_pairs (cons t ts) [] = refl
 same_pairs (cons t ts) (u ∷ us) = ap (λ xs. (still t, u) ∷ xs) (same_pairs ts us)
@@ -88,17 +88,17 @@ same_names : (xs : List (Term × Shape)) (cs : ColumnList) → names_there (stil
 same_names [] cs = refl
 same_names (x ∷ xs) cs = named_same x.0 _ _ (λ n. then_same (if_there (field_in n cs)) _ _ (λ t. ap (λ r. and_then r (λ ns. Ok (n ∷ ns))) (same_names xs cs)))
 
-same_renamed : (xs : List (Term × Shape)) (cs : ColumnList) → renamed (stilled xs) cs ≡ renamed xs cs
+same_renamed : (xs : List (Term × Shape)) (cs : ColumnList) → columns_renamed (stilled xs) cs ≡ columns_renamed xs cs
 same_renamed [] cs = refl
 same_renamed (x ∷ []) cs = refl
 same_renamed (x ∷ y ∷ xs) cs = named_same x.0 _ _ (λ n. named_same y.0 _ _ (λ m. then_same (with_renamed n m cs) _ _ (λ ds. same_renamed xs ds)))
 
-same_answer : (a : Answer) (common : Shape) (xs : List (Term × Shape)) → answered a common (stilled xs) ≡ answered a common xs
+same_answer : (a : Answer) (common : Shape) (xs : List (Term × Shape)) → answered_type a common (stilled xs) ≡ answered_type a common xs
 same_answer (answer.Scalar s) common xs = refl
 same_answer answer.Common common xs = refl
 same_answer answer.Added common ((x, tables cs) ∷ xs) = ap as_table (same_added xs cs)
 same_answer answer.Dropped common ((x, tables cs) ∷ xs) = ap (λ r. as_table (and_then r (λ ns. Ok (without_all ns cs)))) (same_names xs cs)
-same_answer answer.Shown common ((x, tables cs) ∷ xs) = ap (λ r. as_table (and_then r (λ ns. Ok (only ns cs)))) (same_names xs cs)
+same_answer answer.Shown common ((x, tables cs) ∷ xs) = ap (λ r. as_table (and_then r (λ ns. Ok (columns_only ns cs)))) (same_names xs cs)
 same_answer answer.Renamed common ((x, tables cs) ∷ xs) = ap as_table (same_renamed xs cs)
 same_answer answer.Found common (x ∷ y ∷ z ∷ xs) = refl
 same_answer answer.Values common (x ∷ y ∷ xs) = refl
@@ -106,8 +106,8 @@ same_answer answer.Each common (x ∷ y ∷ xs) = refl
 same_answer a common [] = refl
 same_answer a common (x ∷ xs) = refl
 
-still_answer : (a : Answer) (common : Shape) (ts : Terms) (us : List Shape) → answered a common (paired (stills ts) us) ≡ answered a common (paired ts us)
-still_answer a common ts us = ap (answered a common) (same_pairs ts us) ∙ same_answer a common (paired ts us)
+still_answer : (a : Answer) (common : Shape) (ts : Terms) (us : List Shape) → answered_type a common (typed_pairs (stills ts) us) ≡ answered_type a common (typed_pairs ts us)
+still_answer a common ts us = ap (answered_type a common) (same_pairs ts us) ∙ same_answer a common (typed_pairs ts us)
 
 -- ---- nodes
 pub still_ruled : (c : Context) (h : Top) (ts : Terms) (us : List Shape) (t : Shape) → is_acting h ≡ false → IsRuled c h ts us t → IsRuled c h (stills ts) us t

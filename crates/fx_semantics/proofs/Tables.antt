@@ -12,7 +12,7 @@ use Rattle.fx_types.specs.Values.{Data, blank, number, text, boolean, date, rec,
 use Rattle.fx_types.proofs.Utf8Order.{and_second, and_first}
 use Rattle.fx_tables.specs.AggregateCalls.{IsNumberOrBlank, IsSumValue, number_or_blank, averaged, made_value, concatenated, concatenated_by}
 use Rattle.fx_tables.specs.Ends.{count_asked, first_rows, last_of, last_rows, unless_error}
-use Rattle.fx_tables.specs.RowCalls.{CanBeRowType, IsFirstErrorOr, IsCountValue, IsTableBy, IsSortOf, distinct_or, filtered, first_of, for_all_of, kept_rows, looked_up}
+use Rattle.fx_tables.specs.RowCalls.{CanBeRowType, IsFirstErrorOr, IsCountValue, IsTableBy, IsSortOf, distinct_or, filtered, first_row_record, for_all_of, kept_rows, looked_up}
 use Rattle.fx_tables.proofs.FitRows.{first_rows_fit, kept_fit, last_rows_fit, ordered_fit, RowFits}
 use Rattle.fx_tables.proofs.FitDistinct.{distinct_fit}
 use Rattle.fx_tables.proofs.ValueRows.{values_fit as by_values_fit}
@@ -81,7 +81,7 @@ pub last_some_fit : (cs : ColumnList) (rows : List Row) → RowsFit cs rows → 
 last_some_fit cs rows h count =
     unless_fits count (drop (length rows - count_asked count) rows) (tables cs) (last_rows_fit rows (length rows - count_asked count) (tables cs) (table_fits cs rows h))
 
-pub first_fits : (cs : ColumnList) (rows : List Row) → RowsFit cs rows → fits_in (first_of rows) (records cs) ≡ true
+pub first_fits : (cs : ColumnList) (rows : List Row) → RowsFit cs rows → fits_in (first_row_record rows) (records cs) ≡ true
 first_fits cs [] h = refl
 first_fits cs (r ∷ rs) h = h.0
 
@@ -108,7 +108,7 @@ pub filtered_fits : (cs : ColumnList) (rows : List Row) (ds : List Data) → Row
 filtered_fits cs rows ds h = fault_or_fits ds (tab (row_list (kept_rows rows ds))) (tables cs) (λ e. table_fits cs (kept_rows rows ds) (kept_rows_fit cs rows ds h))
 
 pub looked_up_fits : (cs : ColumnList) (rows : List Row) (ds : List Data) → RowsFit cs rows → fits_in (looked_up rows ds) (records cs) ≡ true
-looked_up_fits cs rows ds h = fault_or_fits ds (first_of (kept_rows rows ds)) (records cs) (λ e. first_fits cs (kept_rows rows ds) (kept_rows_fit cs rows ds h))
+looked_up_fits cs rows ds h = fault_or_fits ds (first_row_record (kept_rows rows ds)) (records cs) (λ e. first_fits cs (kept_rows rows ds) (kept_rows_fit cs rows ds h))
 
 table_by_fits : (down : Bool) (keys : List Data) (rows : List Row) (cs : ColumnList) (v : Data) → RowsFit cs rows → IsTableBy down keys rows v → fits_in v (tables cs) ≡ true
 table_by_fits down keys rows cs (tab rs) h t =

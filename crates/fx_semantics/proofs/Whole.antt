@@ -17,13 +17,13 @@ use Rattle.fx_core.specs.Term as top
 use Rattle.fx_typing.specs.Columns.{fault_type}
 use Rattle.fx_core.specs.ColumnLists.{row_columns}
 use Rattle.fx_typing.specs.Ways.{way, changed}
-use Rattle.fx_typing.specs.WellTyped.{Context, Stands, AreAll, IsByRow, IsRuled, IsTyped, AreTyped, columns_by, context_for, first_type, head_of, parts_count, standing_at}
+use Rattle.fx_typing.specs.WellTyped.{Context, Stands, AreAllOfShape, IsByRow, IsRuled, IsTyped, AreTyped, columns_by, context_for, first_type, head_of, parts_count, standing_at}
 use Rattle.fx_value.proofs.Unions.{Rises}
 use Rattle.fx_value.specs.Coercion.{IsCoerced}
 use Rattle.fx_value.specs.Fits.{fits_in}
 use Rattle.fx_semantics.specs.Around.{Meaning, inside}
 use Rattle.fx_types.specs.Faults.{kind_name}
-use Rattle.fx_scalar.specs.Errors.{as_record}
+use Rattle.fx_scalar.specs.Errors.{fault_record}
 use Rattle.fx_semantics.specs.Errors.{IsCaught}
 use Rattle.fx_semantics.specs.Forms.{IsFormed}
 use Rattle.fx_semantics.specs.Fresh.{IsNode, IsWithin, OfOne, field_of, fields_by, meaning, meanings}
@@ -62,13 +62,13 @@ item_at None (Some u) t v f e q = absurd f
 item_at o None t v f e q = cc
 
 -- the error that was caught
-told_fits : (k : Kind) (cs : List ℕ) → fits_in (as_record k cs) fault_type ≡ true
+told_fits : (k : Kind) (cs : List ℕ) → fits_in (fault_record k cs) fault_type ≡ true
 told_fits k cs =
     all_fit (codes "Kind") (text (kind_name k)) texts (field (codes "Message") (text cs) no_fields) (column (codes "Message") texts no_columns) refl
     (all_fit (codes "Message") (text cs) texts no_fields no_columns refl refl)
 
 caught_fits : (o : Option Fault) (v : Data) → IsCaught o v → fits_in v fault_type ≡ true
-caught_fits (Some e) v h = given_fits v (as_record e.kind e.message) fault_type (told_fits e.kind e.message) h
+caught_fits (Some e) v h = given_fits v (fault_record e.kind e.message) fault_type (told_fits e.kind e.message) h
 caught_fits None v h = absurd h
 
 -- the one part of a node
@@ -90,7 +90,7 @@ coerce_ruled c dates ts u t r = (r.1, inr r.0)
 coerce_ruled c (records cs) ts u t r = (r.1, inr r.0)
 coerce_ruled c (tables cs) ts u t r = (r.1, inr r.0)
 
-list_ruled : (c : Context) (q : Shape) (ts : Terms) (us : List Shape) (t : Shape) → IsRuled c (top.list q) ts us t → CanBeRowType q × AreAll q us × (t ≡ tables (row_columns q))
+list_ruled : (c : Context) (q : Shape) (ts : Terms) (us : List Shape) (t : Shape) → IsRuled c (top.list q) ts us t → CanBeRowType q × AreAllOfShape q us × (t ≡ tables (row_columns q))
 list_ruled c (tables cs) ts us t r = absurd r
 list_ruled c blanks ts us t r = (tt, r.0, r.1)
 list_ruled c numbers ts us t r = (tt, r.0, r.1)

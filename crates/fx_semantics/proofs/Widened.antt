@@ -12,10 +12,10 @@ use Rattle.fx_types.specs.Values.{Data, blank, number, text, boolean, date, rec,
 use Rattle.fx_types.proofs.Utf8Order.{and_second, and_first}
 use Rattle.fx_core.specs.ColumnLists.{field_in}
 use Rattle.fx_value.proofs.Widenings.{own_name, same_name, below_apart}
-use Rattle.fx_value.specs.Coercion.{value_in, widened, widened_fields, rows_by}
+use Rattle.fx_value.specs.Coercion.{field_or_blank, widened, widened_fields, rows_mapped}
 use Rattle.fx_value.specs.Fits.{fits_in, fields_fit, rows_fit}
 use Rattle.fx_value.specs.Join.{join_of, union, with_column}
-use Rattle.fx_semantics.specs.Sound.{IsUnder, IsLawfulType, AreLawfulColumns}
+use Rattle.fx_semantics.specs.Sound.{IsBelowColumns, IsLawfulType, AreLawfulColumns}
 use Rattle.fx_semantics.proofs.Fields.{all_fit, field_fits, name_fits, rest_fits}
 
 -- P holds of the fields of each row
@@ -32,13 +32,13 @@ abbrev mutual
 
   pub FieldsCome : FieldList → ColumnList → Type 0
   FieldsCome fs no_columns = Unit {0}
-  FieldsCome fs (column n t cs) = Comes (value_in n fs) t × FieldsCome fs cs
+  FieldsCome fs (column n t cs) = Comes (field_or_blank n fs) t × FieldsCome fs cs
 
 rows_widened_fit : (cs : ColumnList) → ((fs : FieldList) → FieldsCome fs cs → fields_fit (widened_fields fs cs) cs ≡ true) →
-    (rs : RowList) → EachRow (λ fs. FieldsCome fs cs) rs → rows_fit (rows_by (λ fs. widened_fields fs cs) rs) cs ≡ true
+    (rs : RowList) → EachRow (λ fs. FieldsCome fs cs) rs → rows_fit (rows_mapped (λ fs. widened_fields fs cs) rs) cs ≡ true
 rows_widened_fit cs go no_rows k = refl
 rows_widened_fit cs go (row fs rest) k =
-    and_from (fields_fit (widened_fields fs cs) cs) (rows_fit (rows_by (λ es. widened_fields es cs) rest) cs) (go fs k.0) (rows_widened_fit cs go rest k.1)
+    and_from (fields_fit (widened_fields fs cs) cs) (rows_fit (rows_mapped (λ es. widened_fields es cs) rest) cs) (go fs k.0) (rows_widened_fit cs go rest k.1)
 
 mutual
   pub widened_fits : (d : Data) (t : Shape) → Comes d t → fits_in (widened d t) t ≡ true
@@ -48,9 +48,9 @@ mutual
 
   pub fields_widened_fit : (fs : FieldList) (cs : ColumnList) → FieldsCome fs cs → fields_fit (widened_fields fs cs) cs ≡ true
   fields_widened_fit fs no_columns h = refl
-  fields_widened_fit fs (column n t cs) h = all_fit n (widened (value_in n fs) t) t (widened_fields fs cs) cs (widened_fits (value_in n fs) t h.0) (fields_widened_fit fs cs h.1)
+  fields_widened_fit fs (column n t cs) h = all_fit n (widened (field_or_blank n fs) t) t (widened_fields fs cs) cs (widened_fits (field_or_blank n fs) t h.0) (fields_widened_fit fs cs h.1)
 
-under_apart : (m : List ℕ) (cs : ColumnList) → IsUnder m cs → (n : List ℕ) (t : Shape) → field_in n cs ≡ Some t → bytes_eq m n ≡ false
+under_apart : (m : List ℕ) (cs : ColumnList) → IsBelowColumns m cs → (n : List ℕ) (t : Shape) → field_in n cs ≡ Some t → bytes_eq m n ≡ false
 under_apart m no_columns l n t h = cc
 under_apart m (column k s cs) l n t h = by (bytes_eq k n) refl (λ q. under_apart m cs l.1 n t q) h
   where
@@ -58,7 +58,7 @@ under_apart m (column k s cs) l n t h = by (bytes_eq k n) refl (λ q. under_apar
     by true e r q = let P : List ℕ → Type 0 = λ z. bytes_eq m z ≡ false in subst P (same_name k n e) (below_apart m k l.0)
     by false e r q = r q
 
-under_none : (m : List ℕ) (cs : ColumnList) → IsUnder m cs → field_in m cs ≡ None
+under_none : (m : List ℕ) (cs : ColumnList) → IsBelowColumns m cs → field_in m cs ≡ None
 under_none m cs l = by (field_in m cs) refl
   where
     by : (o : Option Shape) → field_in m cs ≡ o → o ≡ None
@@ -67,12 +67,12 @@ under_none m cs l = by (field_in m cs) refl
 
 -- each column has a value that comes to its type
 abbrev HasEach : FieldList → ColumnList → Type 0
-HasEach fs cs = (n : List ℕ) (t : Shape) → field_in n cs ≡ Some t → Comes (value_in n fs) t
+HasEach fs cs = (n : List ℕ) (t : Shape) → field_in n cs ≡ Some t → Comes (field_or_blank n fs) t
 
 first_in : (n : List ℕ) (t : Shape) (cs : ColumnList) → field_in n (column n t cs) ≡ Some t
 first_in n t cs = rw (own_name n) refl
 
-later_in : (m : List ℕ) (u : Shape) (cs : ColumnList) → IsUnder m cs → (n : List ℕ) (t : Shape) → field_in n cs ≡ Some t → field_in n (column m u cs) ≡ Some t
+later_in : (m : List ℕ) (u : Shape) (cs : ColumnList) → IsBelowColumns m cs → (n : List ℕ) (t : Shape) → field_in n cs ≡ Some t → field_in n (column m u cs) ≡ Some t
 later_in m u cs l n t e = rw (under_apart m cs l n t e) e
 
 collected : (fs : FieldList) (cs : ColumnList) → AreLawfulColumns cs → HasEach fs cs → FieldsCome fs cs
@@ -84,7 +84,7 @@ abbrev AllCome : ColumnList → Type 0
 AllCome cs = (n : List ℕ) (t : Shape) (d : Data) → field_in n cs ≡ Some t → fits_in d t ≡ true → Comes d t
 
 fields_same : (fs : FieldList) (cs : ColumnList) → AreLawfulColumns cs → AllCome cs → fields_fit fs cs ≡ true → FieldsCome fs cs
-fields_same fs cs l k f = collected fs cs l (λ n t e. k n t (value_in n fs) e (field_fits n fs cs t f e))
+fields_same fs cs l k f = collected fs cs l (λ n t e. k n t (field_or_blank n fs) e (field_fits n fs cs t f e))
 
 rows_same : (cs : ColumnList) → AreLawfulColumns cs → AllCome cs → (rs : RowList) → rows_fit rs cs ≡ true → EachRow (λ fs. FieldsCome fs cs) rs
 rows_same cs l k no_rows f = tt
@@ -115,7 +115,7 @@ mutual
 -- the names rise
 abbrev Rises : ColumnList → Type 0
 Rises no_columns = Unit {0}
-Rises (column n t cs) = IsUnder n cs × Rises cs
+Rises (column n t cs) = IsBelowColumns n cs × Rises cs
 
 lawful_rises : (cs : ColumnList) → AreLawfulColumns cs → Rises cs
 lawful_rises no_columns l = tt
@@ -139,7 +139,7 @@ pub record Adds (m : List ℕ) (f : Shape → Option Shape) (cs es : ColumnList)
   pub others : (n : List ℕ) → bytes_eq m n ≡ false → field_in n es ≡ field_in n cs
   pub own : Joined f (field_in m cs) (field_in m es)
   pub rise : Rises cs
-  pub under : (n : List ℕ) → IsUnder n es → IsUnder n cs
+  pub under : (n : List ℕ) → IsBelowColumns n es → IsBelowColumns n cs
 
 turned : (x y : List ℕ) → bytes_eq y x ≡ false → bytes_eq x y ≡ false
 turned x y d = by (bytes_eq x y) refl
@@ -162,7 +162,7 @@ put_on m k s v f cs q e g =
     let apart : (n : List ℕ) → bytes_eq m n ≡ false → bytes_eq k n ≡ false = λ n d. (let T : List ℕ → Type 0 = λ z. bytes_eq z n ≡ false in subst T q d) in
     record { others = λ n d. rw (apart n d) refl; own = rw back e; rise = g; under = λ n l. l }
 
-put_behind : (m k : List ℕ) (s : Shape) (f : Shape → Option Shape) (cs es : ColumnList) → bytes_eq k m ≡ false → IsUnder k es → Adds m f cs es → Adds m f (column k s cs) (column k s es)
+put_behind : (m k : List ℕ) (s : Shape) (f : Shape → Option Shape) (cs es : ColumnList) → bytes_eq k m ≡ false → IsBelowColumns k es → Adds m f cs es → Adds m f (column k s cs) (column k s es)
 put_behind m k s f cs es back g rest =
     record {
       others = λ n d. ap (λ (o : Option Shape). if bytes_eq k n then Some s else o) (rest.others n d);
@@ -239,15 +239,15 @@ union_joins bs (column m u cs) es c r e n s h =
         subst P (sym (w.others n j)) (k q)
 
 -- a missing value is blank
-missing : (n : List ℕ) (fs : FieldList) (bs : ColumnList) → fields_fit fs bs ≡ true → field_in n bs ≡ None → value_in n fs ≡ blank
+missing : (n : List ℕ) (fs : FieldList) (bs : ColumnList) → fields_fit fs bs ≡ true → field_in n bs ≡ None → field_or_blank n fs ≡ blank
 missing n no_fields no_columns f h = refl
 missing n no_fields (column k s bs) f h = cc
 missing n (field m d fs) no_columns f h = cc
 missing n (field m d fs) (column k s bs) f h =
-    let P : List ℕ → Type 0 = λ z. (if bytes_eq z n then Some s else field_in n bs) ≡ None → (if bytes_eq m n then d else value_in n fs) ≡ blank in
+    let P : List ℕ → Type 0 = λ z. (if bytes_eq z n then Some s else field_in n bs) ≡ None → (if bytes_eq m n then d else field_or_blank n fs) ≡ blank in
     subst P (name_fits m k d s fs bs f) (by (λ q. missing n fs bs (rest_fits m k d s fs bs f) q) (bytes_eq m n)) h
   where
-    by : (field_in n bs ≡ None → value_in n fs ≡ blank) → (b : Bool) → (if b then Some s else field_in n bs) ≡ None → (if b then d else value_in n fs) ≡ blank
+    by : (field_in n bs ≡ None → field_or_blank n fs ≡ blank) → (b : Bool) → (if b then Some s else field_in n bs) ≡ None → (if b then d else field_or_blank n fs) ≡ blank
     by more true q = cc
     by more false q = more q
 
@@ -269,9 +269,9 @@ tables_of None cs e = absurd cc
 fields_join : (fs : FieldList) (bs cs : ColumnList) → AreLawfulColumns cs → AllJoin cs → fields_fit fs bs ≡ true → union bs cs ≡ Some cs → HasEach fs cs
 fields_join fs bs cs l k f e n s h = by (field_in n bs) refl (union_joins bs cs cs (lawful_rises cs l) (lawful_rises cs l) e n s h)
   where
-    by : (o : Option Shape) → field_in n bs ≡ o → Joined (λ t. join_of t s) o (field_in n cs) → Comes (value_in n fs) s
+    by : (o : Option Shape) → field_in n bs ≡ o → Joined (λ t. join_of t s) o (field_in n cs) → Comes (field_or_blank n fs) s
     by None j q = let P : Data → Type 0 = λ z. Comes z s in subst P (sym (missing n fs bs f j)) (blank_comes s)
-    by (Some u) j q = k n s u (value_in n fs) h (field_fits n fs bs u f j) (q ∙ h)
+    by (Some u) j q = k n s u (field_or_blank n fs) h (field_fits n fs bs u f j) (q ∙ h)
 
 rows_join : (bs cs : ColumnList) → AreLawfulColumns cs → AllJoin cs → union bs cs ≡ Some cs → (rs : RowList) → rows_fit rs bs ≡ true → EachRow (λ fs. FieldsCome fs cs) rs
 rows_join bs cs l k e no_rows f = tt

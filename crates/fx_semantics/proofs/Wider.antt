@@ -2,9 +2,9 @@
 use Rattle.std.proofs.Common.{◌≡◌, ℕ, List, [], ◌∷◌, ◌++◌, Bool, true, false, Option, refl, inl, inr}
 use Rattle.fx_types.specs.Values.{Data, blank, number, text, boolean, date, rec, tab, fault}
 use Rattle.fx_semantics.specs.Around.{Around, Meaning, AreValues, AreEach, catching, inside, record_of}
-use Rattle.fx_semantics.specs.Forms.{IsAll, IsAny, IsIf, IsMatched, IsSwitch, IsRecovered, IsCaughtBy, IsCoalesced, IsFormed}
+use Rattle.fx_semantics.specs.Forms.{IsAll, IsAny, IsIf, IsSwitchMatch, IsSwitch, IsRecovered, IsCaughtBy, IsCoalesced, IsFormed}
 use Rattle.fx_semantics.specs.Fresh.{IsCalled, IsNode, IsWithin, OfAll, OfOne, meaning, meanings}
-use Rattle.fx_semantics.specs.Rows.{AreNames, AreNew, ArePairs, IsConcat, IsLookedUp, IsMade, IsNamed, IsOfFound, IsOver, IsTaken, IsVerdict, OfEach, OfVerdicts, rows_in}
+use Rattle.fx_semantics.specs.Rows.{AreNames, AreNew, AreRenamings, IsConcat, IsLookedUp, IsMade, MakesByNames, IsOfFound, IsTableCall, TakesRows, IsConjunction, OfEach, OfVerdicts, rows_in}
 use Rattle.fx_core.specs.Reads.{IsAmong, read_by, sources_among, sources_in}
 use Rattle.fx_core.specs.declared.functions.Form.{Form}
 use Rattle.fx_core.specs.declared.functions.Form.TheVariants as form
@@ -16,7 +16,7 @@ use Rattle.fx_tables.specs.RowCalls.{looked_up}
 use Rattle.fx_scalar.specs.declared.lazy_forms.Decision.{Decision}
 use Rattle.fx_scalar.specs.declared.lazy_forms.Decision.TheVariants.{Met, Unmet, Error}
 use Rattle.fx_scalar.specs.LazyForms.{ByDecision, ErrorOr, PassedOr, decision_of, equality}
-use Rattle.fx_scalar.specs.ScalarFunctions.{is_blank}
+use Rattle.fx_scalar.specs.ScalarFunctions.{is_blank_or_empty}
 use Rattle.fx_value.specs.Columns.{Row}
 use Rattle.fx_core.specs.Term.{Term, Terms, of, nil, cons, Top}
 use Rattle.fx_core.specs.Term as top
@@ -131,19 +131,19 @@ if_stays K g (P ∷ []) k a v m h = k.0 a v m h
 if_stays K g (C ∷ P ∷ Ps) k a v m h =
     (h.0, k.0 a h.0 m h.1, by_decision (decision_of h.0) (P a v) (P (giving g a) v) (IsIf Ps a v) (IsIf Ps (giving g a) v) v (k.1.0 a v m) (if_stays K g Ps k.1.1 a v m) h.2)
 
-matched_stays : (K : Sources) (g : Giving) (w : Data) (Ps : List Meaning) → AllStay K g Ps → Stays K g (IsMatched w Ps)
+matched_stays : (K : Sources) (g : Giving) (w : Data) (Ps : List Meaning) → AllStay K g Ps → Stays K g (IsSwitchMatch w Ps)
 matched_stays K g w [] k a v m h = h
 matched_stays K g w (P ∷ []) k a v m h = k.0 a v m h
 matched_stays K g w (M ∷ P ∷ Ps) k a v m h = (
   h.0,
   k.0 a h.0 m h.1,
-  by_decision (decision_of (equality w h.0)) (P a v) (P (giving g a) v) (IsMatched w Ps a v) (IsMatched w Ps (giving g a) v) v (k.1.0 a v m) (matched_stays K g w Ps k.1.1 a v m) h.2,
+  by_decision (decision_of (equality w h.0)) (P a v) (P (giving g a) v) (IsSwitchMatch w Ps a v) (IsSwitchMatch w Ps (giving g a) v) v (k.1.0 a v m) (matched_stays K g w Ps k.1.1 a v m) h.2,
 )
 
 switch_stays : (K : Sources) (g : Giving) (Ps : List Meaning) → AllStay K g Ps → Stays K g (IsSwitch Ps)
 switch_stays K g [] k a v m h = absurd h
 switch_stays K g (P ∷ Ps) k a v m h =
-    (h.0, k.0 a h.0 m h.1, error_or h.0 (IsMatched h.0 Ps a v) (IsMatched h.0 Ps (giving g a) v) v (matched_stays K g h.0 Ps k.1 a v m) h.2)
+    (h.0, k.0 a h.0 m h.1, error_or h.0 (IsSwitchMatch h.0 Ps a v) (IsSwitchMatch h.0 Ps (giving g a) v) v (matched_stays K g h.0 Ps k.1 a v m) h.2)
 
 recovered_stays : (K : Sources) (g : Giving) (d : Data) (Ps : List Meaning) → AllStay K g Ps → Stays K g (IsRecovered d Ps)
 recovered_stays K g d [] k a v m h = h
@@ -154,7 +154,7 @@ recovered_stays K g d (P ∷ F ∷ Ps) k a v m h =
 coalesced_stays : (K : Sources) (g : Giving) (Ps : List Meaning) → AllStay K g Ps → Stays K g (IsCoalesced Ps)
 coalesced_stays K g [] k a v m h = h
 coalesced_stays K g (P ∷ Ps) k a v m h =
-    (h.0, k.0 a h.0 m h.1, passed_or (is_blank h.0) (IsCoalesced Ps a v) (IsCoalesced Ps (giving g a) v) (v ≡ h.0) (coalesced_stays K g Ps k.1 a v m) h.2)
+    (h.0, k.0 a h.0 m h.1, passed_or (is_blank_or_empty h.0) (IsCoalesced Ps a v) (IsCoalesced Ps (giving g a) v) (v ≡ h.0) (coalesced_stays K g Ps k.1 a v m) h.2)
 
 formed_stays : (K : Sources) (g : Giving) (f : Form) (Ps : List Meaning) → AllStay K g Ps → Stays K g (IsFormed f Ps)
 formed_stays K g form.All Ps k = all_stays K g Ps k
@@ -171,12 +171,12 @@ of_each K g rows [] k a m R h = absurd h
 of_each K g rows (F ∷ []) k a m R h = (h.0, each K g F k.0 a m rows h.0 h.1, h.2)
 of_each K g rows (F ∷ G ∷ Ps) k a m R h = absurd h
 
-verdict_stays : (K : Sources) (g : Giving) (Ps : List Meaning) → AllStay K g Ps → Stays K g (IsVerdict Ps)
+verdict_stays : (K : Sources) (g : Giving) (Ps : List Meaning) → AllStay K g Ps → Stays K g (IsConjunction Ps)
 verdict_stays K g Ps k a v m h = (h.0, values K g Ps k a m h.0 h.1, h.2)
 
 of_verdicts : (K : Sources) (g : Giving) (rows : List Row) (Ps : List Meaning) → AllStay K g Ps → (a : Around) → GivesMoreOf K g a → (R : List Data → Type 0) →
     OfVerdicts rows Ps a R → OfVerdicts rows Ps (giving g a) R
-of_verdicts K g rows Ps k a m R h = (h.0, each K g (IsVerdict Ps) (verdict_stays K g Ps k) a m rows h.0 h.1, h.2)
+of_verdicts K g rows Ps k a m R h = (h.0, each K g (IsConjunction Ps) (verdict_stays K g Ps k) a m rows h.0 h.1, h.2)
 
 found_stays : (K : Sources) (g : Giving) (d : Data) (F : Meaning) → Stays K g F → Stays K g (IsOfFound d F)
 found_stays K g (rec fs) F k a v m h = k (inside a (rec fs)) v m h
@@ -194,7 +194,7 @@ looked_up_stays K g rows (C ∷ []) k a v m h = (h.0, each K g C k.0 a m rows h.
 looked_up_stays K g rows (C ∷ F ∷ []) k a v m h = (h.0, each K g C k.0 a m rows h.0 h.1, found_stays K g (looked_up rows h.0) F k.1.0 a v m h.2)
 looked_up_stays K g rows (C ∷ F ∷ G ∷ Ps) k a v m h = absurd h
 
-taken_stays : (K : Sources) (g : Giving) (taken : Option Data → Data) (Ps : List Meaning) → AllStay K g Ps → Stays K g (IsTaken taken Ps)
+taken_stays : (K : Sources) (g : Giving) (taken : Option Data → Data) (Ps : List Meaning) → AllStay K g Ps → Stays K g (TakesRows taken Ps)
 taken_stays K g taken [] k a v m h = h
 taken_stays K g taken (N ∷ []) k a v m h = (h.0, k.0 a h.0 m h.1, h.2)
 taken_stays K g taken (N ∷ M ∷ Ps) k a v m h = absurd h
@@ -211,7 +211,7 @@ names_stay K g (P ∷ Ps) k a m (n ∷ ns) h = (k.0 a (text n) m h.0, names_stay
 names_stay K g [] k a m (n ∷ ns) h = absurd h
 names_stay K g (P ∷ Ps) k a m [] h = absurd h
 
-named_stays : (K : Sources) (g : Giving) (made : List (List ℕ) → List Row) (Ps : List Meaning) → AllStay K g Ps → Stays K g (IsNamed made Ps)
+named_stays : (K : Sources) (g : Giving) (made : List (List ℕ) → List Row) (Ps : List Meaning) → AllStay K g Ps → Stays K g (MakesByNames made Ps)
 named_stays K g made Ps k a v m h = (h.0, names_stay K g Ps k a m h.0 h.1, h.2)
 
 new_stay : (K : Sources) (g : Giving) (rows : List Row) (Ps : List Meaning) → AllStay K g Ps → (a : Around) → GivesMoreOf K g a → (cs : List (List ℕ × List Data)) →
@@ -222,7 +222,7 @@ new_stay K g rows [] k a m (c ∷ cs) h = absurd h
 new_stay K g rows (N ∷ []) k a m cs h = absurd h
 new_stay K g rows (N ∷ F ∷ Ps) k a m [] h = absurd h
 
-pairs_stay : (K : Sources) (g : Giving) (Ps : List Meaning) → AllStay K g Ps → (a : Around) → GivesMoreOf K g a → (ps : List (List ℕ × List ℕ)) → ArePairs Ps a ps → ArePairs Ps (giving g a) ps
+pairs_stay : (K : Sources) (g : Giving) (Ps : List Meaning) → AllStay K g Ps → (a : Around) → GivesMoreOf K g a → (ps : List (List ℕ × List ℕ)) → AreRenamings Ps a ps → AreRenamings Ps (giving g a) ps
 pairs_stay K g [] k a m [] h = tt
 pairs_stay K g (N ∷ M ∷ Ps) k a m (p ∷ ps) h = (k.0 a (text p.0) m h.0, k.1.0 a (text p.1) m h.1, pairs_stay K g Ps k.1.1 a m ps h.2)
 pairs_stay K g [] k a m (p ∷ ps) h = absurd h
@@ -253,7 +253,7 @@ made_stays K g fun.ForAll rows Ps k a v m h = of_each K g rows Ps k a m _ h
 made_stays K g fun.Concat rows Ps k a v m h = concat_stays K g rows Ps k a v m h
 made_stays K g f rows Ps k a v m h = absurd h
 
-over_stays : (K : Sources) (g : Giving) (f : Fun) (Ps : List Meaning) → AllStay K g Ps → Stays K g (IsOver f Ps)
+over_stays : (K : Sources) (g : Giving) (f : Fun) (Ps : List Meaning) → AllStay K g Ps → Stays K g (IsTableCall f Ps)
 over_stays K g f [] k a v m h = absurd h
 over_stays K g f (P ∷ Ps) k a v m h =
     (h.0, k.0 a h.0 m h.1, error_or h.0 (IsMade f (rows_in h.0) Ps a v) (IsMade f (rows_in h.0) Ps (giving g a) v) v (made_stays K g f (rows_in h.0) Ps k.1 a v m) h.2)

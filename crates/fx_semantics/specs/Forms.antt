@@ -25,15 +25,15 @@ IsIf (C ∷ P ∷ Ps) a v = (w : Data) × C a w × ByCondition w (P a v) (IsIf P
 
 -- the result of the first match that equals the value, else the last value, else blank; an error of a
 -- match is the answer
-abbrev pub IsMatched : Data → List Meaning → Meaning
-IsMatched w [] a v = v ≡ none_left form.Switch
-IsMatched w (P ∷ []) a v = P a v
-IsMatched w (M ∷ P ∷ Ps) a v = (x : Data) × M a x × ByCondition (equality w x) (P a v) (IsMatched w Ps a v) v
+abbrev pub IsSwitchMatch : Data → List Meaning → Meaning
+IsSwitchMatch w [] a v = v ≡ none_left form.Switch
+IsSwitchMatch w (P ∷ []) a v = P a v
+IsSwitchMatch w (M ∷ P ∷ Ps) a v = (x : Data) × M a x × ByCondition (equality w x) (P a v) (IsSwitchMatch w Ps a v) v
 
 -- `Switch`: an error of the value is the answer, and else its match decides
 abbrev pub IsSwitch : List Meaning → Meaning
 IsSwitch [] a v = ⊥
-IsSwitch (P ∷ Ps) a v = (w : Data) × P a w × ErrorOr w (IsMatched w Ps a v) v
+IsSwitch (P ∷ Ps) a v = (w : Data) × P a w × ErrorOr w (IsSwitchMatch w Ps a v) v
 
 -- an error is caught by the fallback, and of another value P holds
 abbrev pub IsCaughtBy : Data → Meaning → Around → Type 0 → Data → Type 0

@@ -9,12 +9,12 @@ use Rattle.fx_tables.specs.Unions.{union_of}
 use Rattle.fx_core.specs.Term.{Term, Terms, of, nil, cons, Top}
 use Rattle.fx_core.specs.Term as top
 use Rattle.fx_core.specs.ColumnLists.{row_columns}
-use Rattle.fx_value.specs.Coercion.{IsCoerced, value_in}
+use Rattle.fx_value.specs.Coercion.{IsCoerced, field_or_blank}
 use Rattle.fx_scalar.specs.LazyForms.{ErrorOr}
 use Rattle.fx_semantics.specs.Around.{Around, Meaning, AreValues, inside}
 use Rattle.fx_semantics.specs.Errors.{IsCaught}
 use Rattle.fx_semantics.specs.Forms.{IsCoalesced, IsFormed}
-use Rattle.fx_semantics.specs.Rows.{IsOver}
+use Rattle.fx_semantics.specs.Rows.{IsTableCall}
 
 -- R holds of the value of the one part
 abbrev pub OfOne : List Meaning → Around → (Data → Type 0) → Type 0
@@ -27,7 +27,7 @@ OfAll Ps a R = (ds : List Data) × AreValues Ps a ds × R ds
 
 -- a field of a record; of a blank record blank, and of an error the error
 abbrev pub field_of : List ℕ → Data → Data
-field_of n (rec fs) = value_in n fs
+field_of n (rec fs) = field_or_blank n fs
 field_of n (fault k cs) = fault k cs
 field_of n d = blank
 
@@ -55,7 +55,7 @@ IsNode top.item Ps a v = a.item ≡ Some v
 IsNode top.caught Ps a v = IsCaught a.caught v
 IsNode (top.dot n) Ps a v = OfOne Ps a (λ d. v ≡ field_of n d)
 IsNode (top.call f) Ps a v = IsCalled f Ps a v
-IsNode (top.over f) Ps a v = IsOver f Ps a v
+IsNode (top.over f) Ps a v = IsTableCall f Ps a v
 IsNode (top.form f) Ps a v = IsFormed f Ps a v
 IsNode top.within Ps a v = IsWithin Ps a v
 IsNode (top.rec ns) Ps a v = OfAll Ps a (λ ds. v ≡ rec (fields_by ns ds))

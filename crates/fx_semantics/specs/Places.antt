@@ -29,23 +29,23 @@ sets_of_screen d = true
 
 -- a node that may act, or in which a part may: a change of state, a chain, a branch of `If`, `Switch` or `IfError`, the
 -- formula of `With` or `ForAll`, what stands left of `.`, and what is given to a change, which may be coerced or a row
-abbrev pub may_act : Top → Bool
-may_act top.chain = true
-may_act (top.act d) = sets_of_screen d
-may_act (top.form form.If) = true
-may_act (top.form form.Switch) = true
-may_act (top.form form.IfError) = true
-may_act top.within = true
-may_act (top.over f) = is_for_all f
-may_act (top.dot n) = true
-may_act (top.coerce r) = true
-may_act (top.list r) = true
-may_act h = false
+abbrev pub part_may_act : Top → Bool
+part_may_act top.chain = true
+part_may_act (top.act d) = sets_of_screen d
+part_may_act (top.form form.If) = true
+part_may_act (top.form form.Switch) = true
+part_may_act (top.form form.IfError) = true
+part_may_act top.within = true
+part_may_act (top.over f) = is_for_all f
+part_may_act (top.dot n) = true
+part_may_act (top.coerce r) = true
+part_may_act (top.list r) = true
+part_may_act h = false
 
 abbrev mutual
   -- what acts in a tree acts in its place
   pub IsPlaced : Term → Type 0
-  IsPlaced (of h ts) = (acts (of h ts) ≡ true → may_act h ≡ true) × ArePlaced ts
+  IsPlaced (of h ts) = (acts (of h ts) ≡ true → part_may_act h ≡ true) × ArePlaced ts
 
   pub ArePlaced : Terms → Type 0
   ArePlaced nil = Unit {0}

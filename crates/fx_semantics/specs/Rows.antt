@@ -8,8 +8,8 @@ use Rattle.fx_core.specs.declared.literals.SortOrder.TheVariants as order
 use Rattle.fx_tables.specs.AggregateCalls.{IsSumOf, IsLeastOf, IsGreatestOf, averaged, concatenated, concatenated_by}
 use Rattle.fx_tables.specs.ColumnCalls.{renamed_columns, with_columns, without_columns}
 use Rattle.fx_tables.specs.Ends.{emptiness_of, first_rows, last_of, last_rows}
-use Rattle.fx_tables.specs.RowCalls.{IsCountIfOf, IsCountValue, IsSortOf, distinct_or, filtered, first_of, for_all_of, looked_up, verdict_of}
-use Rattle.fx_value.specs.Columns.{Row, only}
+use Rattle.fx_tables.specs.RowCalls.{IsCountIfOf, IsCountValue, IsSortOf, distinct_or, filtered, first_row_record, for_all_of, looked_up, verdict_of}
+use Rattle.fx_value.specs.Columns.{Row, fields_only}
 use Rattle.fx_scalar.specs.LazyForms.{ErrorOr}
 use Rattle.fx_semantics.specs.Around.{Around, Meaning, AreEach, AreValues, inside}
 
@@ -41,12 +41,12 @@ OfEach rows (F ∷ []) a R = (ds : List Data) × AreEach F a rows ds × R ds
 OfEach rows Ps a R = ⊥
 
 -- conditions as one: all are evaluated; the first error from the left, else whether all hold
-abbrev pub IsVerdict : List Meaning → Meaning
-IsVerdict Cs a v = (ds : List Data) × AreValues Cs a ds × (v ≡ verdict_of ds)
+abbrev pub IsConjunction : List Meaning → Meaning
+IsConjunction Cs a v = (ds : List Data) × AreValues Cs a ds × (v ≡ verdict_of ds)
 
 -- R holds of what the conditions come to for the rows
 abbrev pub OfVerdicts : List Row → List Meaning → Around → (List Data → Type 0) → Type 0
-OfVerdicts rows Cs a R = (ds : List Data) × AreEach (IsVerdict Cs) a rows ds × R ds
+OfVerdicts rows Cs a R = (ds : List Data) × AreEach (IsConjunction Cs) a rows ds × R ds
 
 -- the row that was found is the scope of a formula; an error or a blank one is the answer
 abbrev pub IsOfFound : Data → Meaning → Meaning
@@ -60,10 +60,10 @@ IsLookedUp rows (C ∷ F ∷ []) a v = (ds : List Data) × AreEach C a rows ds �
 IsLookedUp rows Ps a v = ⊥
 
 -- some of the rows: as many as the number says, where one is given
-abbrev pub IsTaken : (Option Data → Data) → List Meaning → Meaning
-IsTaken taken [] a v = v ≡ taken None
-IsTaken taken (N ∷ []) a v = (n : Data) × N a n × (v ≡ taken (Some n))
-IsTaken taken Ps a v = ⊥
+abbrev pub TakesRows : (Option Data → Data) → List Meaning → Meaning
+TakesRows taken [] a v = v ≡ taken None
+TakesRows taken (N ∷ []) a v = (n : Data) × N a n × (v ≡ taken (Some n))
+TakesRows taken Ps a v = ⊥
 
 -- `Concat`
 abbrev pub IsConcat : List Row → List Meaning → Meaning
@@ -89,24 +89,24 @@ AreNew rows (N ∷ F ∷ Ps) a (c ∷ cs) = N a (text c.0) × AreEach F a rows c
 AreNew rows Ps a cs = ⊥
 
 -- names in pairs: that of a column, and its new one
-abbrev pub ArePairs : List Meaning → Around → List (List ℕ × List ℕ) → Type 0
-ArePairs [] a [] = Unit {0}
-ArePairs (N ∷ M ∷ Ps) a (p ∷ ps) = N a (text p.0) × M a (text p.1) × ArePairs Ps a ps
-ArePairs Ps a ps = ⊥
+abbrev pub AreRenamings : List Meaning → Around → List (List ℕ × List ℕ) → Type 0
+AreRenamings [] a [] = Unit {0}
+AreRenamings (N ∷ M ∷ Ps) a (p ∷ ps) = N a (text p.0) × M a (text p.1) × AreRenamings Ps a ps
+AreRenamings Ps a ps = ⊥
 
 -- the rows that are made by the names of columns
-abbrev pub IsNamed : (List (List ℕ) → List Row) → List Meaning → Meaning
-IsNamed made Ps a v = (ns : List (List ℕ)) × AreNames Ps a ns × (v ≡ table_of (made ns))
+abbrev pub MakesByNames : (List (List ℕ) → List Row) → List Meaning → Meaning
+MakesByNames made Ps a v = (ns : List (List ℕ)) × AreNames Ps a ns × (v ≡ table_of (made ns))
 
 -- ---- the table: what a function makes of the rows
 abbrev pub IsMade : Fun → List Row → List Meaning → Meaning
 IsMade fun.Filter rows Ps a v = OfVerdicts rows Ps a (λ ds. v ≡ filtered rows ds)
 IsMade fun.LookUp rows Ps a v = IsLookedUp rows Ps a v
 IsMade (fun.Sort o) rows Ps a v = OfEach rows Ps a (λ ds. IsSortOf (is_falling o) rows ds v)
-IsMade fun.First rows Ps a v = v ≡ first_of rows
+IsMade fun.First rows Ps a v = v ≡ first_row_record rows
 IsMade fun.Last rows Ps a v = v ≡ last_of rows
-IsMade fun.FirstN rows Ps a v = IsTaken (first_rows rows) Ps a v
-IsMade fun.LastN rows Ps a v = IsTaken (last_rows rows) Ps a v
+IsMade fun.FirstN rows Ps a v = TakesRows (first_rows rows) Ps a v
+IsMade fun.LastN rows Ps a v = TakesRows (last_rows rows) Ps a v
 IsMade fun.CountRows rows Ps a v = IsCountValue (length rows) v
 IsMade fun.CountIf rows Ps a v = OfVerdicts rows Ps a (λ ds. IsCountIfOf ds v)
 IsMade fun.IsEmpty rows Ps a v = v ≡ emptiness_of rows
@@ -115,15 +115,15 @@ IsMade fun.MinRows rows Ps a v = OfEach rows Ps a (λ ds. IsLeastOf ds v)
 IsMade fun.MaxRows rows Ps a v = OfEach rows Ps a (λ ds. IsGreatestOf ds v)
 IsMade fun.AverageRows rows Ps a v = OfEach rows Ps a (λ ds. v ≡ averaged ds)
 IsMade fun.AddColumns rows Ps a v = (cs : List (List ℕ × List Data)) × AreNew rows Ps a cs × (v ≡ table_of (with_columns cs rows))
-IsMade fun.DropColumns rows Ps a v = IsNamed (λ ns. without_columns ns rows) Ps a v
-IsMade fun.ShowColumns rows Ps a v = IsNamed (λ ns. map (only ns) rows) Ps a v
-IsMade fun.RenameColumns rows Ps a v = (ps : List (List ℕ × List ℕ)) × ArePairs Ps a ps × (v ≡ table_of (renamed_columns ps rows))
+IsMade fun.DropColumns rows Ps a v = MakesByNames (λ ns. without_columns ns rows) Ps a v
+IsMade fun.ShowColumns rows Ps a v = MakesByNames (λ ns. map (fields_only ns) rows) Ps a v
+IsMade fun.RenameColumns rows Ps a v = (ps : List (List ℕ × List ℕ)) × AreRenamings Ps a ps × (v ≡ table_of (renamed_columns ps rows))
 IsMade fun.Distinct rows Ps a v = OfEach rows Ps a (λ ds. v ≡ distinct_or ds)
 IsMade fun.ForAll rows Ps a v = OfEach rows Ps a (λ ds. v ≡ for_all_of ds)
 IsMade fun.Concat rows Ps a v = IsConcat rows Ps a v
 IsMade f rows Ps a v = ⊥
 
 -- a call over a table, which comes first: an error in its place is the answer
-abbrev pub IsOver : Fun → List Meaning → Meaning
-IsOver f [] a v = ⊥
-IsOver f (P ∷ Ps) a v = (w : Data) × P a w × ErrorOr w (IsMade f (rows_in w) Ps a v) v
+abbrev pub IsTableCall : Fun → List Meaning → Meaning
+IsTableCall f [] a v = ⊥
+IsTableCall f (P ∷ Ps) a v = (w : Data) × P a w × ErrorOr w (IsMade f (rows_in w) Ps a v) v

@@ -5,7 +5,7 @@ use Rattle.fx_types.specs.Types.{Shape}
 use Rattle.fx_types.specs.Values.{Data}
 use Rattle.fx_core.specs.declared.sources.Source.{Source}
 use Rattle.fx_core.specs.Term.{Term, Terms, of, nil, cons, Top, list, coerce, chain, act}
-pub use Rattle.fx_typing.specs.LawfulTypes.{AreLawfulColumns, IsLawfulType, IsUnder}
+pub use Rattle.fx_typing.specs.LawfulTypes.{AreLawfulColumns, IsLawfulType, IsBelowColumns}
 use Rattle.fx_typing.specs.WellTyped.{Context, IsTyped, AreTyped, context_for, parts_count, standing_at}
 use Rattle.fx_value.specs.Fits.{fits_in}
 use Rattle.fx_semantics.specs.Fresh.{IsValue}

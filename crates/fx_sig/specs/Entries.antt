@@ -43,12 +43,12 @@ abbrev pub chooses : List ℕ → Form → Entry
 chooses name f = record { name = name; shape = shape.Form f; least = (form_row f).least; most = (form_row f).most; acts = false }
 
 -- a call that has a rule of its own
-abbrev pub stands_alone : List ℕ → SigShape → ℕ → ℕ → Entry
-stands_alone name s least most = record { name = name; shape = s; least = least; most = most; acts = false }
+abbrev pub special_entry : List ℕ → SigShape → ℕ → ℕ → Entry
+special_entry name s least most = record { name = name; shape = s; least = least; most = most; acts = false }
 
 -- a function that changes state
-abbrev pub acts : List ℕ → Acting → ℕ → ℕ → Entry
-acts name a least most = record { name = name; shape = shape.Act a; least = least; most = most; acts = true }
+abbrev pub acting_entry : List ℕ → Acting → ℕ → ℕ → Entry
+acting_entry name a least most = record { name = name; shape = shape.Act a; least = least; most = most; acts = true }
 
 -- all functions, each once
 unfoldable pub entries : List Entry
@@ -98,9 +98,9 @@ entries =
     ∷ calls (codes "Month") fun.Month
     ∷ calls (codes "Year") fun.Year
     ∷ calls (codes "Weekday") fun.Weekday
-    ∷ stands_alone (codes "Today") shape.Today 0 0
+    ∷ special_entry (codes "Today") shape.Today 0 0
     ∷ calls (codes "DateValue") fun.DateValue
-    ∷ stands_alone (codes "Table") shape.Table 1 255
+    ∷ special_entry (codes "Table") shape.Table 1 255
     ∷ calls (codes "Filter") fun.Filter
     ∷ calls (codes "LookUp") fun.LookUp
     ∷ calls_by_literal (codes "Sort") (fun.Sort order.Ascending)
@@ -117,19 +117,19 @@ entries =
     ∷ calls (codes "RenameColumns") fun.RenameColumns
     ∷ calls (codes "Distinct") fun.Distinct
     ∷ calls (codes "ForAll") fun.ForAll
-    ∷ stands_alone (codes "With") shape.With 2 2
+    ∷ special_entry (codes "With") shape.With 2 2
     ∷ calls (codes "Concat") fun.Concat
-    ∷ stands_alone (codes "Defaults") shape.Defaults 1 1
-    ∷ acts (codes "Set") acting.Set 2 2
-    ∷ acts (codes "UpdateContext") acting.UpdateContext 1 1
-    ∷ acts (codes "Collect") acting.Collect 2 255
-    ∷ acts (codes "Clear") acting.Clear 1 1
-    ∷ acts (codes "ClearCollect") acting.ClearCollect 2 255
-    ∷ acts (codes "Patch") acting.Patch 3 255
-    ∷ acts (codes "Remove") acting.Remove 2 255
-    ∷ acts (codes "RemoveIf") acting.RemoveIf 2 255
-    ∷ acts (codes "UpdateIf") acting.UpdateIf 3 3
-    ∷ acts (codes "Navigate") acting.Navigate 1 1
-    ∷ acts (codes "Notify") acting.Notify 1 1
-    ∷ acts (codes "Reset") acting.Reset 1 1
+    ∷ special_entry (codes "Defaults") shape.Defaults 1 1
+    ∷ acting_entry (codes "Set") acting.Set 2 2
+    ∷ acting_entry (codes "UpdateContext") acting.UpdateContext 1 1
+    ∷ acting_entry (codes "Collect") acting.Collect 2 255
+    ∷ acting_entry (codes "Clear") acting.Clear 1 1
+    ∷ acting_entry (codes "ClearCollect") acting.ClearCollect 2 255
+    ∷ acting_entry (codes "Patch") acting.Patch 3 255
+    ∷ acting_entry (codes "Remove") acting.Remove 2 255
+    ∷ acting_entry (codes "RemoveIf") acting.RemoveIf 2 255
+    ∷ acting_entry (codes "UpdateIf") acting.UpdateIf 3 3
+    ∷ acting_entry (codes "Navigate") acting.Navigate 1 1
+    ∷ acting_entry (codes "Notify") acting.Notify 1 1
+    ∷ acting_entry (codes "Reset") acting.Reset 1 1
     ∷ []

@@ -10,12 +10,12 @@ use Rattle.fx_types.specs.ValueView.{view}
 use Rattle.fx_types.specs.declared.aggregates.Totals.{Totals}
 use Rattle.fx_types.specs.declared.values.Value.{Value}
 use Rattle.fx_types.specs.declared.values.Value.TheVariants.{Blank, Number, Text, Boolean, Date, Rec, Tab, Fault}
-use Rattle.fx_value.specs.Aggregates.{number_of, numbers_in, sum_of, IsLeast, IsGreatest, IsLesser, IsGreater, SumsUp}
+use Rattle.fx_value.specs.Aggregates.{number_if_one, numbers_in, sum_of, IsLeast, IsGreatest, IsLesser, IsGreater, SumsUp}
 
 pub numbers_with : (ds : List Data) (d : Data) (z : ℤ) → d ≡ number z → numbers_in (ds ++ d ∷ []) ≡ numbers_in ds ++ z ∷ []
-numbers_with ds d z e = filter_map-append number_of ds (d ∷ []) ∙ ap (λ x. numbers_in ds ++ cons_option (number_of x) []) e
+numbers_with ds d z e = filter_map-append number_if_one ds (d ∷ []) ∙ ap (λ x. numbers_in ds ++ cons_option (number_if_one x) []) e
 
-no_number : (v : Value) → ((x : ℤ) → v ≡ Number x → ⊥) → number_of (view v) ≡ None
+no_number : (v : Value) → ((x : ℤ) → v ≡ Number x → ⊥) → number_if_one (view v) ≡ None
 no_number Blank h = refl
 no_number (Number n) h = absurd (h n refl)
 no_number (Text w) h = refl
@@ -27,7 +27,7 @@ no_number (Fault f) h = refl
 
 pub numbers_without : (ds : List Data) (v : Value) → ((x : ℤ) → v ≡ Number x → ⊥) → numbers_in (ds ++ view v ∷ []) ≡ numbers_in ds
 numbers_without ds v h =
-    filter_map-append number_of ds (view v ∷ []) ∙ ap (λ x. numbers_in ds ++ cons_option x []) (no_number v h) ∙ append-nil (numbers_in ds)
+    filter_map-append number_if_one ds (view v ∷ []) ∙ ap (λ x. numbers_in ds ++ cons_option x []) (no_number v h) ∙ append-nil (numbers_in ds)
 
 fold_push : {A B : Type 0} (f : A → B → A) (a : A) (xs : List B) (y : B) → fold f a (xs ++ y ∷ []) ≡ f (fold f a xs) y
 fold_push f a [] y = refl

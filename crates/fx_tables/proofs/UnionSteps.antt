@@ -4,7 +4,7 @@ use Rattle.std.specs.Prelude.{◌&&◌}
 use Rattle.std.specs.List.{All, find}
 use Rattle.std.proofs.lemmas.List.Elements.{All-head, All-tail}
 use Rattle.std.proofs.lemmas.Bool.{and_from}
-use Rattle.fx_types.specs.Rising.{AreRising}
+use Rattle.fx_types.specs.Rising.{AreNamesRising}
 use Rattle.fx_types.specs.Types.{Shape, records, tables, ColumnList, no_columns, column, column_list}
 use Rattle.fx_types.specs.Values.{Data, blank, number, text, boolean, date, rec, tab, fault, FieldList, no_fields, field, RowList, no_rows, row, field_list, row_list}
 use Rattle.fx_types.specs.ValueView.{view}
@@ -17,7 +17,7 @@ use Rattle.fx_value.proofs.Unions.{union_of_none, rises_list}
 use Rattle.fx_value.proofs.Widenings.{own_name}
 use Rattle.fx_value.specs.Columns.{Row}
 use Rattle.fx_tables.specs.Distinct.{value_name}
-use Rattle.fx_tables.specs.Unions.{is_fault, fault_or, fields_in, CanBeRow, rows_of}
+use Rattle.fx_tables.specs.Unions.{is_fault, fault_or, fields_in, CanBeRow, values_as_rows}
 
 -- a scalar of the one column's type fits it
 scalar_fits : (cs : ColumnList) (d : Data) → (t : Shape) × (cs ≡ column value_name t no_columns) × (fits_in d t ≡ true) → fields_fit (field value_name d no_fields) cs ≡ true
@@ -29,7 +29,7 @@ scalar_widens : (cs : ColumnList) (d : Data) → (t : Shape) × (cs ≡ column v
 scalar_widens cs d p = record { from = records cs; fitting = scalar_fits cs d p; widens = same }
 
 -- what can be a row can be widened to one
-pub can_widen : (cs : List (List ℕ × Shape)) (d : Data) → AreRising cs → is_fault d ≡ false → CanBeRow (column_list cs) d → CanWiden (rec (fields_in d)) (records (column_list cs))
+pub can_widen : (cs : List (List ℕ × Shape)) (d : Data) → AreNamesRising cs → is_fault d ≡ false → CanBeRow (column_list cs) d → CanWiden (rec (fields_in d)) (records (column_list cs))
 can_widen cs blank r f h = record {
   from = records no_columns;
   fitting = refl;
@@ -71,13 +71,13 @@ first_fault (x ∷ ds) v es d h f = by (is_fault (view x)) (λ k. first_fault ds
     by false k e = k e
 
 -- one more row
-pub rows_of_push : (cs : ColumnList) (ws : List Row) (ds : List Value) (w : Row) (v : Value) → row_list ws ≡ rows_of cs (map view ds) → field_list w ≡ widened_fields (fields_in (view v)) cs → row_list (ws ++ w ∷ []) ≡ rows_of cs (map view (ds ++ v ∷ []))
+pub rows_of_push : (cs : ColumnList) (ws : List Row) (ds : List Value) (w : Row) (v : Value) → row_list ws ≡ values_as_rows cs (map view ds) → field_list w ≡ widened_fields (fields_in (view v)) cs → row_list (ws ++ w ∷ []) ≡ values_as_rows cs (map view (ds ++ v ∷ []))
 rows_of_push cs [] [] w v h e = ap (λ z. row z no_rows) e
 rows_of_push cs [] (d ∷ ds) w v h e = cc
 rows_of_push cs (x ∷ ws) [] w v h e = cc
 rows_of_push cs (x ∷ ws) (d ∷ ds) w v h e =
     let a : field_list x ≡ widened_fields (fields_in (view d)) cs = cc in
-    let b : row_list ws ≡ rows_of cs (map view ds) = cc in
+    let b : row_list ws ≡ values_as_rows cs (map view ds) = cc in
     λ i. row (a i) (rows_of_push cs ws ds w v b e i)
 
 -- what holds of all holds of one in the middle

@@ -6,7 +6,7 @@ use Rattle.fx_types.specs.declared.faults.Kind.{Kind}
 use Rattle.fx_primitives.specs.Folds.{IsGreatest, IsLeast, IsSum, average_of}
 use Rattle.fx_value.specs.Aggregates.{numbers_in}
 use Rattle.fx_tables.specs.Unions.{fault_or}
-use Rattle.fx_primitives.specs.Texts.{joined, made}
+use Rattle.fx_primitives.specs.Texts.{joined, text_or_quota}
 use Rattle.fx_tables.specs.RowCalls.{IsFirstErrorOr}
 
 -- a number, or blank for none, of which P holds
@@ -55,7 +55,7 @@ made_value (Err k) = fault k []
 
 -- `Concat`: the first error in row order, else the texts joined, with a separator between each two
 abbrev pub concatenated : List ℕ → List Data → Data
-concatenated s ds = fault_or ds (made_value (made (joined (separated s (map characters_in ds)))))
+concatenated s ds = fault_or ds (made_value (text_or_quota (joined (separated s (map characters_in ds)))))
 
 -- the same with a value in place of the separator: an error there comes after one of the texts
 abbrev pub concatenated_by : Data → List Data → Data

@@ -2,34 +2,34 @@
 use Rattle.std.specs.Prelude.{◌≡◌, ℕ, true, List, [], ◌∷◌, map, length, All, Result, Ok}
 use Rattle.fx_types.specs.Types.{ColumnList, Shape}
 use Rattle.fx_types.specs.Values.{Data}
-use Rattle.fx_value.specs.Columns.{LacksColumn, Row, renamed, with_column, without}
+use Rattle.fx_value.specs.Columns.{LacksColumn, Row, field_renamed, rows_with_column, fields_without}
 use Rattle.fx_core.specs.ColumnLists.{and_then}
 use Rattle.fx_value.specs.Fits.{fits_in}
 
 -- `AddColumns`: each column of a name and its values, which stand at the places of the rows
 abbrev pub with_columns : List (List ℕ × List Data) → List Row → List Row
 with_columns [] rows = rows
-with_columns (c ∷ cs) rows = with_columns cs (with_column c.0 rows c.1)
+with_columns (c ∷ cs) rows = with_columns cs (rows_with_column c.0 rows c.1)
 
 -- each name is no column's when its turn comes, and has a value for each row
-abbrev pub CanAdd : List (List ℕ × List Data) → List Row → Type 0
-CanAdd [] rows = Unit {0}
-CanAdd (c ∷ cs) rows = LacksColumn c.0 rows × (length c.1 ≡ length rows) × CanAdd cs (with_column c.0 rows c.1)
+abbrev pub CanAddColumns : List (List ℕ × List Data) → List Row → Type 0
+CanAddColumns [] rows = Unit {0}
+CanAddColumns (c ∷ cs) rows = LacksColumn c.0 rows × (length c.1 ≡ length rows) × CanAddColumns cs (rows_with_column c.0 rows c.1)
 
 -- `DropColumns`
 abbrev pub without_columns : List (List ℕ) → List Row → List Row
 without_columns [] rows = rows
-without_columns (n ∷ ns) rows = without_columns ns (map (without n) rows)
+without_columns (n ∷ ns) rows = without_columns ns (map (fields_without n) rows)
 
 -- `RenameColumns`: each column of the first name gets the second
 abbrev pub renamed_columns : List (List ℕ × List ℕ) → List Row → List Row
 renamed_columns [] rows = rows
-renamed_columns (p ∷ ps) rows = renamed_columns ps (map (renamed p.0 p.1) rows)
+renamed_columns (p ∷ ps) rows = renamed_columns ps (map (field_renamed p.0 p.1) rows)
 
 -- each new name is no column's when its turn comes
 abbrev pub CanRename : List (List ℕ × List ℕ) → List Row → Type 0
 CanRename [] rows = Unit {0}
-CanRename (p ∷ ps) rows = LacksColumn p.1 rows × CanRename ps (map (renamed p.0 p.1) rows)
+CanRename (p ∷ ps) rows = LacksColumn p.1 rows × CanRename ps (map (field_renamed p.0 p.1) rows)
 
 -- one step on the columns of a type after another, as long as none breaks a rule
 abbrev pub in_turn : {A : Type 0} → (A → ColumnList → Result ColumnList ℕ) → List A → ColumnList → Result ColumnList ℕ

@@ -2,12 +2,12 @@
 use Rattle.std.specs.Prelude.{ℕ, ◌-◌, ◌==◌, ℤ, pos, List, length, take, drop, reverse, Option, Some, None}
 use Rattle.fx_types.specs.Values.{Data, number, boolean, tab, fault, row_list}
 use Rattle.fx_primitives.specs.Numbers.{whole_part_of}
-use Rattle.fx_tables.specs.RowCalls.{first_of}
+use Rattle.fx_tables.specs.RowCalls.{first_row_record}
 use Rattle.fx_value.specs.Columns.{Row}
 
 -- the last row as a record, or blank where there is none
 abbrev pub last_of : List Row → Data
-last_of rows = first_of (reverse rows)
+last_of rows = first_row_record (reverse rows)
 
 -- a whole number as a count: none where it is negative
 abbrev pub natural : ℤ → ℕ

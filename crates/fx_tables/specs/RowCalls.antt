@@ -32,13 +32,13 @@ abbrev pub filtered : List Row → List Data → Data
 filtered rows cs = fault_or cs (tab (row_list (kept_rows rows cs)))
 
 -- the first row as a record, or blank where there is none
-abbrev pub first_of : List Row → Data
-first_of [] = blank
-first_of (r ∷ rs) = rec (field_list r)
+abbrev pub first_row_record : List Row → Data
+first_row_record [] = blank
+first_row_record (r ∷ rs) = rec (field_list r)
 
 -- `LookUp`: the first error of a condition in row order, else the first row whose condition holds
 abbrev pub looked_up : List Row → List Data → Data
-looked_up rows cs = fault_or cs (first_of (kept_rows rows cs))
+looked_up rows cs = fault_or cs (first_row_record (kept_rows rows cs))
 
 -- a count as a number, and Numeric without a message where it is out of range
 abbrev pub IsCountValue : ℕ → Data → Type 0

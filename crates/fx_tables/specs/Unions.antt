@@ -32,13 +32,13 @@ CanBeRow cs (rec fs) = CanWiden (rec fs) (records cs)
 CanBeRow cs d = (t : Shape) × (cs ≡ column value_name t no_columns) × (fits_in d t ≡ true)
 
 -- each value as a row of these columns, blank where it has no such field
-abbrev pub rows_of : ColumnList → List Data → RowList
-rows_of cs [] = no_rows
-rows_of cs (d ∷ ds) = row (widened_fields (fields_in d) cs) (rows_of cs ds)
+abbrev pub values_as_rows : ColumnList → List Data → RowList
+values_as_rows cs [] = no_rows
+values_as_rows cs (d ∷ ds) = row (widened_fields (fields_in d) cs) (values_as_rows cs ds)
 
 -- Values as a table of this type: the first error among them, and else their rows.
 abbrev pub union_of : Shape → List Data → Data
-union_of (tables cs) ds = fault_or ds (tab (rows_of cs ds))
+union_of (tables cs) ds = fault_or ds (tab (values_as_rows cs ds))
 union_of _ ds = blank
 
 -- values that can be the rows of a table of this type

@@ -2,9 +2,9 @@
 ghost use Rattle.std.specs.Prelude.{◌≡◌, IfOk, map, true};
 ghost use Rattle.fx_types.specs.Types.{numbers as number_type};
 ghost use Rattle.fx_types.specs.ValueView.{view};
-ghost use Rattle.fx_primitives.specs.Folds.{present};
+ghost use Rattle.fx_primitives.specs.Folds.{nonblank};
 ghost use Rattle.fx_tables.specs.AggregateCalls.{IsGreatestOf, IsLeastOf, IsSumOf, IsSumValue, averaged, number_or_blank};
-ghost use Rattle.fx_value.specs.Aggregates.{number_of, numbers_in};
+ghost use Rattle.fx_value.specs.Aggregates.{number_if_one, numbers_in};
 ghost use Rattle.fx_value.specs.Fits.{fits_in};
 
 use crate::errors::{made_error, without_errors};
@@ -75,7 +75,7 @@ pub fn average(alloc: Global, values: Vec<Value>) -> Result<Value, Memory>
 }
 
 fn sum_of(alloc: Global, numbers: &[Option<Num>]) -> Result<Value, Memory>
-    ensures value { IfOk result (λ v. IsSumValue (present numbers.now) (view v)) }
+    ensures value { IfOk result (λ v. IsSumValue (nonblank numbers.now) (view v)) }
     ensures fits { IfOk result (λ v. fits_in (view v) number_type ≡ true) }
 {
     match fx_primitives::sum(numbers) {
@@ -86,19 +86,19 @@ fn sum_of(alloc: Global, numbers: &[Option<Num>]) -> Result<Value, Memory>
 
 // The numbers among values, and none for each other one.
 fn numbers(alloc: Global, values: &[Value]) -> Result<Vec<Option<Num>>, Memory>
-    ensures { IfOk result (λ n. present n.items ≡ numbers_in (map view values.now)) }
+    ensures { IfOk result (λ n. nonblank n.items ≡ numbers_in (map view values.now)) }
 {
     Ok(each_number(alloc, values)?)
 }
 
 fn each_number(alloc: Global, values: &[Value]) -> Result<Vec<Option<Num>>, AllocError>
-    ensures { IfOk result (λ n. n.items ≡ map (λ v. number_of (view v)) values.now) }
+    ensures { IfOk result (λ n. n.items ≡ map (λ v. number_if_one (view v)) values.now) }
 {
     values.iter().map(|value| number(value)).collect(alloc)
 }
 
 fn number(value: &Value) -> Option<Num>
-    ensures { result ≡ number_of (view value.now) }
+    ensures { result ≡ number_if_one (view value.now) }
 {
     match value {
         Value::Number(number) => Some(*number),

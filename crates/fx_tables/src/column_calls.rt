@@ -1,13 +1,13 @@
 // The calls that change the columns of a table, one column after another.
 ghost use Rattle.std.specs.Prelude.{◌≡◌, IfOk, List, Ok, map, true, ℕ};
-ghost use Rattle.fx_types.specs.Rising.{AreRising};
+ghost use Rattle.fx_types.specs.Rising.{AreNamesRising};
 ghost use Rattle.fx_types.specs.Types.{ColumnList, Shape, column_list, tables};
 ghost use Rattle.fx_types.specs.ValueView.{view};
 ghost use Rattle.fx_types.specs.Values.{row_list, tab};
-ghost use Rattle.fx_tables.specs.ColumnCalls.{AreOfTypes, CanAdd, CanRename, in_turn, renamed_columns, with_columns, without_columns};
+ghost use Rattle.fx_tables.specs.ColumnCalls.{AreOfTypes, CanAddColumns, CanRename, in_turn, renamed_columns, with_columns, without_columns};
 ghost use Rattle.fx_tables.specs.NewColumn.{column_seen, renaming_seen};
-ghost use Rattle.fx_value.specs.Columns.{only};
-ghost use Rattle.fx_core.specs.ColumnLists.{only as only_columns, with_new, with_renamed, without_all};
+ghost use Rattle.fx_value.specs.Columns.{fields_only};
+ghost use Rattle.fx_core.specs.ColumnLists.{columns_only as only_columns, with_new, with_renamed, without_all};
 ghost use Rattle.fx_value.specs.Fits.{fits_in};
 
 use crate::{add_column, drop_column, rename_column};
@@ -33,7 +33,7 @@ pub struct Renaming {
 
 /// The rows with new columns, one after another; errors stay in the fields.
 pub fn add_columns(alloc: Global, rows: Rows, columns: Vec<NewColumn>) -> Result<Value, Memory>
-    requires { CanAdd (map column_seen columns.items) rows }
+    requires { CanAddColumns (map column_seen columns.items) rows }
     ensures value { IfOk result (λ v. view v
         ≡ tab (row_list (with_columns (map column_seen columns.items) rows))) }
     ensures fits { (ts : List (List ℕ × Shape)) (cs ds : ColumnList)
@@ -48,7 +48,7 @@ pub fn add_columns(alloc: Global, rows: Rows, columns: Vec<NewColumn>) -> Result
 /// The rows without the columns of these names.
 pub fn drop_columns(alloc: Global, rows: Rows, names: &[Words]) -> Result<Value, Memory>
     ensures value { IfOk result (λ v. view v ≡ tab (row_list (without_columns names.now rows))) }
-    ensures fits { (cs : List (List ℕ × Shape)) → AreRising cs
+    ensures fits { (cs : List (List ℕ × Shape)) → AreNamesRising cs
         → fits_in (tab (row_list rows)) (tables (column_list cs)) ≡ true
         → IfOk result (λ v. fits_in (view v) (tables (without_all names.now (column_list cs))) ≡ true) }
 {
@@ -61,7 +61,7 @@ pub fn drop_columns(alloc: Global, rows: Rows, names: &[Words]) -> Result<Value,
 
 /// The rows with the columns of these names alone.
 pub fn show_columns(alloc: Global, rows: Rows, names: &[Words]) -> Result<Value, Memory>
-    ensures value { IfOk result (λ v. view v ≡ tab (row_list (map (only names.now) rows))) }
+    ensures value { IfOk result (λ v. view v ≡ tab (row_list (map (fields_only names.now) rows))) }
     ensures fits { (cs : ColumnList) → fits_in (tab (row_list rows)) (tables cs) ≡ true
         → IfOk result (λ v. fits_in (view v) (tables (only_columns names.now cs)) ≡ true) }
 {
@@ -74,7 +74,7 @@ pub fn rename_columns(alloc: Global, rows: Rows, renamings: &[Renaming]) -> Resu
     requires { CanRename (map renaming_seen renamings.now) rows }
     ensures value { IfOk result (λ v. view v
         ≡ tab (row_list (renamed_columns (map renaming_seen renamings.now) rows))) }
-    ensures fits { (cs : List (List ℕ × Shape)) (ds : ColumnList) → AreRising cs
+    ensures fits { (cs : List (List ℕ × Shape)) (ds : ColumnList) → AreNamesRising cs
         → fits_in (tab (row_list rows)) (tables (column_list cs)) ≡ true
         → in_turn (λ p. with_renamed p.0 p.1) (map renaming_seen renamings.now) (column_list cs) ≡ Ok ds
         → IfOk result (λ v. fits_in (view v) (tables ds) ≡ true) }
@@ -87,7 +87,7 @@ pub fn rename_columns(alloc: Global, rows: Rows, renamings: &[Renaming]) -> Resu
 }
 
 fn rows_with(alloc: Global, rows: Rows, columns: Vec<NewColumn>) -> Result<Rows, Memory>
-    requires { CanAdd (map column_seen columns.items) rows }
+    requires { CanAddColumns (map column_seen columns.items) rows }
     ensures { IfOk result (λ r. r ≡ with_columns (map column_seen columns.items) rows) }
 {
     let mut wider = rows;

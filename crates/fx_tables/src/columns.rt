@@ -4,12 +4,12 @@ ghost use Rattle.std.specs.List.{list_any, position_or_len};
 ghost use Rattle.std.specs.Prelude.{bytes_eq};
 ghost use Rattle.std.specs.Cmp.Lexicographic.{slice_cmp};
 ghost use Rattle.std.specs.Ordering.{nat_cmp, is_lt};
-ghost use Rattle.fx_types.specs.Lookup.{item_of};
-ghost use Rattle.fx_types.specs.Rising.{AreRising};
+ghost use Rattle.fx_types.specs.Lookup.{item_named};
+ghost use Rattle.fx_types.specs.Rising.{AreNamesRising};
 ghost use Rattle.fx_types.specs.Values.{blank};
 ghost use Rattle.fx_types.specs.ValueView.{view, fields_view};
 ghost use Rattle.fx_types.specs.Words.{scalars_of};
-ghost use Rattle.fx_value.specs.Columns.{LacksColumn, only as only_of, renamed as renamed_of, with_column, with_field as with_field_of, without as without_of};
+ghost use Rattle.fx_value.specs.Columns.{LacksColumn, fields_only as only_of, field_renamed as renamed_of, rows_with_column, with_field as with_field_of, fields_without as without_of};
 
 use fx_base::Memory;
 use fx_types::values::{Fields, Rows, Value};
@@ -20,7 +20,7 @@ use std::alloc::Global;
 pub fn add_column(alloc: Global, rows: Rows, name: &str, values: Vec<Value>) -> Result<Rows, Memory>
     requires new { LacksColumn (scalars_of name.now) rows }
     requires long { length values.items ≡ length rows }
-    ensures { IfOk result (λ r. r ≡ with_column (scalars_of name.now) rows (map view values.items)) }
+    ensures { IfOk result (λ r. r ≡ rows_with_column (scalars_of name.now) rows (map view values.items)) }
 {
     let name = Words::of(alloc, name)?;
     rows_with(alloc, rows, &name, values)
@@ -60,7 +60,7 @@ pub fn show_columns(alloc: Global, rows: Rows, names: &[Words]) -> Result<Rows, 
 fn rows_with(alloc: Global, rows: Rows, name: &Words, values: Vec<Value>) -> Result<Rows, Memory>
     requires new { LacksColumn name.now rows }
     requires long { length values.items ≡ length rows }
-    ensures { IfOk result (λ r. r ≡ with_column name.now rows (map view values.items)) }
+    ensures { IfOk result (λ r. r ≡ rows_with_column name.now rows (map view values.items)) }
 {
     let items = rows.into_items();
     let mut wider = Vec::with_capacity(alloc, items.len())?;
@@ -100,7 +100,7 @@ fn rename_rows(alloc: Global, rows: Rows, from: &Words, to: &Words) -> Result<Ro
 
 // A record with one more field.
 fn with_field(row: Fields, name: Words, value: Value) -> Result<Fields, Memory>
-    requires { item_of name row ≡ None }
+    requires { item_named name row ≡ None }
     ensures { IfOk result (λ f. f ≡ with_field_of name (view value) row) }
 {
     let mut items = row.into_items();
@@ -149,7 +149,7 @@ fn is_among(name: &Words, names: &[Words]) -> bool
 
 // A record in which a field has another name.
 fn rename_field(row: Fields, from: &Words, to: Words) -> Result<Fields, Memory>
-    requires { item_of to row ≡ None }
+    requires { item_named to row ≡ None }
     ensures { IfOk result (λ f. f ≡ renamed_of from.now to row) }
 {
     let mut items = row.into_items();
@@ -159,8 +159,8 @@ fn rename_field(row: Fields, from: &Words, to: Words) -> Result<Fields, Memory>
 
 // The value under a name, which is taken out, or blank where it is missing.
 fn take_value(items: &mut Vec<(Words, Value)>, name: &Words) -> Value
-    requires { AreRising (fields_view items.old.items) }
-    ensures value { view result ≡ unwrap_or (item_of name.now (fields_view items.old.items)) blank }
+    requires { AreNamesRising (fields_view items.old.items) }
+    ensures value { view result ≡ unwrap_or (item_named name.now (fields_view items.old.items)) blank }
     ensures others { fields_view items.new.items
         ≡ without_of name.now (fields_view items.old.items) }
 {
@@ -175,7 +175,7 @@ fn take_value(items: &mut Vec<(Words, Value)>, name: &Words) -> Value
 
 // Where the field of a name stands.
 fn place_under(items: &[(Words, Value)], name: &Words) -> Option<usize>
-    ensures { MatchOption result (item_of name.now (fields_view items.now) ≡ None)
+    ensures { MatchOption result (item_named name.now (fields_view items.now) ≡ None)
         (λ place. option_map (λ f. f.0) (slice_get items.now place) ≡ Some name.now) }
 {
     for (place, (other, _)) in items.iter().enumerate() {

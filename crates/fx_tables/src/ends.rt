@@ -5,7 +5,7 @@ ghost use Rattle.fx_types.specs.ValueView.{view};
 ghost use Rattle.fx_types.specs.Values.{row_list, tab};
 ghost use Rattle.fx_primitives.specs.Numbers.{whole_part_of};
 ghost use Rattle.fx_tables.specs.Ends.{count_asked as count_asked_of, emptiness_of, first_rows, last_of, last_rows, natural as natural_of};
-ghost use Rattle.fx_tables.specs.RowCalls.{IsCountValue, first_of};
+ghost use Rattle.fx_tables.specs.RowCalls.{IsCountValue, first_row_record};
 ghost use Rattle.fx_value.specs.Fits.{fits_in};
 
 use crate::counts::count_value;
@@ -17,7 +17,7 @@ use std::alloc::Global;
 
 /// The first row as a record, or blank where there is none.
 pub fn first(rows: Rows) -> Value
-    ensures value { view result ≡ first_of rows }
+    ensures value { view result ≡ first_row_record rows }
     ensures fits { (cs : ColumnList) → fits_in (tab (row_list rows)) (tables cs) ≡ true
         → fits_in (view result) (records cs) ≡ true }
 {

@@ -2,7 +2,7 @@
 ghost use Rattle.std.specs.Prelude.{◌≡◌, ◌++◌, ◌∷◌, [], ◌+◌, ◌-◌, ◌^◌, ◌<◌, ◌≤◌, ◌+ℤ◌, IsSomeAnd, List, map};
 ghost use Rattle.fx_types.specs.Values.{Data};
 ghost use Rattle.fx_types.specs.ValueView.{view};
-ghost use Rattle.fx_value.specs.Aggregates.{IsGreater, IsLesser, IsWithin, SumsUp, numbers_in};
+ghost use Rattle.fx_value.specs.Aggregates.{IsGreater, IsLesser, IsBoundedSum, SumsUp, numbers_in};
 
 use fx_number::Num;
 use fx_types::aggregates::Totals;
@@ -28,9 +28,9 @@ pub fn totals(values: &[Value]) -> Totals
 // The totals with one more value.
 fn with_value(totals: Totals, value: &Value) -> Totals
     requires room { totals.count < 2 ^ 64 - 1 }
-    requires within { IsWithin totals.count totals.sum }
+    requires within { IsBoundedSum totals.count totals.sum }
     ensures few { result.count ≤ totals.count + 1 }
-    ensures within { IsWithin result.count result.sum }
+    ensures within { IsBoundedSum result.count result.sum }
     ensures adds { (ds : List Data) → SumsUp (numbers_in ds) totals
         → SumsUp (numbers_in (ds ++ view value.now ∷ [])) result }
 {
@@ -43,10 +43,10 @@ fn with_value(totals: Totals, value: &Value) -> Totals
 // The totals with one more number.
 fn with_number(totals: Totals, number: Num) -> Totals
     requires room { totals.count < 2 ^ 64 - 1 }
-    requires within { IsWithin totals.count totals.sum }
+    requires within { IsBoundedSum totals.count totals.sum }
     ensures count { result.count ≡ totals.count + 1 }
     ensures sum { result.sum ≡ totals.sum +ℤ number }
-    ensures within { IsWithin result.count result.sum }
+    ensures within { IsBoundedSum result.count result.sum }
     ensures least { IsSomeAnd result.least (IsLesser totals.least number) }
     ensures greatest { IsSomeAnd result.greatest (IsGreater totals.greatest number) }
 {

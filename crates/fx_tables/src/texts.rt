@@ -3,7 +3,7 @@ ghost use Rattle.std.specs.Prelude.{◌≡◌, ◌++◌, ◌∷◌, [], IfOk, Li
 ghost use Rattle.fx_types.specs.Types.{texts as text_type};
 ghost use Rattle.fx_types.specs.ValueView.{view};
 ghost use Rattle.fx_tables.specs.AggregateCalls.{characters_in, concatenated_by, made_value, separated};
-ghost use Rattle.fx_primitives.specs.Texts.{made as made_of, joined};
+ghost use Rattle.fx_primitives.specs.Texts.{text_or_quota as made_of, joined};
 ghost use Rattle.fx_value.specs.Fits.{fits_in};
 
 use crate::errors::{made_error, without_errors};

@@ -8,7 +8,7 @@ ghost use Rattle.fx_types.specs.Values.{field_list, rec, tab};
 ghost use Rattle.fx_value.specs.Coercion.{CanWiden, widened};
 ghost use Rattle.fx_value.specs.Fits.{fits_in};
 ghost use Rattle.fx_tables.specs.Distinct.{value_row as value_row_of};
-ghost use Rattle.fx_tables.specs.Unions.{CanBeRow, CanBeRows, fault_or, fields_in, rows_of, union_of};
+ghost use Rattle.fx_tables.specs.Unions.{CanBeRow, CanBeRows, fault_or, fields_in, values_as_rows, union_of};
 
 use fx_base::Memory;
 use fx_types::types::{Columns, Ty};
@@ -44,7 +44,7 @@ fn table_of(
     requires same { shape row_type.now ≡ records (column_list columns.now) }
     requires rows { All (CanBeRow (column_list columns.now)) (map view rows.items) }
     ensures value { IfOk result (λ v. view v ≡ fault_or (map view rows.items)
-        (tab (rows_of (column_list columns.now) (map view rows.items)))) }
+        (tab (values_as_rows (column_list columns.now) (map view rows.items)))) }
     ensures fits { IfOk result (λ v. fits_in (view v) (tables (column_list columns.now)) ≡ true) }
 {
     // Their names rise, so that a blank value can be widened.

@@ -1,7 +1,7 @@
 // The types of values.
 ghost use Rattle.std.specs.Prelude.{◌≡◌, ◌≤◌, ◌++◌, ◌∷◌, [], length, slice_get, Some, IfOk, option_map, OnOk, OnErr, MatchOption};
-ghost use Rattle.fx_types.specs.Lookup.{item_of};
-ghost use Rattle.fx_types.specs.Rising.{AreRising};
+ghost use Rattle.fx_types.specs.Lookup.{item_named};
+ghost use Rattle.fx_types.specs.Rising.{AreNamesRising};
 ghost use Rattle.fx_types.specs.TypeView.{shape, columns_view};
 
 use crate::words::Words;
@@ -44,11 +44,11 @@ impl Model for Columns {
     ghost coded = { columns_code };
 
     ghost use Rattle.fx_types.specs.TypeView.{columns_view};
-    ghost use Rattle.fx_types.specs.Rising.{AreRising};
+    ghost use Rattle.fx_types.specs.Rising.{AreNamesRising};
 
     ghost view = { λ a. columns_view a.items.items };
 
-    ghost invariant = { λ a. AreRising (columns_view a.items.items) };
+    ghost invariant = { λ a. AreNamesRising (columns_view a.items.items) };
 
     ghost size = { shapes_size };
 
@@ -89,7 +89,7 @@ impl Columns {
 
     /// Adds a column, whose name is above all others.
     pub fn push(&mut self, item: (Words, Ty)) -> Result<(), Memory>
-        requires { AreRising (self.old ++ (item.0, shape item.1) ∷ []) }
+        requires { AreNamesRising (self.old ++ (item.0, shape item.1) ∷ []) }
         ensures ok { OnOk result (self.new ≡ self.old ++ (item.0, shape item.1) ∷ []) }
         ensures err { OnErr result (self.new ≡ self.old) }
     {
@@ -114,7 +114,7 @@ impl Columns {
 
     /// The type of the column of this name.
     pub fn ty(&self, name: &Words) -> Option<&Ty>
-        ensures { option_map (λ t. shape t.now) result ≡ item_of name.now self.now }
+        ensures { option_map (λ t. shape t.now) result ≡ item_named name.now self.now }
     {
         for (other, ty) in &self.items {
             if other.is(name) {
@@ -127,7 +127,7 @@ impl Columns {
     /// The columns by rising names.
     pub fn as_slice(&self) -> &[(Words, Ty)]
         ensures columns { columns_view result.now ≡ self.now }
-        ensures rising { AreRising self.now }
+        ensures rising { AreNamesRising self.now }
     {
         self.items.as_slice()
     }
@@ -135,14 +135,14 @@ impl Columns {
     /// The columns by rising names.
     pub fn into_items(self) -> Vec<(Words, Ty)>
         ensures columns { columns_view result.items ≡ self }
-        ensures rising { AreRising self }
+        ensures rising { AreNamesRising self }
     {
         self.items
     }
 
     /// These columns, which have rising names.
     pub fn from_rising(items: Vec<(Words, Ty)>) -> Columns
-        requires { AreRising (columns_view items.items) }
+        requires { AreNamesRising (columns_view items.items) }
         ensures { result ≡ columns_view items.items }
     {
         Columns { items }

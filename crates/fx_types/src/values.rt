@@ -1,7 +1,7 @@
 // The values of formulas.
 ghost use Rattle.std.specs.Prelude.{◌≡◌, ◌≤◌, ◌++◌, ◌∷◌, [], length, slice_get, Some, IfOk, option_map, OnOk, OnErr, MatchOption};
-ghost use Rattle.fx_types.specs.Lookup.{item_of};
-ghost use Rattle.fx_types.specs.Rising.{AreRising};
+ghost use Rattle.fx_types.specs.Lookup.{item_named};
+ghost use Rattle.fx_types.specs.Rising.{AreNamesRising};
 ghost use Rattle.fx_types.specs.ValueView.{fields_view, view};
 
 use crate::days::Day;
@@ -47,12 +47,12 @@ impl Model for Fields {
     ghost coded = { fields_code };
 
     ghost use Rattle.fx_types.specs.ValueView.{fields_view};
-    ghost use Rattle.fx_types.specs.Rising.{AreRising};
+    ghost use Rattle.fx_types.specs.Rising.{AreNamesRising};
     ghost use Rattle.fx_types.specs.Values.{list_size};
 
     ghost view = { λ a. fields_view a.items.items };
 
-    ghost invariant = { λ a. AreRising (fields_view a.items.items) };
+    ghost invariant = { λ a. AreNamesRising (fields_view a.items.items) };
 
     ghost size = { list_size };
 
@@ -119,7 +119,7 @@ impl Fields {
 
     /// Adds a field, whose name is above all others.
     pub fn push(&mut self, item: (Words, Value)) -> Result<(), Memory>
-        requires { AreRising (self.old ++ (item.0, view item.1) ∷ []) }
+        requires { AreNamesRising (self.old ++ (item.0, view item.1) ∷ []) }
         ensures ok { OnOk result (self.new ≡ self.old ++ (item.0, view item.1) ∷ []) }
         ensures err { OnErr result (self.new ≡ self.old) }
     {
@@ -144,7 +144,7 @@ impl Fields {
 
     /// The value of the field of this name.
     pub fn value(&self, name: &Words) -> Option<&Value>
-        ensures { option_map (λ v. view v.now) result ≡ item_of name.now self.now }
+        ensures { option_map (λ v. view v.now) result ≡ item_named name.now self.now }
     {
         for (other, value) in &self.items {
             if other.is(name) {
@@ -157,7 +157,7 @@ impl Fields {
     /// The fields by rising names.
     pub fn as_slice(&self) -> &[(Words, Value)]
         ensures fields { fields_view result.now ≡ self.now }
-        ensures rising { AreRising self.now }
+        ensures rising { AreNamesRising self.now }
     {
         self.items.as_slice()
     }
@@ -165,14 +165,14 @@ impl Fields {
     /// The fields by rising names.
     pub fn into_items(self) -> Vec<(Words, Value)>
         ensures fields { fields_view result.items ≡ self }
-        ensures rising { AreRising self }
+        ensures rising { AreNamesRising self }
     {
         self.items
     }
 
     /// The record of these fields, which have rising names.
     pub fn from_rising(items: Vec<(Words, Value)>) -> Fields
-        requires { AreRising (fields_view items.items) }
+        requires { AreNamesRising (fields_view items.items) }
         ensures { result ≡ fields_view items.items }
     {
         Fields { items }

@@ -3,9 +3,9 @@ use Rattle.std.proofs.Common.{◌≡◌, ℕ, ◌++◌, List, [], ◌∷◌, Boo
 use Rattle.fx_types.specs.Types.{Shape}
 use Rattle.fx_core.specs.Tree.{Tree, node, Forest, none, more, Head}
 use Rattle.fx_typing.specs.Meaning.{Place}
-use Rattle.fx_typing.specs.Parts.{Part, Setting, parts_in}
+use Rattle.fx_typing.specs.Parts.{JudgedPart, Setting, part_count}
 use Rattle.fx_typing.specs.Plans.{setting_at}
-use Rattle.fx_typing.specs.Typing.{admit, onward, at_node, judge, judge_parts, outermost, whole_of, position, judge_whole}
+use Rattle.fx_typing.specs.Typing.{admit, onward, at_node, judge, judge_parts, outermost_setting, whole_argument, position, judge_whole}
 use Rattle.fx_typing.specs.Details.{detail_of, wanted_detail, IsToldBroken, HasToldBroken, IsToldBrokenWhole}
 
 at_node_err : {A : Type 0} (at w rule : ℕ) (r : Result A ℕ) → at_node at r ≡ Err (w, rule) → (w ≡ at) × (r ≡ Err rule)
@@ -21,12 +21,12 @@ mutual
   pub broken_of : (p : Place) (s : Setting) (e : Tree) (w rule : ℕ) → judge p s e ≡ Err (w, rule) →
       (said : List ℕ) × IsToldBroken p s e w rule said
   broken_of p s (node at h ts) w rule e =
-      elim (onward_err (judge_parts p s h (parts_in ts) [] ts) (λ qs. at_node at (admit p s h qs)) (w, rule) e) [
-        | inl a ↦ (let b = broken_in p s h (parts_in ts) [] ts w rule a in (b.0, inr b.1))
+      elim (onward_err (judge_parts p s h (part_count ts) [] ts) (λ qs. at_node at (admit p s h qs)) (w, rule) e) [
+        | inl a ↦ (let b = broken_in p s h (part_count ts) [] ts w rule a in (b.0, inr b.1))
         | inr b ↦ (let k = at_node_err at w rule (admit p s h b.0) b.2 in (detail_of p s h b.0 rule, inl (k.0, b.0, b.1, k.1, refl)))
       ]
 
-  pub broken_in : (p : Place) (s : Setting) (h : Head) (n : ℕ) (done : List Part) (ts : Forest) (w rule : ℕ) →
+  pub broken_in : (p : Place) (s : Setting) (h : Head) (n : ℕ) (done : List JudgedPart) (ts : Forest) (w rule : ℕ) →
       judge_parts p s h n done ts ≡ Err (w, rule) → (said : List ℕ) × HasToldBroken p s h n done ts w rule said
   broken_in p s h n done none w rule e = absurd cc
   broken_in p s h n done (more k ks) w rule e =
@@ -39,7 +39,7 @@ mutual
 pub whole_broken : (p : Place) (acts : Bool) (wanted : Option Shape) (e : Tree) (w rule : ℕ) →
     judge_whole p acts wanted e ≡ Err (w, rule) → (said : List ℕ) × IsToldBrokenWhole p acts wanted e w rule said
 whole_broken p acts wanted e w rule h =
-    elim (onward_err (judge p (outermost acts) e) (λ q. at_node (position e) (whole_of wanted q)) (w, rule) h) [
-      | inl a ↦ (let c = broken_of p (outermost acts) e w rule a in (c.0, inl c.1))
-      | inr b ↦ (let k = at_node_err (position e) w rule (whole_of wanted b.0) b.2 in (wanted_detail p.names b.0, inr (k.0, b.0, b.1, k.1, refl)))
+    elim (onward_err (judge p (outermost_setting acts) e) (λ q. at_node (position e) (whole_argument wanted q)) (w, rule) h) [
+      | inl a ↦ (let c = broken_of p (outermost_setting acts) e w rule a in (c.0, inl c.1))
+      | inr b ↦ (let k = at_node_err (position e) w rule (whole_argument wanted b.0) b.2 in (wanted_detail p.names b.0, inr (k.0, b.0, b.1, k.1, refl)))
     ]

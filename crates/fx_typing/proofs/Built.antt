@@ -13,13 +13,13 @@ use Rattle.fx_core.specs.ColumnLists.{and_then, row_columns}
 use Rattle.fx_typing.specs.Local.{value, coerced, by_way, put_first, join_all, firsts}
 use Rattle.fx_typing.specs.Meaning.{Place, Scope}
 use Rattle.fx_typing.specs.Ways.{Way, same, changed, refused, way}
-use Rattle.fx_typing.specs.WellTyped.{Context, Standing, plain, bound, AreAll, target_source, HasColumns, IsRuled, parts_count, IsTyped, AreTyped}
+use Rattle.fx_typing.specs.WellTyped.{Context, PartScope, plain, bound, AreAllOfShape, target_source, HasColumns, IsRuled, parts_count, IsTyped, AreTyped}
 use Rattle.fx_typing.proofs.Rules.{Typed, seconds}
 use Rattle.fx_typing.proofs.Same.{way_same}
-use Rattle.fx_typing.specs.Builds.{is_bounded, bounded, rows_to, list_by, list_as, table_of, as_record, with_of, blank_fields, blank_record}
+use Rattle.fx_typing.specs.Builds.{is_bounded, bounded, rows_to, list_by, list_as, typed_table, as_record, with_of, blank_fields, blank_record}
 use Rattle.fx_typing.specs.Calls.{defaults_of}
-use Rattle.fx_typing.specs.Deeds.{by_name}
-use Rattle.fx_typing.specs.Parts.{Part, piece, Setting, put_value, values, unless}
+use Rattle.fx_typing.specs.Deeds.{by_first_name}
+use Rattle.fx_typing.specs.Parts.{JudgedPart, piece, Setting, put_value, values, unless_rule}
 use Rattle.fx_typing.specs.Plans.{plan_with, first_record, record_type}
 use Rattle.fx_typing.specs.Targets.{rows_named}
 use Rattle.fx_typing.specs.Typing.{context_of}
@@ -40,7 +40,7 @@ put_first_ok x (Ok ys) xs e = (ys, refl, sym cc)
 put_first_ok x (Err n) xs e = absurd cc
 
 -- what keeps to a limit is what it was
-pub within_limit : {A : Type 0} (b : Bool) (k : ℕ) (r : Result A ℕ) (x : A) → unless b k r ≡ Ok x → r ≡ Ok x
+pub within_limit : {A : Type 0} (b : Bool) (k : ℕ) (r : Result A ℕ) (x : A) → unless_rule b k r ≡ Ok x → r ≡ Ok x
 within_limit true k (Ok y) x e = absurd cc
 within_limit false k (Ok y) x e = e
 within_limit {A = A} b k (Err n) x e = by_test (b && nat_lt k n) e
@@ -54,7 +54,7 @@ bounded_ok (Ok y) x e = within_limit (not (is_bounded y.1)) 13 (Ok y) x e
 bounded_ok (Err n) x e = absurd cc
 
 -- values of parts that all stand plainly
-values_typed : (p : Place) (s : Setting) (done qs : List Part) (xs : List (Term × Shape)) → values qs ≡ Ok xs → PartsStand p s plainly_placed done qs →
+values_typed : (p : Place) (s : Setting) (done qs : List JudgedPart) (xs : List (Term × Shape)) → values qs ≡ Ok xs → PartsStand p s plainly_placed done qs →
     AllTyped (context_of p s) xs
 values_typed p s done [] xs e t = let k : [] ≡ xs = cc in subst (AllTyped (context_of p s)) k tt
 values_typed p s done (piece (value a c u) ∷ qs) xs e t =
@@ -78,20 +78,20 @@ came c changed k u to x w e h =
     coercion_ruled to e = (e, refl)
 came c refused k u to x w e h = absurd cc
 
-rows_typed : (c : Context) (t : Shape) (xs ys : List (Term × Shape)) → rows_to t xs ≡ Ok ys → AllTyped c xs → AllTyped c ys × AreAll t (seconds ys)
-rows_typed c t [] ys e h = let k : [] ≡ ys = cc in subst (λ zs. AllTyped c zs × AreAll t (seconds zs)) k (tt, tt)
+rows_typed : (c : Context) (t : Shape) (xs ys : List (Term × Shape)) → rows_to t xs ≡ Ok ys → AllTyped c xs → AllTyped c ys × AreAllOfShape t (seconds ys)
+rows_typed c t [] ys e h = let k : [] ≡ ys = cc in subst (λ zs. AllTyped c zs × AreAllOfShape t (seconds zs)) k (tt, tt)
 rows_typed c t (x ∷ xs) ys e h =
     let a = then_ok (by_way (way x.1 t) x.0 t) (λ y. put_first y (rows_to t xs)) ys e in
     let b = put_first_ok a.0 (rows_to t xs) ys a.2 in
     let one = came c (way x.1 t) x.0 x.1 t a.0 refl a.1 h.0 in
     let more = rows_typed c t xs b.0 b.1 h.1 in
-    subst (λ zs. AllTyped c zs × AreAll t (seconds zs)) (sym b.2) ((one.0, more.0), (one.1, more.1))
+    subst (λ zs. AllTyped c zs × AreAllOfShape t (seconds zs)) (sym b.2) ((one.0, more.0), (one.1, more.1))
 
 abbrev is_rows : Shape → Bool
 is_rows (tables cs) = true
 is_rows t = false
 
-list_ruled : (c : Context) (t : Shape) (cs : Terms) (us : List Shape) → is_rows t ≡ false → AreAll t us →
+list_ruled : (c : Context) (t : Shape) (cs : Terms) (us : List Shape) → is_rows t ≡ false → AreAllOfShape t us →
     IsRuled c (list t) cs us (tables (row_columns t))
 list_ruled c (tables ds) cs us e h = absurd cc
 list_ruled c blanks cs us e h = (h, refl)
@@ -121,14 +121,14 @@ list_as_typed c (Some (tables cs)) xs x h e = absurd cc
 list_as_typed c (Some blanks) xs x h e = list_by_typed c blanks xs x refl h e
 list_as_typed c (Some t) xs x h e = list_by_typed c t xs x refl h e
 
-pub table_typed : (p : Place) (s : Setting) (qs : List Part) (x : Term × Shape) → PartsStand p s plainly_placed [] qs →
-    and_then (values qs) table_of ≡ Ok x → Typed (context_of p s) x
+pub table_typed : (p : Place) (s : Setting) (qs : List JudgedPart) (x : Term × Shape) → PartsStand p s plainly_placed [] qs →
+    and_then (values qs) typed_table ≡ Ok x → Typed (context_of p s) x
 table_typed p s qs x t e =
-    let a = then_ok (values qs) table_of x e in
+    let a = then_ok (values qs) typed_table x e in
     list_as_typed (context_of p s) (join_all (Some (records no_columns)) a.0) a.0 x (values_typed p s [] qs a.0 a.1 t) a.2
 
 -- `With`: a record, and a formula in its scope
-abbrev pub with_placed : Bool → List Part → Standing
+abbrev pub with_placed : Bool → List JudgedPart → PartScope
 with_placed b d = (plan_with b (length d)).standing
 
 abbrev in_record : Context → Shape → Context
@@ -140,7 +140,7 @@ record_stood p s a k t =
     let rows = map_push (λ (r : Scope). r.row_type) s.scopes (first_record (piece (value a k t))) in
     λ i. record (context_of p s) { rows = rows i; caught = or-false s.catches i }
 
-with_parts : (p : Place) (s : Setting) (b : Bool) (qs : List Part) (r f : Term × Shape) → values qs ≡ Ok (r ∷ f ∷ []) →
+with_parts : (p : Place) (s : Setting) (b : Bool) (qs : List JudgedPart) (r f : Term × Shape) → values qs ≡ Ok (r ∷ f ∷ []) →
     PartsStand p s (with_placed b) [] qs → Typed (context_of p s) r × Typed (in_record (context_of p s) r.1) f
 with_parts p s b (piece (value a c t) ∷ piece (value d g u) ∷ qs) r f e h =
     let k = put_value_ok (c, t) (put_value (g, u) (values qs)) (r ∷ f ∷ []) e in
@@ -171,13 +171,13 @@ with_of_typed c r f x h g e =
     let inner = subst (λ t. IsTyped (record c { rows = c.rows ++ t ∷ [] }) f.0 f.1) k.2 g in
     subst (Typed c) y (records k.0 ∷ f.1 ∷ [], (records k.0, f.1 ∷ [], refl, k.1, (f.1, [], refl, inner, refl)), refl)
 
-with_values : (p : Place) (s : Setting) (b : Bool) (qs : List Part) (xs : List (Term × Shape)) (x : Term × Shape) →
+with_values : (p : Place) (s : Setting) (b : Bool) (qs : List JudgedPart) (xs : List (Term × Shape)) (x : Term × Shape) →
     PartsStand p s (with_placed b) [] qs → values qs ≡ Ok xs → with_of xs ≡ Ok x → Typed (context_of p s) x
 with_values p s b qs (r ∷ f ∷ []) x t v e =
     let k = with_parts p s b qs r f v t in with_of_typed (context_of p s) r f x k.0 k.1 e
 with_values p s b qs xs x t v e = absurd cc
 
-pub with_typed : (p : Place) (s : Setting) (b : Bool) (qs : List Part) (x : Term × Shape) → PartsStand p s (with_placed b) [] qs →
+pub with_typed : (p : Place) (s : Setting) (b : Bool) (qs : List JudgedPart) (x : Term × Shape) → PartsStand p s (with_placed b) [] qs →
     and_then (values qs) with_of ≡ Ok x → Typed (context_of p s) x
 with_typed p s b qs x t e =
     let a = then_ok (values qs) with_of x e in with_values p s b qs a.0 x t a.1 a.2
@@ -193,7 +193,7 @@ blanks_fit (column n t cs) = own_name n (fields_fit (blank_fields cs) cs) (blank
 blank_typed : (c : Context) (t : Target) (cs : ColumnList) → HasColumns c t cs → Typed c (blank_record cs)
 blank_typed c t cs h = ([], refl, (blanks_fit cs, inr (t, cs, h, refl)))
 
-pub defaults_typed : (c : Context) (n : Names) (qs : List Part) (x : Term × Shape) → Of n c → by_name qs (defaults_of n) ≡ Ok x → Typed c x
+pub defaults_typed : (c : Context) (n : Names) (qs : List JudgedPart) (x : Term × Shape) → Of n c → by_first_name qs (defaults_of n) ≡ Ok x → Typed c x
 defaults_typed c n qs x here e =
     let b = by_name_ok qs (defaults_of n) x e in
     let r = by_rows_ok (rows_named n b.0) (λ (r : Target × ColumnList). Ok (blank_record r.1)) x b.3 in

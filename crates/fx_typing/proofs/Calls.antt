@@ -14,19 +14,19 @@ use Rattle.fx_core.specs.declared.signatures.SigShape.TheVariants as sig
 use Rattle.fx_core.specs.declared.signatures.Signature.{Signature}
 use Rattle.fx_core.specs.declared.sources.Source.TheVariants as source
 use Rattle.fx_core.specs.Literals.{with_literal, time_unit, sort_order, number_format, date_format, format_by}
-use Rattle.fx_core.specs.Rows.{row_of, inner_at, takes_at, is_within}
+use Rattle.fx_core.specs.Rows.{row_of, inner_at, takes_at, is_arity}
 use Rattle.fx_core.specs.Signatures.{signature_in}
 use Rattle.fx_core.specs.Tree as tree
 use Rattle.fx_core.specs.Term.{Term, of, nil, read}
-use Rattle.fx_typing.specs.Local.{value, made}
+use Rattle.fx_typing.specs.Local.{value, node_made}
 use Rattle.fx_typing.specs.Meaning.{Place}
-use Rattle.fx_typing.specs.WellTyped.{Standing, plain, standing_of}
+use Rattle.fx_typing.specs.WellTyped.{PartScope, plain, standing_of}
 use Rattle.fx_typing.proofs.Rules.{Typed}
 use Rattle.fx_typing.specs.Breaks.{taken_at, mistells}
 use Rattle.fx_typing.specs.Builds.{bounded}
 use Rattle.fx_typing.specs.Calls.{literal_in, made_if, function_by, made_literal, called_by, called_with, called}
-use Rattle.fx_typing.specs.Parts.{nothing, Part, piece, Setting, may_act, piece_of, pieces, unless}
-use Rattle.fx_typing.specs.Plans.{planned, plan_by_row, pick, plan_either, plan_literal, plan_call, shape_in, called_as}
+use Rattle.fx_typing.specs.Parts.{nothing, JudgedPart, piece, Setting, may_act, piece_of, pieces, unless_rule}
+use Rattle.fx_typing.specs.Plans.{argument_rule, plan_by_row, pick, plan_either, plan_literal, plan_call, shape_in, called_as}
 use Rattle.fx_typing.specs.Typing.{is_too_deep, admit, context_of}
 use Rattle.fx_typing.proofs.Built.{within_limit, bounded_ok, table_typed, with_typed, defaults_typed}
 use Rattle.fx_typing.proofs.Frame.{PartTyped, PartsTypedAt}
@@ -50,37 +50,37 @@ function_first : (f : Fun) (n : ℕ) → standing_of (takes_at (row_of f) n 0) �
 function_first f n = ap standing_of (function_place f n 0) ∙ first_plain f
 
 -- under one name: the first part chooses, and the others follow its choice
-pick_by_first : (f g : Fun) (q : Part) (d e : List Part) → pick f g (q ∷ d) ≡ pick f g (q ∷ e)
+pick_by_first : (f g : Fun) (q : JudgedPart) (d e : List JudgedPart) → pick f g (q ∷ d) ≡ pick f g (q ∷ e)
 pick_by_first f g (piece (value (Some a) c t)) d e = refl
 pick_by_first f g (piece (value None c (tables cs))) d e = refl
 pick_by_first f g q d e = refl
 
-abbrev either_placed : Bool → Fun → Fun → ℕ → List Part → Standing
+abbrev either_placed : Bool → Fun → Fun → ℕ → List JudgedPart → PartScope
 either_placed b f g n d = (plan_either b f g n d).standing
 
-abbrev Begun : Part → List Part → Type 0
+abbrev Begun : JudgedPart → List JudgedPart → Type 0
 Begun q [] = ⊥
 Begun q (k ∷ d) = k ≡ q
 
 -- parts that stand as they would elsewhere, as long as something holds of the ones before
-stand_where : (p : Place) (s : Setting) (Holds : List Part → Type 0) (st to : List Part → Standing) (done qs : List Part) →
-    ((d : List Part) (q : Part) → Holds d → Holds (d ++ q ∷ [])) → ((d : List Part) → Holds d → st d ≡ to d) → Holds done →
+stand_where : (p : Place) (s : Setting) (Holds : List JudgedPart → Type 0) (st to : List JudgedPart → PartScope) (done qs : List JudgedPart) →
+    ((d : List JudgedPart) (q : JudgedPart) → Holds d → Holds (d ++ q ∷ [])) → ((d : List JudgedPart) → Holds d → st d ≡ to d) → Holds done →
     PartsStand p s st done qs → PartsStand p s to done qs
 stand_where p s Holds st to done [] goes e h t = tt
 stand_where p s Holds st to done (q ∷ qs) goes e h t =
     (subst (λ x. PartTyped (stood p s x done) q) (e done h) t.0, stand_where p s Holds st to (done ++ q ∷ []) qs goes e (goes done q h) t.1)
 
-begun_more : (q : Part) (d : List Part) (k : Part) → Begun q d → Begun q (d ++ k ∷ [])
+begun_more : (q : JudgedPart) (d : List JudgedPart) (k : JudgedPart) → Begun q d → Begun q (d ++ k ∷ [])
 begun_more q [] k h = absurd h
 begun_more q (x ∷ d) k h = h
 
-either_place : (b : Bool) (f g : Fun) (n : ℕ) (q : Part) (qs d : List Part) → Begun q d →
+either_place : (b : Bool) (f g : Fun) (n : ℕ) (q : JudgedPart) (qs d : List JudgedPart) → Begun q d →
     either_placed b f g n d ≡ by_row (row_of (pick f g (q ∷ qs))) n d
 either_place b f g n q qs [] h = absurd h
 either_place b f g n q qs (k ∷ d) h =
     ap (λ w. by_row (row_of w) n (k ∷ d)) (ap (λ w. pick f g (w ∷ d)) h ∙ pick_by_first f g q d qs)
 
-either_stand : (p : Place) (s : Setting) (b : Bool) (f g : Fun) (n : ℕ) (qs : List Part) → PartsStand p s (either_placed b f g n) [] qs →
+either_stand : (p : Place) (s : Setting) (b : Bool) (f g : Fun) (n : ℕ) (qs : List JudgedPart) → PartsStand p s (either_placed b f g n) [] qs →
     PartsStand p s (by_row (row_of (pick f g qs)) n) [] qs
 either_stand p s b f g n [] t = tt
 either_stand p s b f g n (q ∷ qs) t = (
@@ -89,11 +89,11 @@ either_stand p s b f g n (q ∷ qs) t = (
 )
 
 -- a literal behind the other arguments
-abbrev literal_placed : Bool → Fun → ℕ → List Part → Standing
+abbrev literal_placed : Bool → Fun → ℕ → List JudgedPart → PartScope
 literal_placed b f n d = (plan_literal b f n (length d)).standing
 
-stand_below : (p : Place) (s : Setting) (st to : List Part → Standing) (m : ℕ) (done qs : List Part) → length done + length qs ≤ m →
-    ((d : List Part) → length d < m → st d ≡ to d) → PartsStand p s st done qs → PartsStand p s to done qs
+stand_below : (p : Place) (s : Setting) (st to : List JudgedPart → PartScope) (m : ℕ) (done qs : List JudgedPart) → length done + length qs ≤ m →
+    ((d : List JudgedPart) → length d < m → st d ≡ to d) → PartsStand p s st done qs → PartsStand p s to done qs
 stand_below p s st to m done [] l e t = tt
 stand_below p s st to m done (q ∷ qs) l e t =
     let grows = length_grows done q in (
@@ -101,20 +101,20 @@ stand_below p s st to m done (q ∷ qs) l e t =
       stand_below p s st to m (done ++ q ∷ []) qs (omega arith) e t.1,
     )
 
-literal_place : (b : Bool) (f : Fun) (n : ℕ) (d : List Part) → length d < (row_of f).most → literal_placed b f n d ≡ by_row (row_of f) n d
+literal_place : (b : Bool) (f : Fun) (n : ℕ) (d : List JudgedPart) → length d < (row_of f).most → literal_placed b f n d ≡ by_row (row_of f) n d
 literal_place b f n d l = by_test (nat_lt (length d) (row_of f).most) (lt-ltb (length d) (row_of f).most l)
   where
     by_test : (t : Bool) → t ≡ true →
-        (if t then plan_by_row b (row_of f) n (length d) else planned plain nothing).standing ≡ standing_of (takes_at (row_of f) n (length d))
+        (if t then plan_by_row b (row_of f) n (length d) else argument_rule plain nothing).standing ≡ standing_of (takes_at (row_of f) n (length d))
     by_test true e = refl
     by_test false e = absurd cc
 
-stand_front : (p : Place) (s : Setting) (st : List Part → Standing) (m : ℕ) (done qs : List Part) → PartsStand p s st done qs → PartsStand p s st done (take m qs)
+stand_front : (p : Place) (s : Setting) (st : List JudgedPart → PartScope) (m : ℕ) (done qs : List JudgedPart) → PartsStand p s st done qs → PartsStand p s st done (take m qs)
 stand_front p s st zero done qs t = tt
 stand_front p s st (suc m) done [] t = tt
 stand_front p s st (suc m) done (q ∷ qs) t = (t.0, stand_front p s st m (done ++ q ∷ []) qs t.1)
 
-pieces_front : (m : ℕ) (qs : List Part) → pieces (take m qs) ≡ take m (pieces qs)
+pieces_front : (m : ℕ) (qs : List JudgedPart) → pieces (take m qs) ≡ take m (pieces qs)
 pieces_front zero qs = refl
 pieces_front (suc m) [] = refl
 pieces_front (suc m) (q ∷ qs) = ap (λ ps. piece_of q ∷ ps) (pieces_front m qs)
@@ -148,7 +148,7 @@ function_alike : (f : Fun) (o : Option (List ℕ)) → StandAlike f (function_by
 function_alike f (Some x) = literal_alike f (encode_utf8_all x)
 function_alike f None = tt
 
-front_typed : (p : Place) (s : Setting) (b : Bool) (f : Fun) (n : ℕ) (o : Option Fun) (qs : List Part) (x : Term × Shape) → StandAlike f o →
+front_typed : (p : Place) (s : Setting) (b : Bool) (f : Fun) (n : ℕ) (o : Option Fun) (qs : List JudgedPart) (x : Term × Shape) → StandAlike f o →
     PartsStand p s (literal_placed b f n) [] qs → made_if o (pieces (take (row_of f).most qs)) ≡ Ok x → Typed (context_of p s) x
 front_typed p s b f n (Some g) qs x alike t m =
     let front = take (row_of f).most qs in
@@ -160,7 +160,7 @@ front_typed p s b f n (Some g) qs x alike t m =
     ) m
 front_typed p s b f n None qs x alike t m = absurd cc
 
-literal_typed : (p : Place) (s : Setting) (b : Bool) (f : Fun) (qs : List Part) (x : Term × Shape) → PartsStand p s (literal_placed b f (length qs)) [] qs →
+literal_typed : (p : Place) (s : Setting) (b : Bool) (f : Fun) (qs : List JudgedPart) (x : Term × Shape) → PartsStand p s (literal_placed b f (length qs)) [] qs →
     made_literal f (pieces qs) ≡ Ok x → Typed (context_of p s) x
 literal_typed p s b f qs x t m = by_most (nat_le (length (pieces qs)) (row_of f).most) refl m
   where
@@ -177,7 +177,7 @@ literal_typed p s b f qs x t m = by_most (nat_le (length (pieces qs)) (row_of f)
     by_one_more false e = absurd cc
 
     by_most : (k : Bool) → nat_le (length (pieces qs)) most ≡ k →
-        (if k then made f (pieces qs) else (if nat_eq (length (pieces qs)) (suc most) then with_literal_behind else Err 7)) ≡ Ok x → Typed (context_of p s) x
+        (if k then node_made f (pieces qs) else (if nat_eq (length (pieces qs)) (suc most) then with_literal_behind else Err 7)) ≡ Ok x → Typed (context_of p s) x
     by_most true i e =
         let few = leb-true (length (pieces qs)) most i in
         let same = pieces_length qs in
@@ -187,14 +187,14 @@ literal_typed p s b f qs x t m = by_most (nat_le (length (pieces qs)) (row_of f)
     by_most false i e = by_one_more (nat_eq (length (pieces qs)) (suc most)) e
 
 -- what the signature of a call makes of arguments that stand where it puts them
-abbrev pub call_placed : Setting → Option SigShape → ℕ → List Part → Standing
+abbrev pub call_placed : Setting → Option SigShape → ℕ → List JudgedPart → PartScope
 call_placed s o n d = (plan_call (may_act s.grant) o n d).standing
 
-shape_typed : (p : Place) (s : Setting) (k : SigShape) (qs : List Part) (x : Term × Shape) → PartsStand p s (call_placed s (Some k) (length qs)) [] qs →
+shape_typed : (p : Place) (s : Setting) (k : SigShape) (qs : List JudgedPart) (x : Term × Shape) → PartsStand p s (call_placed s (Some k) (length qs)) [] qs →
     called_by p s k qs ≡ Ok x → ((a : Acting) → k ≡ sig.Act a → Typed (context_of p s) x) → Typed (context_of p s) x
 shape_typed p s (sig.One f) qs x t e acts =
-    let one = within_limit (is_some (taken_at f qs)) 5 (unless (mistells f qs) 6 (made f (pieces qs))) x e in
-    function_law p s f qs x t (within_limit (mistells f qs) 6 (made f (pieces qs)) x one)
+    let one = within_limit (is_some (taken_at f qs)) 5 (unless_rule (mistells f qs) 6 (node_made f (pieces qs))) x e in
+    function_law p s f qs x t (within_limit (mistells f qs) 6 (node_made f (pieces qs)) x one)
 shape_typed p s (sig.Either f g) qs x t e acts = function_law p s (pick f g qs) qs x (either_stand p s (may_act s.grant) f g (length qs) qs t) e
 shape_typed p s (sig.Literal f) qs x t e acts = literal_typed p s (may_act s.grant) f qs x t e
 shape_typed p s (sig.Form f) qs x t e acts = form_law p s f qs x t e
@@ -206,15 +206,15 @@ shape_typed p s sig.Defaults qs x t e acts = defaults_typed (context_of p s) p.n
 shape_typed p s (sig.Act a) qs x t e acts = acts a refl
 
 -- what acting calls of this name, with these parts, make is well typed
-abbrev pub ActsTyped : Place → Setting → List ℕ → List Part → Type 0
+abbrev pub ActsTyped : Place → Setting → List ℕ → List JudgedPart → Type 0
 ActsTyped p s x qs =
     (a : Acting) (y : Term × Shape) → called_as p.names x ≡ Some (sig.Act a) → called_by p s (sig.Act a) qs ≡ Ok y → Typed (context_of p s) y
 
 -- THE law of calls: what is admitted of well typed arguments is a well typed tree, where that holds of acting calls
-pub call_typed : (p : Place) (s : Setting) (x : List ℕ) (qs : List Part) (q : Part) → ActsTyped p s x qs →
+pub call_typed : (p : Place) (s : Setting) (x : List ℕ) (qs : List JudgedPart) (q : JudgedPart) → ActsTyped p s x qs →
     admit p s (tree.call x) qs ≡ Ok q → PartsTypedAt p s (tree.call x) (length qs) [] qs → AsTree (context_of p s) q
 call_typed p s x qs q acts e t =
-    as_tree (context_of p s) (unless (is_too_deep p s (tree.call x) qs) 13 (called p s x qs)) q e (λ y m.
+    as_tree (context_of p s) (unless_rule (is_too_deep p s (tree.call x) qs) 13 (called p s x qs)) q e (λ y m.
     by_name (signature_in p.names.signatures.now (encode_utf8_all x)) y refl (within_limit (is_too_deep p s (tree.call x) qs) 13 (called p s x qs) y m))
   where
     by_count : (f : Signature) (b : Bool) (y : Term × Shape) → called_as p.names x ≡ Some f.shape → (if b then bounded (called_by p s f.shape qs) else Err 7) ≡ Ok y →
@@ -227,5 +227,5 @@ call_typed p s x qs q acts e t =
 
     by_name : (o : Option Signature) (y : Term × Shape) → signature_in p.names.signatures.now (encode_utf8_all x) ≡ o → called_with p s o qs ≡ Ok y →
         Typed (context_of p s) y
-    by_name (Some f) y i m = by_count f (is_within f.least f.most (length qs)) y (ap shape_in i) m
+    by_name (Some f) y i m = by_count f (is_arity f.least f.most (length qs)) y (ap shape_in i) m
     by_name None y i m = absurd cc

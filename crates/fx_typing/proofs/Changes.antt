@@ -14,13 +14,13 @@ use Rattle.fx_core.specs.declared.names.Names.{Names}
 use Rattle.fx_core.specs.Term.{Term, of, nil, cons, read, list, act}
 use Rattle.fx_core.specs.ColumnLists.{field_in}
 use Rattle.fx_typing.specs.Local.{coerced, by_way, firsts}
-use Rattle.fx_typing.specs.WellTyped.{Context, context_for, inside, target_source, IsNumbered, IsNamedRow, AreNamedRows, LeavesId, IsChange, AreChanges, IsFilterOf, HasColumns, IsDone, IsTyped}
+use Rattle.fx_typing.specs.WellTyped.{Context, context_for, inside, target_source, IsNumbered, IsNamedRow, AreNamedRows, LeavesId, IsChange, AreChanges, IsFilterOf, HasColumns, DeedHasType, IsTyped}
 use Rattle.fx_typing.specs.Ways.{way}
 use Rattle.fx_typing.proofs.Rules.{Typed}
 use Rattle.fx_typing.proofs.Same.{shape_same}
 use Rattle.fx_typing.specs.Builds.{types_of}
-use Rattle.fx_typing.specs.Deeds.{done_by, is_type, joins_to, misfit, settable, when_columns, by_id, row_named, rows_named_by, leaves_id, row_of_one, change_of, changes_of, patch_to, patch_of, remove_of, filter_of, remove_if, update_to, update_if, navigate_of, notify_of, reset_by, reset_of}
-use Rattle.fx_typing.specs.Parts.{Part, target, values, pieces}
+use Rattle.fx_typing.specs.Deeds.{done_by, is_type, joins_to, misfit, settable, when_columns, by_id, row_typed, rows_named_by, leaves_id, row_of_one, change_of, changes_of, patch_to, patch_of, remove_of, filter_of, remove_if, update_to, update_if, navigate_of, notify_of, reset_by, reset_of}
+use Rattle.fx_typing.specs.Parts.{JudgedPart, target, values, pieces}
 use Rattle.fx_typing.specs.Targets.{screen_named, control_named, rows_named, columns_or_none, target_columns}
 use Rattle.fx_typing.proofs.Deeds.{Of, if_known_ok, by_rows_ok, has_columns}
 use Rattle.fx_typing.proofs.Filters.{in_row, filter_typed, filter_made}
@@ -53,7 +53,7 @@ by_id_named c k cs m ds (Some numbers) y h i e = subst (NamesRow c (rows.Table k
 by_id_named c k cs m ds (Some blanks) y h i e = subst (NamesRow c (rows.Table k) cs) (ok_is _ y e) (h, subst IsNumbered (sym i) tt)
 by_id_named c k cs m ds o y h i e = absurd cc
 
-row_named_typed : (c : Context) (t : Target) (cs : ColumnList) (m : Term) (u : Shape) (y : Term × Shape) → IsTyped c m u → row_named t cs (m, u) ≡ Ok y → NamesRow c t cs y
+row_named_typed : (c : Context) (t : Target) (cs : ColumnList) (m : Term) (u : Shape) (y : Term × Shape) → IsTyped c m u → row_typed t cs (m, u) ≡ Ok y → NamesRow c t cs y
 row_named_typed c (rows.Table k) cs m (records ds) y h e = by_id_named c k cs m ds (field_in (codes "ID") ds) y h refl e
 row_named_typed c (rows.Table k) cs m blanks y h e =
     subst (NamesRow c (rows.Table k) cs) (ok_is _ y e) (coerced_typed c m blanks (records (column (codes "ID") numbers no_columns)) refl h, tt)
@@ -69,7 +69,7 @@ rows_named_typed : (c : Context) (t : Target) (cs : ColumnList) (xs ys : List (T
     AllTyped c ys × AreNamedRows t cs (types_of ys)
 rows_named_typed c t cs [] ys h e = let k : [] ≡ ys = cc in subst (λ (zs : List (Term × Shape)). AllTyped c zs × AreNamedRows t cs (types_of zs)) k (tt, tt)
 rows_named_typed c t cs (x ∷ xs) ys h e =
-    let a = lowest_ok _ (row_named t cs x) (rows_named_by t cs xs) ys e in
+    let a = lowest_ok _ (row_typed t cs x) (rows_named_by t cs xs) ys e in
     let one = row_named_typed c t cs x.0 x.1 a.0 h.0 a.1 in
     let more = rows_named_typed c t cs xs a.2 h.1 a.3 in
     subst (λ (zs : List (Term × Shape)). AllTyped c zs × AreNamedRows t cs (types_of zs)) a.4 ((one.0, more.0), (one.1, more.1))
@@ -123,20 +123,20 @@ changes_typed c t cs (x ∷ xs) ys h e =
 patch_to_typed : (c : Context) (t : Target) (cs : ColumnList) (xs : List (Term × Shape)) (y : Term × Shape) → HasColumns c t cs → AllTyped c xs → patch_to (t, cs) xs ≡ Ok y → Typed c y
 patch_to_typed c t cs [] y has h e = absurd cc
 patch_to_typed c t cs (base ∷ changes) y has h e =
-    let a = lowest_ok _ (row_named t cs base) (changes_of t cs changes) y e in
+    let a = lowest_ok _ (row_typed t cs base) (changes_of t cs changes) y e in
     let one = row_named_typed c t cs base.0 base.1 a.0 h.0 a.1 in
     let more = changes_typed c t cs changes a.2 h.1 a.3 in
     subst (Typed c) a.4 (
     typed_by c (act (deed.Patch t)) (a.0 ∷ a.2) (records cs) (λ n i. refl) (one.0, more.0) (cs, has, one.1, more.1, refl)
     )
 
-pub patch_typed : (n : Names) (c : Context) (x : List ℕ) (qs : List Part) (y : Term × Shape) → Of n c → EachTyped c qs → patch_of n x qs ≡ Ok y → Typed c y
+pub patch_typed : (n : Names) (c : Context) (x : List ℕ) (qs : List JudgedPart) (y : Term × Shape) → Of n c → EachTyped c qs → patch_of n x qs ≡ Ok y → Typed c y
 patch_typed n c x qs y here h e =
     let a = then_ok (values qs) _ y e in
     let r = by_rows_ok (rows_named n x) (λ r. patch_to r a.0) y a.2 in
     patch_to_typed c r.0 r.1 a.0 y (here (target_source r.0) ∙ has_columns n x r.0 r.1 r.2) (values_typed c qs a.0 a.1 h) r.3
 
-pub remove_typed : (n : Names) (c : Context) (x : List ℕ) (qs : List Part) (y : Term × Shape) → Of n c → EachTyped c qs → remove_of n x qs ≡ Ok y → Typed c y
+pub remove_typed : (n : Names) (c : Context) (x : List ℕ) (qs : List JudgedPart) (y : Term × Shape) → Of n c → EachTyped c qs → remove_of n x qs ≡ Ok y → Typed c y
 remove_typed n c x qs y here h e =
     let a = then_ok (values qs) _ y e in
     let r = by_rows_ok (rows_named n x) _ y a.2 in
@@ -150,7 +150,7 @@ remove_typed n c x qs y here h e =
 abbrev Filtered : Context → Target → ColumnList → Term × Shape → Type 0
 Filtered c t cs f = Typed c f × IsFilterOf t f.0 × (f.1 ≡ tables cs)
 
-filter_of_typed : (c : Context) (t : Target) (cs : ColumnList) (a : Option (List ℕ)) (qs : List Part) (f : Term × Shape) → HasColumns c t cs → EachTyped (in_row c cs) qs →
+filter_of_typed : (c : Context) (t : Target) (cs : ColumnList) (a : Option (List ℕ)) (qs : List JudgedPart) (f : Term × Shape) → HasColumns c t cs → EachTyped (in_row c cs) qs →
     filter_of (t, cs) a qs ≡ Ok f → Filtered c t cs f
 filter_of_typed c t cs a qs f has h e =
     let k = filter_made a (of (read (target_source t)) nil) cs (pieces qs) f e in (
@@ -162,7 +162,7 @@ filter_of_typed c t cs a qs f has h e =
 columns_known : (n : Names) (x : List ℕ) (t : Target) (cs : ColumnList) → rows_named n x ≡ Some (t, tables cs) → target_columns n x ≡ cs
 columns_known n x t cs e = ap columns_or_none e
 
-pub remove_if_typed : (n : Names) (c : Context) (a : Option (List ℕ)) (x : List ℕ) (qs : List Part) (y : Term × Shape) → Of n c → EachTyped (in_row c (target_columns n x)) qs →
+pub remove_if_typed : (n : Names) (c : Context) (a : Option (List ℕ)) (x : List ℕ) (qs : List JudgedPart) (y : Term × Shape) → Of n c → EachTyped (in_row c (target_columns n x)) qs →
     remove_if n (target a x ∷ qs) ≡ Ok y → Typed c y
 remove_if_typed n c a x qs y here h e =
     let r = by_rows_ok (rows_named n x) _ y e in
@@ -171,7 +171,7 @@ remove_if_typed n c a x qs y here h e =
     let f = filter_of_typed c r.0 r.1 a qs b.0 has (subst (λ cs. EachTyped (in_row c cs) qs) (columns_known n x r.0 r.1 r.2) h) b.1 in
     subst (Typed c) (ok_is _ y b.2) (typed_by c (act (deed.RemoveIf r.0)) (b.0 ∷ []) booleans (λ m i. refl) (f.0, tt) (f.1, refl))
 
-update_to_typed : (c : Context) (t : Target) (cs : ColumnList) (a : Option (List ℕ)) (q : Part) (xs : List (Term × Shape)) (y : Term × Shape) → HasColumns c t cs →
+update_to_typed : (c : Context) (t : Target) (cs : ColumnList) (a : Option (List ℕ)) (q : JudgedPart) (xs : List (Term × Shape)) (y : Term × Shape) → HasColumns c t cs →
     EachTyped (in_row c cs) (q ∷ []) → AllTyped (in_row c cs) xs → update_to (t, cs) a q xs ≡ Ok y → Typed c y
 update_to_typed c t cs a q [] y has h k e = absurd cc
 update_to_typed c t cs a q (x ∷ []) y has h k e =
@@ -188,7 +188,7 @@ update_to_typed c t cs a q (x ∷ []) y has h k e =
     )
 update_to_typed c t cs a q (x ∷ z ∷ xs) y has h k e = absurd cc
 
-pub update_if_typed : (n : Names) (c : Context) (a : Option (List ℕ)) (x : List ℕ) (q : Part) (qs : List Part) (y : Term × Shape) → Of n c →
+pub update_if_typed : (n : Names) (c : Context) (a : Option (List ℕ)) (x : List ℕ) (q : JudgedPart) (qs : List JudgedPart) (y : Term × Shape) → Of n c →
     EachTyped (in_row c (target_columns n x)) (q ∷ qs) → update_if n (target a x ∷ q ∷ qs) ≡ Ok y → Typed c y
 update_if_typed n c a x q qs y here h e =
     let v = then_ok (values qs) _ y e in
@@ -196,7 +196,7 @@ update_if_typed n c a x q qs y here h e =
     let k = subst (λ cs. EachTyped (in_row c cs) (q ∷ qs)) (columns_known n x r.0 r.1 r.2) h in
     update_to_typed c r.0 r.1 a q v.0 y (here (target_source r.0) ∙ has_columns n x r.0 r.1 r.2) (k.0, tt) (values_typed (in_row c r.1) qs v.0 v.1 k.1) r.3
 
-pub navigate_typed : (n : Names) (c : Context) (x : List ℕ) (qs : List Part) (y : Term × Shape) → c.screens ≡ length n.screens → navigate_of n x qs ≡ Ok y → Typed c y
+pub navigate_typed : (n : Names) (c : Context) (x : List ℕ) (qs : List JudgedPart) (y : Term × Shape) → c.screens ≡ length n.screens → navigate_of n x qs ≡ Ok y → Typed c y
 navigate_typed n c x qs y here e =
     let s = if_known_ok (screen_named n x) (λ (s : ℕ × List ℕ). Ok (done_by (deed.Navigate s.0) [])) y e in
     let f = found (λ (s : List ℕ). bytes_eq s x) n.screens s.0 s.1 in
@@ -208,7 +208,7 @@ notify_typed c (x ∷ []) y h e =
     let a = then_ok (by_way (way x.1 texts) x.0 texts) (λ z. Ok (done_by deed.Notify (z.0 ∷ []))) y e in
     let w = came c x.0 x.1 texts a.0 a.1 h.0 in
     subst (Typed c) (ok_is _ y a.2) (
-    typed_by c (act deed.Notify) (a.0 ∷ []) booleans (λ m i. refl) (w.0, tt) (subst (λ u. IsDone c deed.Notify (cons a.0.0 nil) (u ∷ []) booleans) (sym w.1) refl)
+    typed_by c (act deed.Notify) (a.0 ∷ []) booleans (λ m i. refl) (w.0, tt) (subst (λ u. DeedHasType c deed.Notify (cons a.0.0 nil) (u ∷ []) booleans) (sym w.1) refl)
     )
 notify_typed c (x ∷ z ∷ xs) y h e = absurd cc
 
@@ -216,7 +216,7 @@ reset_by_typed : (c : Context) (k : ℕ) (o : Option Shape) (y : Term × Shape) 
 reset_by_typed c k (Some t) y h e = subst (Typed c) (ok_is _ y e) ([], refl, (ap is_some h, refl))
 reset_by_typed c k None y h e = absurd cc
 
-pub reset_typed : (n : Names) (c : Context) (x : List ℕ) (qs : List Part) (y : Term × Shape) → Of n c → reset_of n x qs ≡ Ok y → Typed c y
+pub reset_typed : (n : Names) (c : Context) (x : List ℕ) (qs : List JudgedPart) (y : Term × Shape) → Of n c → reset_of n x qs ≡ Ok y → Typed c y
 reset_typed n c x qs y here e =
     let v = if_known_ok (control_named n x) (λ (v : ℕ × ControlName). reset_by v.0 (input_type v.1.kind)) y e in
     let f = found (λ (v : ControlName). bytes_eq v.name x) n.controls v.0 v.1 in

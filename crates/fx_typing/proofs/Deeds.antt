@@ -16,12 +16,12 @@ use Rattle.fx_core.specs.SourceTypes.{columns_of, sources}
 use Rattle.fx_core.specs.Term.{Term, list, act}
 use Rattle.fx_core.specs.ColumnLists.{row_columns}
 use Rattle.fx_typing.specs.Local.{by_way, firsts, put_first}
-use Rattle.fx_typing.specs.WellTyped.{Context, AreAll, target_source, HasColumns, IsTyped}
+use Rattle.fx_typing.specs.WellTyped.{Context, AreAllOfShape, target_source, HasColumns, IsTyped}
 use Rattle.fx_typing.specs.Ways.{way}
 use Rattle.fx_typing.proofs.Rules.{Typed, put_ok}
 use Rattle.fx_typing.specs.Builds.{types_of}
-use Rattle.fx_typing.specs.Deeds.{done_by, joins_to, given, by_name, if_known, by_rows, set_to, set_of, give_one, give_all, given_sources, given_terms, update_of, rows_of, rows_given, collect_to, collect_of, clear_by, clear_of}
-use Rattle.fx_typing.specs.Parts.{Part, target, assigned, values}
+use Rattle.fx_typing.specs.Deeds.{done_by, joins_to, given_variable, by_first_name, if_known, by_rows, set_to, set_of, give_one, give_all, given_sources, given_terms, update_of, rows_collected, rows_given, collect_to, collect_of, clear_by, clear_of}
+use Rattle.fx_typing.specs.Parts.{JudgedPart, target, assigned, values}
 use Rattle.fx_typing.specs.Targets.{global_variable, screen_variable, collection_named, table_named, rows_named}
 use Rattle.fx_typing.proofs.Frame.{AllTyped}
 use Rattle.fx_typing.proofs.Names.{or_cases, global_read, context_read, gathered_read, table_read}
@@ -34,8 +34,8 @@ abbrev pub Of : Names → Context → Type 0
 Of n c = (s : Source) → c.sources s ≡ sources n s
 
 -- the parts of an acting call
-pub by_name_ok : (qs : List Part) (go : List ℕ → List Part → Result (Term × Shape) ℕ) (y : Term × Shape) → by_name qs go ≡ Ok y →
-    (x : List ℕ) × (more : List Part) × (qs ≡ target None x ∷ more) × (go x more ≡ Ok y)
+pub by_name_ok : (qs : List JudgedPart) (go : List ℕ → List JudgedPart → Result (Term × Shape) ℕ) (y : Term × Shape) → by_first_name qs go ≡ Ok y →
+    (x : List ℕ) × (more : List JudgedPart) × (qs ≡ target None x ∷ more) × (go x more ≡ Ok y)
 by_name_ok (target None x ∷ qs) go y e = (x, qs, refl, e)
 by_name_ok qs go y e = absurd cc
 
@@ -79,13 +79,13 @@ never_ok k y e = cc
 abbrev Given : Context → Shape → Term × Shape → Term × Shape → Type 0
 Given c t x y = Typed c y × (y.1 ≡ t) × (joins_to t x.1 ≡ true)
 
-given_typed : (c : Context) (t : Shape) (x y : Term × Shape) → Typed c x → given t x ≡ Ok y → Given c t x y
+given_typed : (c : Context) (t : Shape) (x y : Term × Shape) → Typed c x → given_variable t x ≡ Ok y → Given c t x y
 given_typed c t x y h e =
     let j = if_joins (joins_to t x.1) (by_way (way x.1 t) x.0 t) (Err 11) y e (λ i k. never_ok 11 y k) in
     let w = came c x.0 x.1 t y j.1 h in
     (w.0, w.1, j.0)
 
-pub set_typed : (n : Names) (c : Context) (x : List ℕ) (qs : List Part) (y : Term × Shape) → Of n c → EachTyped c qs → set_of n x qs ≡ Ok y → Typed c y
+pub set_typed : (n : Names) (c : Context) (x : List ℕ) (qs : List JudgedPart) (y : Term × Shape) → Of n c → EachTyped c qs → set_of n x qs ≡ Ok y → Typed c y
 set_typed n c x qs y here h e =
     let a = then_ok (values qs) _ y e in
     let v = if_known_ok (global_variable n x) (λ v. set_to v a.0) y a.2 in
@@ -94,7 +94,7 @@ set_typed n c x qs y here h e =
     by_values : (xs : List (Term × Shape)) → AllTyped c xs → (v : ℕ × Variable) → global_variable n x ≡ Some v → set_to v xs ≡ Ok y → Typed c y
     by_values [] t v i j = absurd cc
     by_values (x1 ∷ []) t v i j =
-        let g = then_ok (given (shape v.1.ty) x1) (λ z. Ok (done_by (deed.Set v.0) (z.0 ∷ []))) y j in
+        let g = then_ok (given_variable (shape v.1.ty) x1) (λ z. Ok (done_by (deed.Set v.0) (z.0 ∷ []))) y j in
         let w = given_typed c (shape v.1.ty) x1 g.0 t.0 g.1 in
         subst (Typed c) (ok_is _ y g.2) (
         typed_by c (act (deed.Set v.0)) (g.0 ∷ []) booleans (λ m k. refl) (w.0, tt) (here (source.Global v.0) ∙ global_read n x v i ∙ ap (λ u. Some u) (sym w.1), refl)
@@ -121,12 +121,12 @@ all_given_typed n c s (m ∷ ms) (x ∷ xs) gs here h e =
   where
     by_variable : (o : Option (ℕ × Variable)) → screen_variable n s m ≡ o → (g : Source × Term) → give_one o x ≡ Ok g → GaveOne c g
     by_variable (Some v) i g j =
-        let r = then_ok (given (shape v.1.ty) x) (λ y. Ok (source.Context v.0, y.0)) g j in
+        let r = then_ok (given_variable (shape v.1.ty) x) (λ y. Ok (source.Context v.0, y.0)) g j in
         let w = given_typed c (shape v.1.ty) x r.0 h.0 r.1 in
         subst (GaveOne c) (ok_is _ g r.2) (r.0, refl, w.0, here (source.Context v.0) ∙ context_read n s m v i ∙ ap (λ u. Some u) (sym w.1))
     by_variable None i g j = absurd cc
 
-pub update_typed : (n : Names) (c : Context) (s : Option ℕ) (qs : List Part) (y : Term × Shape) → Of n c → EachTyped c qs → update_of n s qs ≡ Ok y → Typed c y
+pub update_typed : (n : Names) (c : Context) (s : Option ℕ) (qs : List JudgedPart) (y : Term × Shape) → Of n c → EachTyped c qs → update_of n s qs ≡ Ok y → Typed c y
 update_typed n c (Some s) (assigned ms xs ∷ []) y here h e =
     let a = then_ok (give_all n (Some s) ms xs) (λ gs. Ok (done_by (deed.UpdateContext (given_sources gs)) (given_terms gs))) y e in
     let g = all_given_typed n c (Some s) ms xs a.0 here h.0 a.1 in
@@ -137,7 +137,7 @@ update_typed n c (Some s) (assigned ms xs ∷ []) y here h e =
 update_typed n c s qs y here h e = absurd cc
 
 -- collected values as rows
-one_row : (c : Context) (k : Term) (t : Shape) → IsTyped c k t → Typed c (rows_of (k, t))
+one_row : (c : Context) (k : Term) (t : Shape) → IsTyped c k t → Typed c (rows_collected (k, t))
 one_row c k (tables cs) h = h
 one_row c k blanks h = typed_by c (list blanks) ((k, blanks) ∷ []) (tables (row_columns blanks)) (λ m i. refl) (h, tt) ((refl, tt), refl)
 one_row c k numbers h = typed_by c (list numbers) ((k, numbers) ∷ []) (tables (row_columns numbers)) (λ m i. refl) (h, tt) ((refl, tt), refl)
@@ -146,7 +146,7 @@ one_row c k booleans h = typed_by c (list booleans) ((k, booleans) ∷ []) (tabl
 one_row c k dates h = typed_by c (list dates) ((k, dates) ∷ []) (tables (row_columns dates)) (λ m i. refl) (h, tt) ((refl, tt), refl)
 one_row c k (records cs) h = typed_by c (list (records cs)) ((k, records cs) ∷ []) (tables (row_columns (records cs))) (λ m i. refl) (h, tt) ((refl, tt), refl)
 
-rows_are : (k : Term) (t : Shape) → (cs : ColumnList) × ((rows_of (k, t)).1 ≡ tables cs)
+rows_are : (k : Term) (t : Shape) → (cs : ColumnList) × ((rows_collected (k, t)).1 ≡ tables cs)
 rows_are k (tables cs) = (cs, refl)
 rows_are k blanks = (row_columns blanks, refl)
 rows_are k numbers = (row_columns numbers, refl)
@@ -165,18 +165,18 @@ joins_rows booleans ds e = absurd cc
 joins_rows dates ds e = absurd cc
 joins_rows (records cs) ds e = absurd cc
 
-given_rows : (c : Context) (t : Shape) (xs ys : List (Term × Shape)) → AllTyped c xs → rows_given t xs ≡ Ok ys → AllTyped c ys × AreAll t (types_of ys)
-given_rows c t [] ys h e = let k : [] ≡ ys = cc in subst (λ (zs : List (Term × Shape)). AllTyped c zs × AreAll t (types_of zs)) k (tt, tt)
+given_rows : (c : Context) (t : Shape) (xs ys : List (Term × Shape)) → AllTyped c xs → rows_given t xs ≡ Ok ys → AllTyped c ys × AreAllOfShape t (types_of ys)
+given_rows c t [] ys h e = let k : [] ≡ ys = cc in subst (λ (zs : List (Term × Shape)). AllTyped c zs × AreAllOfShape t (types_of zs)) k (tt, tt)
 given_rows c t (x ∷ xs) ys h e =
-    let a = then_ok (given t (rows_of x)) (λ y. put_first y (rows_given t xs)) ys e in
+    let a = then_ok (given_variable t (rows_collected x)) (λ y. put_first y (rows_given t xs)) ys e in
     let b = put_ok a.0 (rows_given t xs) ys a.2 in
-    let one = given_typed c t (rows_of x) a.0 (one_row c x.0 x.1 h.0) a.1 in
+    let one = given_typed c t (rows_collected x) a.0 (one_row c x.0 x.1 h.0) a.1 in
     let more = given_rows c t xs b.0 h.1 b.1 in
-    subst (λ (zs : List (Term × Shape)). AllTyped c zs × AreAll t (types_of zs)) (sym b.2) ((one.0, more.0), (one.1, more.1))
+    subst (λ (zs : List (Term × Shape)). AllTyped c zs × AreAllOfShape t (types_of zs)) (sym b.2) ((one.0, more.0), (one.1, more.1))
 
 -- a deed of rows of a collection
 abbrev pub Gathers : (ℕ → Deed) → Type 0
-Gathers d = (c : Context) (k : ℕ) (ds : ColumnList) (ys : List (Term × Shape)) → HasColumns c (rows.Gathered k) ds → AllTyped c ys → AreAll (tables ds) (types_of ys) →
+Gathers d = (c : Context) (k : ℕ) (ds : ColumnList) (ys : List (Term × Shape)) → HasColumns c (rows.Gathered k) ds → AllTyped c ys → AreAllOfShape (tables ds) (types_of ys) →
     Typed c (done_by (d k) (firsts ys))
 
 pub collects : Gathers deed.Collect
@@ -185,7 +185,7 @@ collects c k ds ys h t a = typed_by c (act (deed.Collect k)) ys booleans (λ m i
 pub clears_and_collects : Gathers deed.ClearCollect
 clears_and_collects c k ds ys h t a = typed_by c (act (deed.ClearCollect k)) ys booleans (λ m i. refl) t (ds, h, a, refl)
 
-pub collect_typed : (d : ℕ → Deed) → Gathers d → (n : Names) (c : Context) (x : List ℕ) (qs : List Part) (y : Term × Shape) → Of n c → EachTyped c qs →
+pub collect_typed : (d : ℕ → Deed) → Gathers d → (n : Names) (c : Context) (x : List ℕ) (qs : List JudgedPart) (y : Term × Shape) → Of n c → EachTyped c qs →
     collect_of d n x qs ≡ Ok y → Typed c y
 collect_typed d gathers n c x qs y here h e =
     let a = then_ok (values qs) _ y e in
@@ -196,14 +196,14 @@ collect_typed d gathers n c x qs y here h e =
     by_values [] t v i j = absurd cc
     by_values (x1 ∷ xs) t v i j =
         let g = then_ok (rows_given (shape v.1.ty) (x1 ∷ xs)) (λ ys. Ok (done_by (d v.0) (firsts ys))) y j in
-        let first = then_ok (given (shape v.1.ty) (rows_of x1)) (λ y. put_first y (rows_given (shape v.1.ty) xs)) g.0 g.1 in
-        let one = given_typed c (shape v.1.ty) (rows_of x1) first.0 (one_row c x1.0 x1.1 t.0) first.1 in
+        let first = then_ok (given_variable (shape v.1.ty) (rows_collected x1)) (λ y. put_first y (rows_given (shape v.1.ty) xs)) g.0 g.1 in
+        let one = given_typed c (shape v.1.ty) (rows_collected x1) first.0 (one_row c x1.0 x1.1 t.0) first.1 in
         let r = rows_are x1.0 x1.1 in
         let ds = joins_rows (shape v.1.ty) r.0 (subst (λ u. joins_to (shape v.1.ty) u ≡ true) r.1 one.2) in
         let rows = given_rows c (shape v.1.ty) (x1 ∷ xs) g.0 t g.1 in
         subst (Typed c) (ok_is _ y g.2) (
         gathers c v.0 ds.0 g.0 (here (source.Gathered v.0) ∙ gathered_read n x v i ∙ ap (λ u. Some u) ds.1) rows.0
-        (subst (λ u. AreAll u (types_of g.0)) ds.1 rows.1)
+        (subst (λ u. AreAllOfShape u (types_of g.0)) ds.1 rows.1)
         )
 
 clear_by_typed : (c : Context) (k : ℕ) (t : Shape) (y : Term × Shape) → c.sources (source.Gathered k) ≡ Some t → clear_by k t ≡ Ok y → Typed c y
@@ -215,7 +215,7 @@ clear_by_typed c k booleans y h e = absurd cc
 clear_by_typed c k dates y h e = absurd cc
 clear_by_typed c k (records cs) y h e = absurd cc
 
-pub clear_typed : (n : Names) (c : Context) (x : List ℕ) (qs : List Part) (y : Term × Shape) → Of n c → clear_of n x qs ≡ Ok y → Typed c y
+pub clear_typed : (n : Names) (c : Context) (x : List ℕ) (qs : List JudgedPart) (y : Term × Shape) → Of n c → clear_of n x qs ≡ Ok y → Typed c y
 clear_typed n c x qs y here e =
     let v = if_known_ok (collection_named n x) (λ (v : ℕ × Collection). clear_by v.0 (shape v.1.ty)) y e in
     clear_by_typed c v.0.0 (shape v.0.1.ty) y (here (source.Gathered v.0.0) ∙ gathered_read n x v.0 v.1) v.2

@@ -7,10 +7,10 @@ use Rattle.fx_core.specs.declared.rows.Scalar.TheVariants.{Boolean}
 use Rattle.fx_core.specs.declared.rows.Takes.TheVariants as takes
 use Rattle.fx_core.specs.Rows.{row_of, takes_at, takes_count}
 use Rattle.fx_core.specs.Term.{Term, Terms, of, cons, all, over}
-use Rattle.fx_typing.specs.Local.{Piece, value, label, coerced, stand_all, stand_rest, branches, common_of, firsts, answer_by, made_as, made}
+use Rattle.fx_typing.specs.Local.{Piece, value, label, coerced, stand_all, stand_rest, branches, common_of, firsts, answer_by, made_as, node_made}
 use Rattle.fx_typing.specs.WellTyped.{Context, row_type, context_for, standing_of, IsTyped}
 use Rattle.fx_typing.proofs.Rules.{Typed, PartsTyped, Agrees, Goes, function_typed, put_ok}
-use Rattle.fx_typing.specs.Parts.{Part, piece_of, pieces}
+use Rattle.fx_typing.specs.Parts.{JudgedPart, piece_of, pieces}
 use Rattle.fx_typing.proofs.Operators.{then_ok}
 use Rattle.fx_typing.proofs.Places.{part_piece}
 use Rattle.fx_typing.proofs.Steps.{EachTyped}
@@ -74,18 +74,18 @@ goes n common [] (u ∷ us) first q x h e = absurd h
 goes n common (k ∷ ks) [] first q x h e = absurd h
 goes n common (k ∷ ks) (u ∷ us) first q x h e = h
 
-conditions_typed : (c : Context) (a : Option (List ℕ)) (k : Term) (cs : ColumnList) (before : List Piece) (qs : List Part) → EachTyped (in_row c cs) qs →
+conditions_typed : (c : Context) (a : Option (List ℕ)) (k : Term) (cs : ColumnList) (before : List Piece) (qs : List JudgedPart) → EachTyped (in_row c cs) qs →
     PartsTyped (places c) (value a k (tables cs) ∷ before) (pieces qs)
 conditions_typed c a k cs before [] t = tt
 conditions_typed c a k cs before (q ∷ qs) t = (part_piece (in_row c cs) q t.0, conditions_typed c a k cs (before ++ piece_of q ∷ []) qs t.1)
 
-pub filter_typed : (c : Context) (a : Option (List ℕ)) (k : Term) (cs : ColumnList) (qs : List Part) (x : Term × Shape) → IsTyped c k (tables cs) → EachTyped (in_row c cs) qs →
-    made fun.Filter (value a k (tables cs) ∷ pieces qs) ≡ Ok x → Typed c x
+pub filter_typed : (c : Context) (a : Option (List ℕ)) (k : Term) (cs : ColumnList) (qs : List JudgedPart) (x : Term × Shape) → IsTyped c k (tables cs) → EachTyped (in_row c cs) qs →
+    node_made fun.Filter (value a k (tables cs) ∷ pieces qs) ≡ Ok x → Typed c x
 filter_typed c a k cs qs x h t e =
     function_typed Inv fun.Filter c (places c) (value a k (tables cs) ∷ pieces qs) x (agrees c (suc (length (pieces qs)))) (λ common. goes (suc (length (pieces qs))) common) tt (h, conditions_typed c a k cs [] qs t) e
 
 -- what a filter is made of, and its type
-pub filter_made : (a : Option (List ℕ)) (k : Term) (cs : ColumnList) (ps : List Piece) (x : Term × Shape) → made fun.Filter (value a k (tables cs) ∷ ps) ≡ Ok x →
+pub filter_made : (a : Option (List ℕ)) (k : Term) (cs : ColumnList) (ps : List Piece) (x : Term × Shape) → node_made fun.Filter (value a k (tables cs) ∷ ps) ≡ Ok x →
     (conditions : Terms) × ((of (over fun.Filter) (cons k conditions), tables cs) ≡ x)
 filter_made a k cs ps x e = by_count (takes_count Filtering (suc (length ps))) e
   where

@@ -15,11 +15,11 @@ use Rattle.fx_core.specs.declared.rows.Takes.TheVariants as takes
 use Rattle.fx_core.specs.Rows.{row_of, form_row, inner_at, ended_at, takes_at, takes_count}
 use Rattle.fx_core.specs.Term.{Term, Top, form}
 use Rattle.fx_core.specs.ColumnLists.{and_then}
-use Rattle.fx_typing.specs.Local.{Piece, value, label, coerced, stand, branches, common_of, answer_by, made_as, made_by, made, formed}
+use Rattle.fx_typing.specs.Local.{Piece, value, label, coerced, stand, branches, common_of, answer_by, made_as, made_by, node_made, formed}
 use Rattle.fx_typing.specs.Meaning.{Place}
-use Rattle.fx_typing.specs.WellTyped.{Context, head_of, Standing, standing_of, row_type, context_for}
+use Rattle.fx_typing.specs.WellTyped.{Context, head_of, PartScope, standing_of, row_type, context_for}
 use Rattle.fx_typing.proofs.Rules.{Typed, PartsTyped, Agrees, Goes, function_typed, form_typed}
-use Rattle.fx_typing.specs.Parts.{Part, piece, meant, target, assigned, Setting, pieces}
+use Rattle.fx_typing.specs.Parts.{JudgedPart, piece, meant, target, assigned, Setting, pieces}
 use Rattle.fx_typing.specs.Typing.{context_of}
 use Rattle.fx_typing.proofs.Frame.{PartTyped}
 use Rattle.fx_typing.proofs.Places.{stood, PartsStand, first_stood, is_flat_place, flat_stood, flat_context, is_bound, piece_shape, row_stood, row_context, pieces_length, part_piece, to_pieces}
@@ -112,7 +112,7 @@ RowRule r h c ps x =
     ((common : Shape) → Goes Inv r (length ps) common) → Inv [] [] → PartsTyped sc [] ps → made_by r h ps ≡ Ok x → Typed c x
 
 -- where a row of so many has a part stand
-abbrev pub by_row : Row → ℕ → List Part → Standing
+abbrev pub by_row : Row → ℕ → List JudgedPart → PartScope
 by_row r n d = standing_of (takes_at r n (length d))
 
 -- flat rows
@@ -130,7 +130,7 @@ flat_agrees r n c e b d l =
 counted_goes : (r : Row) (n : ℕ) (common : Shape) → Goes Counted r n common
 counted_goes r n common b d first p x l e = length_grows b p ∙ ap suc l ∙ sym (length_grows d x.1)
 
-flat_law : (p : Place) (s : Setting) (r : Row) (h : Top) (qs : List Part) (x : Term × Shape) → is_flat r ≡ true →
+flat_law : (p : Place) (s : Setting) (r : Row) (h : Top) (qs : List JudgedPart) (x : Term × Shape) → is_flat r ≡ true →
     RowRule r h (context_of p s) (pieces qs) x → PartsStand p s (by_row r (length (pieces qs))) [] qs → made_by r h (pieces qs) ≡ Ok x →
     Typed (context_of p s) x
 flat_law p s r h qs x e law t m =
@@ -194,22 +194,22 @@ label_never r h l ps x o e =
     by_count false e = absurd cc
 
 -- the first part is a value or the name of a column
-abbrev Begins : List Part → Type 0
+abbrev Begins : List JudgedPart → Type 0
 Begins (piece k ∷ d) = Unit {0}
 Begins d = ⊥
 
-begins_more : (d : List Part) (q : Part) → Begins d → Begins (d ++ q ∷ [])
+begins_more : (d : List JudgedPart) (q : JudgedPart) → Begins d → Begins (d ++ q ∷ [])
 begins_more (piece k ∷ d) q h = tt
 begins_more d q h = absurd h
 
-over_stood : (p : Place) (s : Setting) (r : Row) (n : ℕ) (d : List Part) → Begins d →
+over_stood : (p : Place) (s : Setting) (r : Row) (n : ℕ) (d : List JudgedPart) → Begins d →
     stood p s (by_row r n d) d ≡ over_scope r n (context_of p s) (pieces d)
 over_stood p s r n (piece k ∷ d) h =
     row_stood p s (by_row r n (piece k ∷ d)) k d (unbound (takes_at r n (suc (length d))))
     ∙ ap (λ m. context_for (standing_of (takes_at r n (suc m))) (context_of p s) (piece_shape k ∷ [])) (sym (pieces_length d))
 over_stood p s r n d h = absurd h
 
-over_pieces : (p : Place) (s : Setting) (r : Row) (h : Top) (n : ℕ) (qs : List Part) (x : Term × Shape) → is_over r ≡ true →
+over_pieces : (p : Place) (s : Setting) (r : Row) (h : Top) (n : ℕ) (qs : List JudgedPart) (x : Term × Shape) → is_over r ≡ true →
     PartsStand p s (by_row r n) [] qs → made_by r h (pieces qs) ≡ Ok x → PartsTyped (over_scope r n (context_of p s)) [] (pieces qs)
 over_pieces p s r h n [] x o t m = tt
 over_pieces p s r h n (piece k ∷ qs) x o t m = (
@@ -220,7 +220,7 @@ over_pieces p s r h n (meant k ∷ qs) x o t m = absurd (label_never r h [] (pie
 over_pieces p s r h n (target a l ∷ qs) x o t m = absurd (label_never r h l (pieces qs) x o m)
 over_pieces p s r h n (assigned ns xs ∷ qs) x o t m = absurd (label_never r h [] (pieces qs) x o m)
 
-over_law : (p : Place) (s : Setting) (r : Row) (h : Top) (qs : List Part) (x : Term × Shape) → is_over r ≡ true →
+over_law : (p : Place) (s : Setting) (r : Row) (h : Top) (qs : List JudgedPart) (x : Term × Shape) → is_over r ≡ true →
     RowRule r h (context_of p s) (pieces qs) x → PartsStand p s (by_row r (length (pieces qs))) [] qs → made_by r h (pieces qs) ≡ Ok x →
     Typed (context_of p s) x
 over_law p s r h qs x o law t m =
@@ -228,7 +228,7 @@ over_law p s r h qs x o law t m =
     law Alike (over_scope r n (context_of p s)) (over_agrees r n (context_of p s)) (λ common. over_goes r n common o) tt
     (over_pieces p s r h n qs x o t m) m
 
-row_law : (p : Place) (s : Setting) (r : Row) (h : Top) (qs : List Part) (x : Term × Shape) → is_usual r ≡ true →
+row_law : (p : Place) (s : Setting) (r : Row) (h : Top) (qs : List JudgedPart) (x : Term × Shape) → is_usual r ≡ true →
     RowRule r h (context_of p s) (pieces qs) x → PartsStand p s (by_row r (length qs)) [] qs → made_by r h (pieces qs) ≡ Ok x →
     Typed (context_of p s) x
 row_law p s r h qs x u law t m =
@@ -239,13 +239,13 @@ row_law p s r h qs x u law t m =
     ]
 
 -- functions and forms, whose parts stand where their rows put them
-pub function_law : (p : Place) (s : Setting) (f : Fun) (qs : List Part) (x : Term × Shape) → PartsStand p s (by_row (row_of f) (length qs)) [] qs →
-    made f (pieces qs) ≡ Ok x → Typed (context_of p s) x
+pub function_law : (p : Place) (s : Setting) (f : Fun) (qs : List JudgedPart) (x : Term × Shape) → PartsStand p s (by_row (row_of f) (length qs)) [] qs →
+    node_made f (pieces qs) ≡ Ok x → Typed (context_of p s) x
 function_law p s f qs x t m =
     row_law p s (row_of f) (head_of f) qs x (function_usual f)
     (λ Inv sc agree goes inv typed e. function_typed Inv f (context_of p s) sc (pieces qs) x agree goes inv typed e) t m
 
-pub form_law : (p : Place) (s : Setting) (f : Form) (qs : List Part) (x : Term × Shape) → PartsStand p s (by_row (form_row f) (length qs)) [] qs →
+pub form_law : (p : Place) (s : Setting) (f : Form) (qs : List JudgedPart) (x : Term × Shape) → PartsStand p s (by_row (form_row f) (length qs)) [] qs →
     formed f (pieces qs) ≡ Ok x → Typed (context_of p s) x
 form_law p s f qs x t m =
     row_law p s (form_row f) (form f) qs x (form_usual f)

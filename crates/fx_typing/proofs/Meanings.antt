@@ -13,11 +13,11 @@ use Rattle.fx_core.specs.declared.names.Variable.{Variable}
 use Rattle.fx_core.specs.declared.schema.TableShape.{TableShape}
 use Rattle.fx_core.specs.SourceTypes.{columns_of}
 use Rattle.fx_core.specs.Term.{of, nil, read, row}
-use Rattle.fx_typing.specs.Columns.{field_of}
-use Rattle.fx_typing.specs.Meaning.{Place, Scope, Meaning, valued, controlled, screened, enumerated, or_else, field_at, in_scope_by, in_scopes, this_record, this_item, first_error, reserved, in_globals, behind_scopes, meaning_of}
+use Rattle.fx_typing.specs.Columns.{field_shape}
+use Rattle.fx_typing.specs.Meaning.{Place, Scope, NameMeaning, valued, controlled, screened, enumerated, or_else, field_at, in_scope_by, in_scopes, this_record, this_item, first_error, reserved, in_globals, behind_scopes, meaning_of}
 use Rattle.fx_typing.specs.Targets.{global_variable, screen_variable, collection_named, table_named, screen_named, control_named}
 use Rattle.fx_typing.specs.Meanings as Names
-use Rattle.fx_typing.specs.Meanings.{formula_named, InScopes, IsGlobal, IsReserved, Means}
+use Rattle.fx_typing.specs.Meanings.{placed_formula_named, InScopes, IsGlobal, IsReserved, NameMeans}
 use Rattle.fx_typing.proofs.RelatedSteps.{some_is, if_true, if_false}
 
 -- the first of two, or the second where there is no first
@@ -44,22 +44,22 @@ none_map f o e = ap (option_map f) e
 
 -- ---- the scopes
 module _ (x : List ℕ) where
-  field_ok : (k : ℕ) (r : Scope) (ss : List Scope) (m : Meaning) (o : Option Shape) → in_scopes (suc k) x ss ≡ None → r.alias ≡ None → field_of x r.row_type ≡ o →
+  field_ok : (k : ℕ) (r : Scope) (ss : List Scope) (m : NameMeaning) (o : Option Shape) → in_scopes (suc k) x ss ≡ None → r.alias ≡ None → field_shape x r.row_type ≡ o →
       field_at k x o ≡ Some m → InScopes x k (r ∷ ss) m
   field_ok k r ss m (Some t) i j f e = subst (InScopes x k (r ∷ ss)) (some_is _ m e) (Names.by_field i j f)
   field_ok k r ss m None i j f e = absurd cc
 
-  alias_ok : (k : ℕ) (r : Scope) (ss : List Scope) (m : Meaning) (a : List ℕ) (b : Bool) → in_scopes (suc k) x ss ≡ None → r.alias ≡ Some a → bytes_eq a x ≡ b →
+  alias_ok : (k : ℕ) (r : Scope) (ss : List Scope) (m : NameMeaning) (a : List ℕ) (b : Bool) → in_scopes (suc k) x ss ≡ None → r.alias ≡ Some a → bytes_eq a x ≡ b →
       (if b then Some (valued (of (row k) nil) r.row_type) else None) ≡ Some m → InScopes x k (r ∷ ss) m
   alias_ok k r ss m a true i j f e = subst (InScopes x k (r ∷ ss)) (some_is _ m e) (Names.by_alias i j f)
   alias_ok k r ss m a false i j f e = absurd cc
 
-  scope_ok : (k : ℕ) (r : Scope) (ss : List Scope) (m : Meaning) (o : Option (List ℕ)) → in_scopes (suc k) x ss ≡ None → r.alias ≡ o →
+  scope_ok : (k : ℕ) (r : Scope) (ss : List Scope) (m : NameMeaning) (o : Option (List ℕ)) → in_scopes (suc k) x ss ≡ None → r.alias ≡ o →
       in_scope_by o k x r.row_type ≡ Some m → InScopes x k (r ∷ ss) m
   scope_ok k r ss m (Some a) i j e = alias_ok k r ss m a (bytes_eq a x) i j refl e
-  scope_ok k r ss m None i j e = field_ok k r ss m (field_of x r.row_type) i j refl e
+  scope_ok k r ss m None i j e = field_ok k r ss m (field_shape x r.row_type) i j refl e
 
-  scopes_ok : (k : ℕ) (ss : List Scope) (m : Meaning) → in_scopes k x ss ≡ Some m → InScopes x k ss m
+  scopes_ok : (k : ℕ) (ss : List Scope) (m : NameMeaning) → in_scopes k x ss ≡ Some m → InScopes x k ss m
   scopes_ok k [] m e = absurd cc
   scopes_ok k (r ∷ ss) m e =
       elim (else_some (in_scopes (suc k) x ss) (in_scope_by r.alias k x r.row_type) m e) [
@@ -67,7 +67,7 @@ module _ (x : List ℕ) where
         | inr b ↦ scope_ok k r ss m r.alias b.0 refl b.1
       ]
 
-  scopes_go : (k : ℕ) (ss : List Scope) (m : Meaning) → InScopes x k ss m → in_scopes k x ss ≡ Some m
+  scopes_go : (k : ℕ) (ss : List Scope) (m : NameMeaning) → InScopes x k ss m → in_scopes k x ss ≡ Some m
   scopes_go k ss m (Names.further_in {r = r} {ss = more} i) = first_else (in_scopes (suc k) x more) (in_scope_by r.alias k x r.row_type) m (scopes_go (suc k) more m i)
   scopes_go k ss m (Names.by_alias {r = r} {ss = more} {a = a} i j f) =
       second_else (in_scopes (suc k) x more) (in_scope_by r.alias k x r.row_type) m i
@@ -76,45 +76,45 @@ module _ (x : List ℕ) where
       second_else (in_scopes (suc k) x more) (in_scope_by r.alias k x r.row_type) m i (ap (λ o. in_scope_by o k x r.row_type) j ∙ ap (field_at k x) f)
 
 -- ---- global names
-abbrev of_variable : ℕ × Variable → Meaning
+abbrev of_variable : ℕ × Variable → NameMeaning
 of_variable v = valued (of (read (source.Global v.0)) nil) (shape v.1.ty)
 
-abbrev of_collection : ℕ × Collection → Meaning
+abbrev of_collection : ℕ × Collection → NameMeaning
 of_collection c = valued (of (read (source.Gathered c.0)) nil) (shape c.1.ty)
 
-abbrev of_formula : ℕ × FormulaName → Meaning
+abbrev of_formula : ℕ × FormulaName → NameMeaning
 of_formula f = valued (of (read (source.Cell f.1.cell)) nil) (shape f.1.ty)
 
-abbrev of_table : ℕ × TableShape → Meaning
+abbrev of_table : ℕ × TableShape → NameMeaning
 of_table t = valued (of (read (source.Table t.0)) nil) (tables (columns_of t.1))
 
-abbrev of_control : ℕ × ControlName → Meaning
+abbrev of_control : ℕ × ControlName → NameMeaning
 of_control c = controlled c.0 c.1
 
-abbrev of_screen : ℕ × List ℕ → Meaning
+abbrev of_screen : ℕ × List ℕ → NameMeaning
 of_screen s = screened
 
 module _ (n : Names) (x : List ℕ) where
-  abbrev from_screens : Option Meaning
+  abbrev from_screens : Option NameMeaning
   from_screens = option_map of_screen (screen_named n x)
 
-  abbrev from_controls : Option Meaning
+  abbrev from_controls : Option NameMeaning
   from_controls = or_else (option_map of_control (control_named n x)) from_screens
 
-  abbrev from_tables : Option Meaning
+  abbrev from_tables : Option NameMeaning
   from_tables = or_else (option_map of_table (table_named n x)) from_controls
 
-  abbrev from_formulas : Option Meaning
-  from_formulas = or_else (option_map of_formula (formula_named n x)) from_tables
+  abbrev from_formulas : Option NameMeaning
+  from_formulas = or_else (option_map of_formula (placed_formula_named n x)) from_tables
 
-  abbrev from_collections : Option Meaning
+  abbrev from_collections : Option NameMeaning
   from_collections = or_else (option_map of_collection (collection_named n x)) from_formulas
 
-  screen_ok : (m : Meaning) → global_variable n x ≡ None → collection_named n x ≡ None → formula_named n x ≡ None → table_named n x ≡ None → control_named n x ≡ None →
+  screen_ok : (m : NameMeaning) → global_variable n x ≡ None → collection_named n x ≡ None → placed_formula_named n x ≡ None → table_named n x ≡ None → control_named n x ≡ None →
       from_screens ≡ Some m → IsGlobal n x m
   screen_ok m v c f t k e = let a = map_some of_screen (screen_named n x) m e in subst (IsGlobal n x) a.2 (Names.a_screen {k = a.0.0} {s = a.0.1} v c f t k a.1)
 
-  control_ok : (m : Meaning) → global_variable n x ≡ None → collection_named n x ≡ None → formula_named n x ≡ None → table_named n x ≡ None →
+  control_ok : (m : NameMeaning) → global_variable n x ≡ None → collection_named n x ≡ None → placed_formula_named n x ≡ None → table_named n x ≡ None →
       from_controls ≡ Some m → IsGlobal n x m
   control_ok m v c f t e =
       elim (else_some (option_map of_control (control_named n x)) from_screens m e) [
@@ -122,56 +122,56 @@ module _ (n : Names) (x : List ℕ) where
         | inr b ↦ screen_ok m v c f t (map_none of_control (control_named n x) b.0) b.1
       ]
 
-  table_ok : (m : Meaning) → global_variable n x ≡ None → collection_named n x ≡ None → formula_named n x ≡ None → from_tables ≡ Some m → IsGlobal n x m
+  table_ok : (m : NameMeaning) → global_variable n x ≡ None → collection_named n x ≡ None → placed_formula_named n x ≡ None → from_tables ≡ Some m → IsGlobal n x m
   table_ok m v c f e =
       elim (else_some (option_map of_table (table_named n x)) from_controls m e) [
         | inl a ↦ (let b = map_some of_table (table_named n x) m a in subst (IsGlobal n x) b.2 (Names.a_table {k = b.0.0} {t = b.0.1} v c f b.1))
         | inr b ↦ control_ok m v c f (map_none of_table (table_named n x) b.0) b.1
       ]
 
-  formula_ok : (m : Meaning) → global_variable n x ≡ None → collection_named n x ≡ None → from_formulas ≡ Some m → IsGlobal n x m
+  formula_ok : (m : NameMeaning) → global_variable n x ≡ None → collection_named n x ≡ None → from_formulas ≡ Some m → IsGlobal n x m
   formula_ok m v c e =
-      elim (else_some (option_map of_formula (formula_named n x)) from_tables m e) [
-        | inl a ↦ (let b = map_some of_formula (formula_named n x) m a in subst (IsGlobal n x) b.2 (Names.a_formula {k = b.0.0} {f = b.0.1} v c b.1))
-        | inr b ↦ table_ok m v c (map_none of_formula (formula_named n x) b.0) b.1
+      elim (else_some (option_map of_formula (placed_formula_named n x)) from_tables m e) [
+        | inl a ↦ (let b = map_some of_formula (placed_formula_named n x) m a in subst (IsGlobal n x) b.2 (Names.a_formula {k = b.0.0} {f = b.0.1} v c b.1))
+        | inr b ↦ table_ok m v c (map_none of_formula (placed_formula_named n x) b.0) b.1
       ]
 
-  collection_ok : (m : Meaning) → global_variable n x ≡ None → from_collections ≡ Some m → IsGlobal n x m
+  collection_ok : (m : NameMeaning) → global_variable n x ≡ None → from_collections ≡ Some m → IsGlobal n x m
   collection_ok m v e =
       elim (else_some (option_map of_collection (collection_named n x)) from_formulas m e) [
         | inl a ↦ (let b = map_some of_collection (collection_named n x) m a in subst (IsGlobal n x) b.2 (Names.a_collection {k = b.0.0} {c = b.0.1} v b.1))
         | inr b ↦ formula_ok m v (map_none of_collection (collection_named n x) b.0) b.1
       ]
 
-  pub globals_ok : (m : Meaning) → in_globals n x ≡ Some m → IsGlobal n x m
+  pub globals_ok : (m : NameMeaning) → in_globals n x ≡ Some m → IsGlobal n x m
   globals_ok m e =
       elim (else_some (option_map of_variable (global_variable n x)) from_collections m e) [
         | inl a ↦ (let b = map_some of_variable (global_variable n x) m a in subst (IsGlobal n x) b.2 (Names.a_variable {k = b.0.0} {v = b.0.1} b.1))
         | inr b ↦ collection_ok m (map_none of_variable (global_variable n x) b.0) b.1
       ]
 
-  past_variables : (m : Meaning) → global_variable n x ≡ None → from_collections ≡ Some m → in_globals n x ≡ Some m
+  past_variables : (m : NameMeaning) → global_variable n x ≡ None → from_collections ≡ Some m → in_globals n x ≡ Some m
   past_variables m v e = second_else (option_map of_variable (global_variable n x)) from_collections m (none_map of_variable (global_variable n x) v) e
 
-  past_collections : (m : Meaning) → global_variable n x ≡ None → collection_named n x ≡ None → from_formulas ≡ Some m → in_globals n x ≡ Some m
+  past_collections : (m : NameMeaning) → global_variable n x ≡ None → collection_named n x ≡ None → from_formulas ≡ Some m → in_globals n x ≡ Some m
   past_collections m v c e =
       past_variables m v (second_else (option_map of_collection (collection_named n x)) from_formulas m (none_map of_collection (collection_named n x) c) e)
 
-  past_formulas : (m : Meaning) → global_variable n x ≡ None → collection_named n x ≡ None → formula_named n x ≡ None → from_tables ≡ Some m → in_globals n x ≡ Some m
+  past_formulas : (m : NameMeaning) → global_variable n x ≡ None → collection_named n x ≡ None → placed_formula_named n x ≡ None → from_tables ≡ Some m → in_globals n x ≡ Some m
   past_formulas m v c f e =
-      past_collections m v c (second_else (option_map of_formula (formula_named n x)) from_tables m (none_map of_formula (formula_named n x) f) e)
+      past_collections m v c (second_else (option_map of_formula (placed_formula_named n x)) from_tables m (none_map of_formula (placed_formula_named n x) f) e)
 
-  past_tables : (m : Meaning) → global_variable n x ≡ None → collection_named n x ≡ None → formula_named n x ≡ None → table_named n x ≡ None →
+  past_tables : (m : NameMeaning) → global_variable n x ≡ None → collection_named n x ≡ None → placed_formula_named n x ≡ None → table_named n x ≡ None →
       from_controls ≡ Some m → in_globals n x ≡ Some m
   past_tables m v c f t e =
       past_formulas m v c f (second_else (option_map of_table (table_named n x)) from_controls m (none_map of_table (table_named n x) t) e)
 
-  pub globals_go : (m : Meaning) → IsGlobal n x m → in_globals n x ≡ Some m
+  pub globals_go : (m : NameMeaning) → IsGlobal n x m → in_globals n x ≡ Some m
   globals_go m (Names.a_variable i) = first_else (option_map of_variable (global_variable n x)) from_collections m (ap (option_map of_variable) i)
   globals_go m (Names.a_collection v i) =
       past_variables m v (first_else (option_map of_collection (collection_named n x)) from_formulas m (ap (option_map of_collection) i))
   globals_go m (Names.a_formula v c i) =
-      past_collections m v c (first_else (option_map of_formula (formula_named n x)) from_tables m (ap (option_map of_formula) i))
+      past_collections m v c (first_else (option_map of_formula (placed_formula_named n x)) from_tables m (ap (option_map of_formula) i))
   globals_go m (Names.a_table v c f i) =
       past_formulas m v c f (first_else (option_map of_table (table_named n x)) from_controls m (ap (option_map of_table) i))
   globals_go m (Names.a_control v c f t i) =
@@ -181,19 +181,19 @@ module _ (n : Names) (x : List ℕ) where
 
 -- ---- names that no app declares, and all names
 module _ (p : Place) (scopes : List Scope) (catches : Bool) (x : List ℕ) where
-  error_ok : (b : Bool) (m : Meaning) → bytes_eq x (codes "ThisRecord") ≡ false → bytes_eq x (codes "ThisItem") ≡ false → bytes_eq x (codes "FirstError") ≡ true →
+  error_ok : (b : Bool) (m : NameMeaning) → bytes_eq x (codes "ThisRecord") ≡ false → bytes_eq x (codes "ThisItem") ≡ false → bytes_eq x (codes "FirstError") ≡ true →
       catches ≡ b → first_error b ≡ Some m → IsReserved p scopes catches x m
   error_ok true m i j k l e = subst (IsReserved p scopes catches x) (some_is _ m e) (Names.the_error i j k l)
   error_ok false m i j k l e = absurd cc
 
-  enumeration_ok : (o : Option Enumeration) (m : Meaning) → bytes_eq x (codes "ThisRecord") ≡ false → bytes_eq x (codes "ThisItem") ≡ false →
+  enumeration_ok : (o : Option Enumeration) (m : NameMeaning) → bytes_eq x (codes "ThisRecord") ≡ false → bytes_eq x (codes "ThisItem") ≡ false →
       bytes_eq x (codes "FirstError") ≡ false → enumeration_of (encode_utf8_all x) ≡ o → option_map (λ e. Some (enumerated e)) o ≡ Some (Some m) → IsReserved p scopes catches x m
   enumeration_ok (Some v) m i j k l e =
       let same : enumerated v ≡ m = some_is (enumerated v) m (some_is (Some (enumerated v)) (Some m) e) in
       subst (IsReserved p scopes catches x) same (Names.an_enumeration i j k l)
   enumeration_ok None m i j k l e = absurd cc
 
-  reserved_ok : (m : Meaning) → reserved p scopes catches x ≡ Some (Some m) → IsReserved p scopes catches x m
+  reserved_ok : (m : NameMeaning) → reserved p scopes catches x ≡ Some (Some m) → IsReserved p scopes catches x m
   reserved_ok m e = by_record (bytes_eq x (codes "ThisRecord")) refl e
     where
       by_error : (b : Bool) → bytes_eq x (codes "ThisRecord") ≡ false → bytes_eq x (codes "ThisItem") ≡ false → bytes_eq x (codes "FirstError") ≡ b →
@@ -214,7 +214,7 @@ module _ (p : Place) (scopes : List Scope) (catches : Bool) (x : List ℕ) where
       by_record true i f = Names.the_record i (some_is (this_record 0 scopes) (Some m) f)
       by_record false i f = by_item (bytes_eq x (codes "ThisItem")) i refl f
 
-  reserved_goes : (m : Meaning) → IsReserved p scopes catches x m → reserved p scopes catches x ≡ Some (Some m)
+  reserved_goes : (m : NameMeaning) → IsReserved p scopes catches x m → reserved p scopes catches x ≡ Some (Some m)
   reserved_goes m (Names.the_record i e) = if_true (bytes_eq x (codes "ThisRecord")) _ _ i ∙ ap (λ o. Some o) e
   reserved_goes m (Names.the_item i j e) = if_false (bytes_eq x (codes "ThisRecord")) _ _ i ∙ if_true (bytes_eq x (codes "ThisItem")) _ _ j ∙ ap (λ o. Some o) e
   reserved_goes m (Names.the_error i j k l) =
@@ -224,31 +224,31 @@ module _ (p : Place) (scopes : List Scope) (catches : Bool) (x : List ℕ) where
       if_false (bytes_eq x (codes "ThisRecord")) _ _ i ∙ if_false (bytes_eq x (codes "ThisItem")) _ _ j ∙ if_false (bytes_eq x (codes "FirstError")) _ _ k
       ∙ ap (option_map (λ e. Some (enumerated e))) l
 
-  abbrev of_context : ℕ × Variable → Meaning
+  abbrev of_context : ℕ × Variable → NameMeaning
   of_context v = valued (of (read (source.Context v.0)) nil) (shape v.1.ty)
 
-  behind_ok : (o : Option (Option Meaning)) (m : Meaning) → in_scopes 0 x scopes ≡ None → reserved p scopes catches x ≡ o → behind_scopes p x o ≡ Some m →
-      Means p scopes catches x m
+  behind_ok : (o : Option (Option NameMeaning)) (m : NameMeaning) → in_scopes 0 x scopes ≡ None → reserved p scopes catches x ≡ o → behind_scopes p x o ≡ Some m →
+      NameMeans p scopes catches x m
   behind_ok (Some o) m i r e = Names.of_the_language i (reserved_ok m (r ∙ ap (λ z. Some z) e))
   behind_ok None m i r e =
       elim (else_some (option_map of_context (screen_variable p.names p.screen x)) (in_globals p.names x) m e) [
         | inl a ↦ (let b = map_some of_context (screen_variable p.names p.screen x) m a in
-            subst (Means p scopes catches x) b.2 (Names.of_the_screen {k = b.0.0} {v = b.0.1} i r b.1))
+            subst (NameMeans p scopes catches x) b.2 (Names.of_the_screen {k = b.0.0} {v = b.0.1} i r b.1))
         | inr b ↦ Names.of_the_app i r (map_none of_context (screen_variable p.names p.screen x) b.0) (globals_ok p.names x m b.1)
       ]
 
-  pub means_ok : (m : Meaning) → meaning_of p scopes catches x ≡ Some m → Means p scopes catches x m
+  pub means_ok : (m : NameMeaning) → meaning_of p scopes catches x ≡ Some m → NameMeans p scopes catches x m
   means_ok m e =
       elim (else_some (in_scopes 0 x scopes) (behind_scopes p x (reserved p scopes catches x)) m e) [
         | inl a ↦ Names.of_a_scope (scopes_ok x 0 scopes m a)
         | inr b ↦ behind_ok (reserved p scopes catches x) m b.0 refl b.1
       ]
 
-  past_scopes : (o : Option (Option Meaning)) (m : Meaning) → in_scopes 0 x scopes ≡ None → reserved p scopes catches x ≡ o → behind_scopes p x o ≡ Some m →
+  past_scopes : (o : Option (Option NameMeaning)) (m : NameMeaning) → in_scopes 0 x scopes ≡ None → reserved p scopes catches x ≡ o → behind_scopes p x o ≡ Some m →
       meaning_of p scopes catches x ≡ Some m
   past_scopes o m i r e = second_else (in_scopes 0 x scopes) (behind_scopes p x (reserved p scopes catches x)) m i (ap (behind_scopes p x) r ∙ e)
 
-  pub means_go : (m : Meaning) → Means p scopes catches x m → meaning_of p scopes catches x ≡ Some m
+  pub means_go : (m : NameMeaning) → NameMeans p scopes catches x m → meaning_of p scopes catches x ≡ Some m
   means_go m (Names.of_a_scope i) = first_else (in_scopes 0 x scopes) (behind_scopes p x (reserved p scopes catches x)) m (scopes_go x 0 scopes m i)
   means_go m (Names.of_the_language i r) = past_scopes (Some (Some m)) m i (reserved_goes m r) refl
   means_go m (Names.of_the_screen i r e) =

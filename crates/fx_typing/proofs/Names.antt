@@ -20,24 +20,24 @@ use Rattle.fx_core.specs.declared.names.Names.{Names}
 use Rattle.fx_core.specs.declared.schema.TableShape.{TableShape}
 use Rattle.fx_core.specs.Controls.{own_type, property_type, is_items, input_type}
 use Rattle.fx_core.specs.Lawful.{DiffersFromAll, AreDistinct, IsLawful}
-use Rattle.fx_core.specs.SourceTypes.{columns_of, item_columns, item_type, property_of, property_cell, formula_cell, if_global, if_context, chosen_of, sources}
+use Rattle.fx_core.specs.SourceTypes.{columns_of, item_columns, item_type, property_of, property_cell, formula_cell, if_global, if_context, chosen_shape, sources}
 use Rattle.fx_core.specs.Term.{Term, of, nil, cons, const, read, row, item, caught}
 use Rattle.fx_core.specs.Term as term
-use Rattle.fx_typing.specs.Columns.{field_of, fault_type}
+use Rattle.fx_typing.specs.Columns.{field_shape, fault_type}
 use Rattle.fx_core.specs.ColumnLists.{field_in}
 use Rattle.fx_typing.specs.LawfulTypes.{IsLawfulType}
-use Rattle.fx_typing.specs.Meaning.{Place, Scope, Meaning, valued, controlled, screened, enumerated, or_else, field_at, in_scope_by, in_scopes, whole_by, this_record, this_item, first_error, reserved, place_of, is_on, is_global, in_context, in_globals, behind_scopes, meaning_of, named, own_default, default_of, default_type, is_input, is_chosen, written_or, property_read, input_read, control_read, member_of, known_field, field_read, dotted}
+use Rattle.fx_typing.specs.Meaning.{Place, Scope, NameMeaning, valued, controlled, screened, enumerated, or_else, field_at, in_scope_by, in_scopes, whole_by, this_record, this_item, first_error, reserved, first_match, is_on, is_global, in_context, in_globals, behind_scopes, meaning_of, named, own_default, default_of, default_type, is_input, is_chosen, written_or, property_read, input_read, control_read, member_of, known_field, field_read, dotted}
 use Rattle.fx_typing.specs.WellTyped.{Context, IsTyped}
 use Rattle.fx_typing.proofs.Rules.{Typed}
 use Rattle.fx_typing.proofs.Same.{bytes_same}
 use Rattle.fx_typing.specs.Parts.{Setting}
-use Rattle.fx_typing.specs.Typing.{context_of, item_of}
+use Rattle.fx_typing.specs.Typing.{context_of, item_context}
 use Rattle.fx_typing.proofs.Steps.{option_map_some}
 use Rattle.fx_typing.proofs.Functions.{length_grows}
 use Rattle.fx_typing.proofs.RelatedSteps.{if_false, if_true}
 
 -- what a name means, in these surroundings: a tree of its type, or a control by its number
-abbrev pub Fitting : Names → Context → Meaning → Type 0
+abbrev pub Fitting : Names → Context → NameMeaning → Type 0
 Fitting n c (valued k t) = IsTyped c k t
 Fitting n c (controlled k x) = slice_get n.controls k ≡ Some x
 Fitting n c m = Unit {0}
@@ -55,20 +55,20 @@ abbrev Found : {A : Type 0} → (A → Bool) → List A → ℕ × A → Type 0
 Found keeps es z = (slice_get es z.0 ≡ Some z.1) × (keeps z.1 ≡ true)
 
 found_by : {A : Type 0} (keeps : A → Bool) (pre : List A) (b : A) (es : List A) (z : ℕ × A) (t : Bool) → keeps b ≡ t →
-    (if t then Some (length pre, b) else place_of keeps (suc (length pre)) es) ≡ Some z →
-    (place_of keeps (suc (length pre)) es ≡ Some z → Found keeps (pre ++ b ∷ es) z) → Found keeps (pre ++ b ∷ es) z
+    (if t then Some (length pre, b) else first_match keeps (suc (length pre)) es) ≡ Some z →
+    (first_match keeps (suc (length pre)) es ≡ Some z → Found keeps (pre ++ b ∷ es) z) → Found keeps (pre ++ b ∷ es) z
 found_by keeps pre b es z true i e go = let y : (length pre, b) ≡ z = cc in subst (Found keeps (pre ++ b ∷ es)) y (get_there pre b es, i)
 found_by keeps pre b es z false i e go = go e
 
-found_behind : {A : Type 0} (keeps : A → Bool) (pre es : List A) (z : ℕ × A) → place_of keeps (length pre) es ≡ Some z → Found keeps (pre ++ es) z
+found_behind : {A : Type 0} (keeps : A → Bool) (pre es : List A) (z : ℕ × A) → first_match keeps (length pre) es ≡ Some z → Found keeps (pre ++ es) z
 found_behind keeps pre [] z e = absurd cc
 found_behind keeps pre (b ∷ es) z e =
     found_by keeps pre b es z (keeps b) refl e (
     λ i. subst (λ l. Found keeps l z) (append_assoc pre (b ∷ []) es)
-    (found_behind keeps (pre ++ b ∷ []) es z (subst (λ j. place_of keeps j es ≡ Some z) (sym (length_grows pre b)) i))
+    (found_behind keeps (pre ++ b ∷ []) es z (subst (λ j. first_match keeps j es ≡ Some z) (sym (length_grows pre b)) i))
     )
 
-pub found : {A : Type 0} (keeps : A → Bool) (es : List A) (z : ℕ × A) → place_of keeps 0 es ≡ Some z → Found keeps es z
+pub found : {A : Type 0} (keeps : A → Bool) (es : List A) (z : ℕ × A) → first_match keeps 0 es ≡ Some z → Found keeps es z
 found keeps es z e = found_behind keeps [] es z e
 
 -- sources
@@ -84,7 +84,7 @@ context_type None o t e = absurd cc
 pub read_typed : (c : Context) (s : Source) (t : Shape) → c.sources s ≡ Some t → IsTyped c (of (read s) nil) t
 read_typed c s t e = ([], refl, e)
 
-pub global_read : (n : Names) (x : List ℕ) (v : ℕ × Variable) → place_of (λ (v : Variable). is_global v.screen && bytes_eq v.name x) 0 n.variables ≡ Some v →
+pub global_read : (n : Names) (x : List ℕ) (v : ℕ × Variable) → first_match (λ (v : Variable). is_global v.screen && bytes_eq v.name x) 0 n.variables ≡ Some v →
     sources n (source.Global v.0) ≡ Some (shape v.1.ty)
 global_read n x v e =
     let f = found (λ (v : Variable). is_global v.screen && bytes_eq v.name x) n.variables v e in
@@ -92,18 +92,18 @@ global_read n x v e =
     ∙ global_type v.1.screen (shape v.1.ty) (and_parts (is_global v.1.screen) (bytes_eq v.1.name x) f.1).0
 
 pub context_read : (n : Names) (a : Option ℕ) (x : List ℕ) (v : ℕ × Variable) →
-    place_of (λ (v : Variable). is_on a v.screen && bytes_eq v.name x) 0 n.variables ≡ Some v →
+    first_match (λ (v : Variable). is_on a v.screen && bytes_eq v.name x) 0 n.variables ≡ Some v →
     sources n (source.Context v.0) ≡ Some (shape v.1.ty)
 context_read n a x v e =
     let f = found (λ (v : Variable). is_on a v.screen && bytes_eq v.name x) n.variables v e in
     ap (option_and_then (λ (v : Variable). if_context v.screen (shape v.ty))) f.0
     ∙ context_type a v.1.screen (shape v.1.ty) (and_parts (is_on a v.1.screen) (bytes_eq v.1.name x) f.1).0
 
-pub gathered_read : (n : Names) (x : List ℕ) (v : ℕ × Collection) → place_of (λ (c : Collection). bytes_eq c.name x) 0 n.collections ≡ Some v →
+pub gathered_read : (n : Names) (x : List ℕ) (v : ℕ × Collection) → first_match (λ (c : Collection). bytes_eq c.name x) 0 n.collections ≡ Some v →
     sources n (source.Gathered v.0) ≡ Some (shape v.1.ty)
 gathered_read n x v e = ap (option_map (λ (c : Collection). shape c.ty)) (found (λ (c : Collection). bytes_eq c.name x) n.collections v e).0
 
-pub table_read : (n : Names) (x : List ℕ) (v : ℕ × TableShape) → place_of (λ (t : TableShape). bytes_eq t.name x) 0 n.schema.tables ≡ Some v →
+pub table_read : (n : Names) (x : List ℕ) (v : ℕ × TableShape) → first_match (λ (t : TableShape). bytes_eq t.name x) 0 n.schema.tables ≡ Some v →
     sources n (source.Table v.0) ≡ Some (tables (columns_of v.1))
 table_read n x v e = ap (option_map (λ (t : TableShape). tables (columns_of t))) (found (λ (t : TableShape). bytes_eq t.name x) n.schema.tables v e).0
 
@@ -162,14 +162,14 @@ property_there cs (q ∷ ps) (suc k) p d e =
     get_plain (q ∷ ps) zero p e = let j : q ≡ p = cc in ap (λ (r : Property). Some r.cell) j
     get_plain (q ∷ ps) (suc k) p e = get_plain ps k p e
 
-pub formula_read : (n : Names) (x : List ℕ) (f : ℕ × FormulaName) → IsLawful n → place_of (λ (f : FormulaName). bytes_eq f.name x) 0 n.formulas ≡ Some f →
+pub formula_read : (n : Names) (x : List ℕ) (f : ℕ × FormulaName) → IsLawful n → first_match (λ (f : FormulaName). bytes_eq f.name x) 0 n.formulas ≡ Some f →
     sources n (source.Cell f.1.cell) ≡ Some (shape f.1.ty)
 formula_read n x f law e =
     formula_there n n.formulas (map (λ (p : Property). p.cell) n.properties) f.0 f.1 law.cells (found (λ (f : FormulaName). bytes_eq f.name x) n.formulas f e).0
 
 -- a written property is a cell of its type
 pub property_source : (n : Names) (k : ℕ) (c : ControlName) (x : List ℕ) (t : Shape) (p : ℕ × Property) → IsLawful n → slice_get n.controls k ≡ Some c → property_of x c ≡ Some t →
-    place_of (λ (p : Property). nat_eq p.control k && bytes_eq p.name x) 0 n.properties ≡ Some p → sources n (source.Cell p.1.cell) ≡ Some t
+    first_match (λ (p : Property). nat_eq p.control k && bytes_eq p.name x) 0 n.properties ≡ Some p → sources n (source.Cell p.1.cell) ≡ Some t
 property_source n k c x t p law here typed e =
     let f = found (λ (p : Property). nat_eq p.control k && bytes_eq p.name x) n.properties p e in
     let b = and_parts (nat_eq p.1.control k) (bytes_eq p.1.name x) f.1 in
@@ -186,28 +186,28 @@ property_source n k c x t p law here typed e =
     back (x ∷ xs) = ap (λ ys. x ∷ ys) (back xs)
 
 -- the scopes
-valued_along : (n : Names) (c : Context) (k : Term) (t : Shape) (m : Meaning) → valued k t ≡ m → IsTyped c k t → Fitting n c m
+valued_along : (n : Names) (c : Context) (k : Term) (t : Shape) (m : NameMeaning) → valued k t ≡ m → IsTyped c k t → Fitting n c m
 valued_along n c k t m e h = subst (Fitting n c) e h
 
 row_typed : (c : Context) (k : ℕ) (t : Shape) → slice_get c.rows k ≡ Some t → IsTyped c (of (row k) nil) t
 row_typed c k t e = ([], refl, e)
 
-in_scope_typed : (n : Names) (c : Context) (k : ℕ) (x : List ℕ) (a : Option (List ℕ)) (t : Shape) (m : Meaning) → slice_get c.rows k ≡ Some t →
+in_scope_typed : (n : Names) (c : Context) (k : ℕ) (x : List ℕ) (a : Option (List ℕ)) (t : Shape) (m : NameMeaning) → slice_get c.rows k ≡ Some t →
     in_scope_by a k x t ≡ Some m → Fitting n c m
 in_scope_typed n c k x (Some a) t m here e = by_test (bytes_eq a x) e
   where
     by_test : (b : Bool) → (if b then Some (valued (of (row k) nil) t) else None) ≡ Some m → Fitting n c m
     by_test true i = let j : valued (of (row k) nil) t ≡ m = cc in valued_along n c _ t m j (row_typed c k t here)
     by_test false i = absurd cc
-in_scope_typed n c k x None t m here e = by_field (field_of x t) refl e
+in_scope_typed n c k x None t m here e = by_field (field_shape x t) refl e
   where
-    by_field : (o : Option Shape) → field_of x t ≡ o → field_at k x o ≡ Some m → Fitting n c m
+    by_field : (o : Option Shape) → field_shape x t ≡ o → field_at k x o ≡ Some m → Fitting n c m
     by_field (Some u) i j =
         let l : valued (of (term.dot x) (cons (of (row k) nil) nil)) u ≡ m = cc in
         valued_along n c _ u m l (t ∷ [], (t, [], refl, row_typed c k t here, refl), i)
     by_field None i j = absurd cc
 
-whole_typed : (n : Names) (c : Context) (k : ℕ) (a : Option (List ℕ)) (t : Shape) (m : Meaning) → slice_get c.rows k ≡ Some t →
+whole_typed : (n : Names) (c : Context) (k : ℕ) (a : Option (List ℕ)) (t : Shape) (m : NameMeaning) → slice_get c.rows k ≡ Some t →
     whole_by a k t ≡ Some m → Fitting n c m
 whole_typed n c k (Some a) t m here e = absurd cc
 whole_typed n c k None t m here e = let j : valued (of (row k) nil) t ≡ m = cc in valued_along n c _ t m j (row_typed c k t here)
@@ -218,7 +218,7 @@ row_types ss = map (λ (r : Scope). r.row_type) ss
 moved : (c : Context) (pre : List Shape) (t : Shape) (ts : List Shape) → c.rows ≡ pre ++ t ∷ ts → c.rows ≡ (pre ++ t ∷ []) ++ ts
 moved c pre t ts e = e ∙ sym (append_assoc pre (t ∷ []) ts)
 
-in_scopes_typed : (n : Names) (c : Context) (pre : List Shape) (x : List ℕ) (ss : List Scope) (m : Meaning) → c.rows ≡ pre ++ row_types ss →
+in_scopes_typed : (n : Names) (c : Context) (pre : List Shape) (x : List ℕ) (ss : List Scope) (m : NameMeaning) → c.rows ≡ pre ++ row_types ss →
     in_scopes (length pre) x ss ≡ Some m → Fitting n c m
 in_scopes_typed n c pre x [] m r e = absurd cc
 in_scopes_typed n c pre x (s ∷ ss) m r e =
@@ -229,7 +229,7 @@ in_scopes_typed n c pre x (s ∷ ss) m r e =
           (ap (λ l. slice_get l (length pre)) r ∙ get_there pre s.row_type (row_types ss)) b
     ]
 
-this_record_typed : (n : Names) (c : Context) (pre : List Shape) (ss : List Scope) (m : Meaning) → c.rows ≡ pre ++ row_types ss →
+this_record_typed : (n : Names) (c : Context) (pre : List Shape) (ss : List Scope) (m : NameMeaning) → c.rows ≡ pre ++ row_types ss →
     this_record (length pre) ss ≡ Some m → Fitting n c m
 this_record_typed n c pre [] m r e = absurd cc
 this_record_typed n c pre (s ∷ ss) m r e =
@@ -241,20 +241,20 @@ this_record_typed n c pre (s ∷ ss) m r e =
     ]
 
 -- the reserved names
-this_item_typed : (p : Place) (s : Setting) (g : Option ℕ) (m : Meaning) → p.gallery ≡ g → this_item p.names g ≡ Some m → Fitting p.names (context_of p s) m
+this_item_typed : (p : Place) (s : Setting) (g : Option ℕ) (m : NameMeaning) → p.gallery ≡ g → this_item p.names g ≡ Some m → Fitting p.names (context_of p s) m
 this_item_typed p s (Some g) m i e =
     let a = option_map_some (λ (c : ControlName). valued (of item nil) (item_type c)) (slice_get p.names.controls g) m e in
-    valued_along p.names (context_of p s) (of item nil) (item_type a.0) m a.2 ([], refl, ap (item_of p.names) i ∙ ap (option_map item_type) a.1)
+    valued_along p.names (context_of p s) (of item nil) (item_type a.0) m a.2 ([], refl, ap (item_context p.names) i ∙ ap (option_map item_type) a.1)
 this_item_typed p s None m i e = absurd cc
 
-first_error_typed : (p : Place) (s : Setting) (b : Bool) (m : Meaning) → s.catches ≡ b → first_error b ≡ Some m → Fitting p.names (context_of p s) m
+first_error_typed : (p : Place) (s : Setting) (b : Bool) (m : NameMeaning) → s.catches ≡ b → first_error b ≡ Some m → Fitting p.names (context_of p s) m
 first_error_typed p s true m i e =
     let j : valued (of caught nil) fault_type ≡ m = cc in
     valued_along p.names (context_of p s) (of caught nil) fault_type m j ([], refl, (i, refl))
 first_error_typed p s false m i e = absurd cc
 
 -- a reserved name's meaning, if it is a reserved name
-reserved_typed : (p : Place) (s : Setting) (x : List ℕ) (o : Option Meaning) (m : Meaning) → reserved p s.scopes s.catches x ≡ Some o → o ≡ Some m →
+reserved_typed : (p : Place) (s : Setting) (x : List ℕ) (o : Option NameMeaning) (m : NameMeaning) → reserved p s.scopes s.catches x ≡ Some o → o ≡ Some m →
     Fitting p.names (context_of p s) m
 reserved_typed p s x o m e i = by_record (bytes_eq x (codes "ThisRecord")) e
   where
@@ -278,14 +278,14 @@ reserved_typed p s x o m e i = by_record (bytes_eq x (codes "ThisRecord")) e
     by_record false j = by_item (bytes_eq x (codes "ThisItem")) j
 
 -- the variables of the screen, and the global names
-in_context_typed : (p : Place) (s : Setting) (x : List ℕ) (m : Meaning) → in_context p x ≡ Some m → Fitting p.names (context_of p s) m
+in_context_typed : (p : Place) (s : Setting) (x : List ℕ) (m : NameMeaning) → in_context p x ≡ Some m → Fitting p.names (context_of p s) m
 in_context_typed p s x m e =
     let a = option_map_some (λ (v : ℕ × Variable). valued (of (read (source.Context v.0)) nil) (shape v.1.ty))
-    (place_of (λ (v : Variable). is_on p.screen v.screen && bytes_eq v.name x) 0 p.names.variables) m e in
+    (first_match (λ (v : Variable). is_on p.screen v.screen && bytes_eq v.name x) 0 p.names.variables) m e in
     valued_along p.names (context_of p s) _ (shape a.0.1.ty) m a.2
     (read_typed (context_of p s) (source.Context a.0.0) (shape a.0.1.ty) (context_read p.names p.screen x a.0 a.1))
 
-pub in_globals_typed : (p : Place) (s : Setting) (x : List ℕ) (m : Meaning) → IsLawful p.names → in_globals p.names x ≡ Some m → Fitting p.names (context_of p s) m
+pub in_globals_typed : (p : Place) (s : Setting) (x : List ℕ) (m : NameMeaning) → IsLawful p.names → in_globals p.names x ≡ Some m → Fitting p.names (context_of p s) m
 in_globals_typed p s x m law e =
     elim (or_cases _ _ m e) [
       | inl i ↦ (let a = option_map_some (λ (v : ℕ × Variable). valued (of (read (source.Global v.0)) nil) (shape v.1.ty)) _ m i in
@@ -311,7 +311,7 @@ in_globals_typed p s x m law e =
     ]
 
 -- what a name means
-pub meaning_typed : (p : Place) (s : Setting) (x : List ℕ) (m : Meaning) → IsLawful p.names → meaning_of p s.scopes s.catches x ≡ Some m →
+pub meaning_typed : (p : Place) (s : Setting) (x : List ℕ) (m : NameMeaning) → IsLawful p.names → meaning_of p s.scopes s.catches x ≡ Some m →
     Fitting p.names (context_of p s) m
 meaning_typed p s x m law e =
     elim (or_cases (in_scopes 0 x s.scopes) (behind_scopes p x (reserved p s.scopes s.catches x)) m e) [
@@ -319,7 +319,7 @@ meaning_typed p s x m law e =
       | inr b ↦ behind (reserved p s.scopes s.catches x) refl b
     ]
   where
-    behind : (o : Option (Option Meaning)) → reserved p s.scopes s.catches x ≡ o → behind_scopes p x o ≡ Some m → Fitting p.names (context_of p s) m
+    behind : (o : Option (Option NameMeaning)) → reserved p s.scopes s.catches x ≡ o → behind_scopes p x o ≡ Some m → Fitting p.names (context_of p s) m
     behind (Some o) i j = reserved_typed p s x o m i j
     behind None i j =
         elim (or_cases (in_context p x) (in_globals p.names x) m j) [
@@ -327,7 +327,7 @@ meaning_typed p s x m law e =
           | inr b ↦ in_globals_typed p s x m law b
         ]
 
-pub named_typed : (n : Names) (c : Context) (o : Option Meaning) (y : Term × Shape) → ((m : Meaning) → o ≡ Some m → Fitting n c m) → named o ≡ Ok y → Typed c y
+pub named_typed : (n : Names) (c : Context) (o : Option NameMeaning) (y : Term × Shape) → ((m : NameMeaning) → o ≡ Some m → Fitting n c m) → named o ≡ Ok y → Typed c y
 named_typed n c (Some (valued k t)) y h e = let z : (k, t) ≡ y = cc in subst (Typed c) z (h (valued k t) refl)
 named_typed n c (Some (controlled k x)) y h e = absurd cc
 named_typed n c (Some screened) y h e = absurd cc
@@ -389,7 +389,7 @@ default_suits c n i t e = by_test (is_items c n) refl e
 along : (c : Context) (y x : Term × Shape) → y ≡ x → Typed c y → Typed c x
 along c y x e h = subst (Typed c) e h
 
-known_typed : (c : Context) (k : Term) (x : List ℕ) (u : Shape) (o : Option Shape) (y : Term × Shape) → IsTyped c k u → field_of x u ≡ o → known_field k x o ≡ Ok y → Typed c y
+known_typed : (c : Context) (k : Term) (x : List ℕ) (u : Shape) (o : Option Shape) (y : Term × Shape) → IsTyped c k u → field_shape x u ≡ o → known_field k x o ≡ Ok y → Typed c y
 known_typed c k x u (Some t) y h i e = let z : (of (term.dot x) (cons k nil), t) ≡ y = cc in along c _ y z (u ∷ [], (u, [], refl, h, refl), i)
 known_typed c k x u None y h i e = absurd cc
 
@@ -402,7 +402,7 @@ field_typed c k x booleans y h e = absurd cc
 field_typed c k x dates y h e = absurd cc
 field_typed c k x (tables cs) y h e = absurd cc
 
-chosen_type : (c : Control) (x : List ℕ) (t : Shape) → is_chosen c x ≡ true → chosen_of c t ≡ Some t
+chosen_type : (c : Control) (x : List ℕ) (t : Shape) → is_chosen c x ≡ true → chosen_shape c t ≡ Some t
 chosen_type control.Gallery x t e = refl
 chosen_type control.Label x t e = absurd cc
 chosen_type control.Button x t e = absurd cc
@@ -416,7 +416,7 @@ control_typed : (p : Place) (s : Setting) (k : ℕ) (c : ControlName) (g : Optio
 control_typed p s k c (Some g) x y law here e = absurd cc
 control_typed p s k c None x y law here e = by_chosen (is_chosen c.kind (encode_utf8_all x)) refl e
   where
-    by_written : (t : Shape) (o : Option (ℕ × Property)) → place_of (λ (q : Property). nat_eq q.control k && bytes_eq q.name x) 0 p.names.properties ≡ o → property_of x c ≡ Some t →
+    by_written : (t : Shape) (o : Option (ℕ × Property)) → first_match (λ (q : Property). nat_eq q.control k && bytes_eq q.name x) 0 p.names.properties ≡ o → property_of x c ≡ Some t →
         Typed (context_of p s) (written_or c.kind x t o)
     by_written t (Some q) i j = read_typed (context_of p s) (source.Cell q.1.cell) t (property_source p.names k c x t q law here j i)
     by_written t None i j =
@@ -425,7 +425,7 @@ control_typed p s k c None x y law here e = by_chosen (is_chosen c.kind (encode_
 
     by_property : (o : Option Shape) → property_of x c ≡ o → property_read p.names k c x o ≡ Ok y → Typed (context_of p s) y
     by_property (Some t) i j =
-        let z : written_or c.kind x t (place_of (λ (q : Property). nat_eq q.control k && bytes_eq q.name x) 0 p.names.properties) ≡ y = cc in
+        let z : written_or c.kind x t (first_match (λ (q : Property). nat_eq q.control k && bytes_eq q.name x) 0 p.names.properties) ≡ y = cc in
         along (context_of p s) _ y z (by_written t _ refl i)
     by_property None i j = absurd cc
 
@@ -444,14 +444,14 @@ control_typed p s k c None x y law here e = by_chosen (is_chosen c.kind (encode_
     by_chosen true i j =
         let z : (of (read (source.Chosen k)) nil, item_type c) ≡ y = cc in
         along (context_of p s) _ y z (read_typed (context_of p s) (source.Chosen k) (item_type c)
-        (ap (option_and_then (λ (c : ControlName). chosen_of c.kind (item_type c))) here ∙ chosen_type c.kind (encode_utf8_all x) (item_type c) i))
+        (ap (option_and_then (λ (c : ControlName). chosen_shape c.kind (item_type c))) here ∙ chosen_type c.kind (encode_utf8_all x) (item_type c) i))
     by_chosen false i j = by_input (is_input c.kind (encode_utf8_all x)) j
 
 member_typed : (c : Context) (b : Bool) (x : List ℕ) (y : Term × Shape) → member_of b x ≡ Ok y → Typed c y
 member_typed c true x y e = let z : (of (const (text x)) nil, texts) ≡ y = cc in along c _ y z ([], refl, (refl, inl tt))
 member_typed c false x y e = absurd cc
 
-pub dotted_typed : (p : Place) (s : Setting) (x : List ℕ) (m : Meaning) (y : Term × Shape) → IsLawful p.names → Fitting p.names (context_of p s) m →
+pub dotted_typed : (p : Place) (s : Setting) (x : List ℕ) (m : NameMeaning) (y : Term × Shape) → IsLawful p.names → Fitting p.names (context_of p s) m →
     dotted p.names x (Some m) ≡ Ok y → Typed (context_of p s) y
 dotted_typed p s x (valued k t) y law h e = field_typed (context_of p s) k x t y h e
 dotted_typed p s x (controlled k c) y law h e = control_typed p s k c c.gallery x y law h e

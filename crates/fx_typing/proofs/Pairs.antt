@@ -4,7 +4,7 @@ use Rattle.std.proofs.lemmas.List.{take_all}
 use Rattle.fx_types.specs.TypeView.{shape}
 use Rattle.fx_types.specs.Types.{ColumnList}
 use Rattle.fx_core.specs.Term.{Term}
-use Rattle.fx_typing.specs.Columns.{label_of, by_label, added, renamed}
+use Rattle.fx_typing.specs.Columns.{label_of, by_label, added, columns_renamed}
 use Rattle.fx_core.specs.ColumnLists.{with_new, with_renamed}
 use Rattle.fx_typing.specs.declared.typed.Typed.{Typed}
 use Rattle.fx_typing.specs.TypedView.{typed}
@@ -33,7 +33,7 @@ added_step (x ∷ y ∷ xs) a b n cs ds h p q e f =
 
 pub renamed_step : (xs : List Typed) (a b : Typed) (n m : List ℕ) (cs ds : ColumnList) →
     2 ≤ length xs → a ≡ get_or xs 0 a → b ≡ get_or xs 1 b → named a.core ≡ Ok n → named b.core ≡ Ok m → with_renamed n m cs ≡ Ok ds →
-    renamed (map typed (take (length xs - 2) (drop 2 xs))) ds ≡ renamed (map typed xs) cs
+    columns_renamed (map typed (take (length xs - 2) (drop 2 xs))) ds ≡ columns_renamed (map typed xs) cs
 renamed_step [] a b n m cs ds h p q e f g = absurd (omega arith)
 renamed_step (x ∷ []) a b n m cs ds h p q e f g = absurd (omega arith)
 renamed_step (x ∷ y ∷ xs) a b n m cs ds h p q e f g =

@@ -8,9 +8,9 @@ use Rattle.fx_core.specs.Rows.{row_of, takes_at}
 use Rattle.fx_core.specs.declared.names.Names.{Names}
 use Rattle.fx_core.specs.Tree.{Tree, Forest, Head}
 use Rattle.fx_core.specs.Tree as tree
-use Rattle.fx_typing.specs.Meaning.{Place, Meaning, valued, controlled, screened, enumerated, or_else}
-use Rattle.fx_typing.specs.WellTyped.{Standing, plain, inside, bound, catching}
-use Rattle.fx_typing.specs.Parts.{Grant, a_target, aliased_target, a_meaning, on_screen, Part, piece, meant, target, assigned, Setting, may_act}
+use Rattle.fx_typing.specs.Meaning.{Place, NameMeaning, valued, controlled, screened, enumerated, or_else}
+use Rattle.fx_typing.specs.WellTyped.{PartScope, plain, inside, bound, catching}
+use Rattle.fx_typing.specs.Parts.{Grant, a_target, aliased_target, a_meaning, on_screen, JudgedPart, piece, meant, target, assigned, Setting, may_act}
 use Rattle.fx_typing.specs.Plans.{grant_of, if_acting, called_as}
 use Rattle.fx_typing.specs.Elaborates.{Elaborates, a_node, PartsElaborate, no_more, one_more}
 use Rattle.fx_typing.specs.Nodes
@@ -28,24 +28,24 @@ IsForScreen (on_screen b) = Unit {0}
 IsForScreen g = ⊥
 
 -- what may be a part, by what the place allows
-abbrev MayBe : Grant → Part → Type 0
+abbrev MayBe : Grant → JudgedPart → Type 0
 MayBe g (piece k) = Unit {0}
 MayBe g (target a x) = IsForTarget g
 MayBe g (meant m) = IsForLeft g
 MayBe g (assigned ns xs) = IsForScreen g
 
 -- parts from a place on, of so many
-abbrev pub MayBeAll : Names → Setting → Head → ℕ → ℕ → Option Part → List Part → Type 0
+abbrev pub MayBeAll : Names → Setting → Head → ℕ → ℕ → Option JudgedPart → List JudgedPart → Type 0
 MayBeAll m s h n i first [] = Unit {0}
 MayBeAll m s h n i first (q ∷ qs) = MayBe (part_plan m s.grant h n i first).grant q × MayBeAll m s h n (suc i) (or_else first (Some q)) qs
 
-left_may : (g : Grant) (b : Bool) (m : Meaning) → g ≡ a_meaning b → MayBe g (left_part m)
+left_may : (g : Grant) (b : Bool) (m : NameMeaning) → g ≡ a_meaning b → MayBe g (left_part m)
 left_may g b (valued c t) e = tt
 left_may g b (controlled k c) e = subst IsForLeft (sym e) tt
 left_may g b screened e = subst IsForLeft (sym e) tt
 left_may g b (enumerated v) e = subst IsForLeft (sym e) tt
 
-node_may : (p : Place) (s : Setting) (h : Head) (qs : List Part) (q : Part) → Node p s h qs q → MayBe s.grant q
+node_may : (p : Place) (s : Setting) (h : Head) (qs : List JudgedPart) (q : JudgedPart) → Node p s h qs q → MayBe s.grant q
 node_may p s h qs q (Nodes.named_target i) = i
 node_may p s h qs q (Nodes.named_left {b = b} {m = m} i j) = left_may s.grant b m i
 node_may p s h qs q (Nodes.global_target i) = i
@@ -74,10 +74,10 @@ node_may p s h qs q (Nodes.a_list v r b) = tt
 node_may p s h qs q Nodes.empty_weave = tt
 node_may p s h qs q (Nodes.a_weave c) = tt
 
-formula_may : (p : Place) (s : Setting) (e : Tree) (q : Part) → Elaborates p s e q → MayBe s.grant q
+formula_may : (p : Place) (s : Setting) (e : Tree) (q : JudgedPart) → Elaborates p s e q → MayBe s.grant q
 formula_may p s e q (a_node {h = h} {qs = qs} parts whole) = node_may p s h qs q whole
 
-stood_grant : (m : Names) (s : Setting) (st : Standing) (g : Grant) (first : Option Part) → (stood m s st g first).grant ≡ g
+stood_grant : (m : Names) (s : Setting) (st : PartScope) (g : Grant) (first : Option JudgedPart) → (stood m s st g first).grant ≡ g
 stood_grant m s plain g first = refl
 stood_grant m s inside g None = refl
 stood_grant m s inside g (Some q) = refl
@@ -85,7 +85,7 @@ stood_grant m s bound g None = refl
 stood_grant m s bound g (Some q) = refl
 stood_grant m s catching g first = refl
 
-pub parts_may : (p : Place) (s : Setting) (h : Head) (n i : ℕ) (first : Option Part) (ts : Forest) (qs : List Part) → PartsElaborate p s h n i first ts qs →
+pub parts_may : (p : Place) (s : Setting) (h : Head) (n i : ℕ) (first : Option JudgedPart) (ts : Forest) (qs : List JudgedPart) → PartsElaborate p s h n i first ts qs →
     MayBeAll p.names s h n i first qs
 parts_may p s h n i first ts qs no_more = tt
 parts_may p s h n i first ts qs (one_more {k = k} {ks = ks} {q = q} {qs = others} one rest) = (
@@ -113,7 +113,7 @@ table_piece b takes.Branch = acting_piece b
 table_piece b takes.Fallback = acting_piece b
 table_piece b k = tt
 
-only_piece : (g : Grant) (q : Part) → IsForPiece g → MayBe g q → IsPiece q
+only_piece : (g : Grant) (q : JudgedPart) → IsForPiece g → MayBe g q → IsPiece q
 only_piece g (piece k) i m = tt
 only_piece a_target (target a x) i m = absurd i
 only_piece aliased_target (target a x) i m = absurd i
@@ -123,7 +123,7 @@ only_piece g (meant k) i m = absurd m
 only_piece (on_screen b) (assigned ns xs) i m = absurd i
 only_piece g (assigned ns xs) i m = absurd m
 
-pub all_pieces : (m : Names) (s : Setting) (x : List ℕ) (f : Fun) (n i : ℕ) (first : Option Part) (qs : List Part) → called_as m x ≡ Some (sig.One f) →
+pub all_pieces : (m : Names) (s : Setting) (x : List ℕ) (f : Fun) (n i : ℕ) (first : Option JudgedPart) (qs : List JudgedPart) → called_as m x ≡ Some (sig.One f) →
     MayBeAll m s (tree.call x) n i first qs → ArePieces qs
 all_pieces m s x f n i first [] e h = tt
 all_pieces m s x f n i first (q ∷ qs) e h =

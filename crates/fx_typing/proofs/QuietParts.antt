@@ -21,14 +21,14 @@ use Rattle.fx_core.specs.SourceTypes.{property_of}
 use Rattle.fx_core.specs.Term.{Term, of, nil, cons, all, Top, read, row, item}
 use Rattle.fx_core.specs.Term as term
 use Rattle.fx_typing.specs.Acts.{is_acting, acts, any_acts}
-use Rattle.fx_typing.specs.Columns.{field_of, tells_error}
+use Rattle.fx_typing.specs.Columns.{field_shape, tells_error}
 use Rattle.fx_core.specs.ColumnLists.{and_then, field_in}
-use Rattle.fx_typing.specs.Local.{Piece, value, label, by_way, exact_way, branch_way, when, without_kind, stand, put_first, stand_rest, stand_all, branches, common_of, firsts, answer_by, made_as, made_by, made, formed}
-use Rattle.fx_typing.specs.Meaning.{Place, Scope, Meaning, valued, controlled, screened, enumerated, or_else, field_at, in_scope_by, in_scopes, whole_by, this_record, this_item, first_error, reserved, place_of, is_on, is_global, in_context, in_globals, behind_scopes, meaning_of, named, is_input, is_chosen, written_or, property_read, input_read, control_read, member_of, known_field, field_read, dotted}
+use Rattle.fx_typing.specs.Local.{Piece, value, label, by_way, exact_way, branch_way, part_or_rule, without_kind, stand, put_first, stand_rest, stand_all, branches, common_of, firsts, answer_by, made_as, made_by, node_made, formed}
+use Rattle.fx_typing.specs.Meaning.{Place, Scope, NameMeaning, valued, controlled, screened, enumerated, or_else, field_at, in_scope_by, in_scopes, whole_by, this_record, this_item, first_error, reserved, first_match, is_on, is_global, in_context, in_globals, behind_scopes, meaning_of, named, is_input, is_chosen, written_or, property_read, input_read, control_read, member_of, known_field, field_read, dotted}
 use Rattle.fx_typing.specs.Ways.{Way, same, changed, refused, way, is_scalar, is_comparable}
-use Rattle.fx_typing.specs.WellTyped.{answered, head_by, head_of}
+use Rattle.fx_typing.specs.WellTyped.{answered_type, head_by, head_of}
 use Rattle.fx_typing.specs.Calls.{made_if}
-use Rattle.fx_typing.specs.Parts.{Grant, nothing, acting, an_alias, a_column, a_target, aliased_target, a_meaning, on_screen, Part, piece, meant, target, assigned, as_part, pieces, put_value, values, unless}
+use Rattle.fx_typing.specs.Parts.{Grant, nothing, acting, an_alias, a_column, a_target, aliased_target, a_meaning, on_screen, JudgedPart, piece, meant, target, assigned, as_part, pieces, put_value, values, unless_rule}
 use Rattle.fx_typing.specs.Typing.{left_of_dot, name_by, global_by, dot_by, alias_by}
 
 -- trees in which nothing acts
@@ -40,17 +40,17 @@ abbrev pub PieceQuiet : Piece → Type 0
 PieceQuiet (value a c t) = acts c ≡ false
 PieceQuiet (label x) = Unit {0}
 
-abbrev pub MeaningQuiet : Meaning → Type 0
+abbrev pub MeaningQuiet : NameMeaning → Type 0
 MeaningQuiet (valued c t) = acts c ≡ false
 MeaningQuiet m = Unit {0}
 
-abbrev pub PartQuiet : Part → Type 0
+abbrev pub PartQuiet : JudgedPart → Type 0
 PartQuiet (piece k) = PieceQuiet k
 PartQuiet (meant m) = MeaningQuiet m
 PartQuiet (assigned ns xs) = AllQuiet xs
 PartQuiet (target a x) = Unit {0}
 
-abbrev pub EachQuiet : List Part → Type 0
+abbrev pub EachQuiet : List JudgedPart → Type 0
 EachQuiet [] = Unit {0}
 EachQuiet (q ∷ qs) = PartQuiet q × EachQuiet qs
 
@@ -66,7 +66,7 @@ Made P (Err e) = Unit {0}
 abbrev pub TreeQuiet : Term × Shape → Type 0
 TreeQuiet x = acts x.0 ≡ false
 
-abbrev pub IfMeant : Option Meaning → Type 0
+abbrev pub IfMeant : Option NameMeaning → Type 0
 IfMeant (Some m) = MeaningQuiet m
 IfMeant None = Unit {0}
 
@@ -74,7 +74,7 @@ pub then_quiet : {A B : Type 0} (P : A → Type 0) (Q : B → Type 0) (r : Resul
 then_quiet P Q (Ok a) go h k = k a h
 then_quiet P Q (Err e) go h k = tt
 
-pub unless_quiet : {A : Type 0} (P : A → Type 0) (b : Bool) (k : ℕ) (r : Result A ℕ) → Made P r → Made P (unless b k r)
+pub unless_quiet : {A : Type 0} (P : A → Type 0) (b : Bool) (k : ℕ) (r : Result A ℕ) → Made P r → Made P (unless_rule b k r)
 unless_quiet P true k (Ok x) h = tt
 unless_quiet P false k (Ok x) h = h
 unless_quiet P b k (Err e) h = by_test (b && nat_lt k e)
@@ -84,7 +84,7 @@ unless_quiet P b k (Err e) h = by_test (b && nat_lt k e)
     by_test false = tt
 
 -- where a place lets nothing act, what would act is refused
-pub unless_refuses : {A : Type 0} (P : A → Type 0) (g : Bool) (k : ℕ) (r : Result A ℕ) → g ≡ false → Made P (unless (not g) k r)
+pub unless_refuses : {A : Type 0} (P : A → Type 0) (g : Bool) (k : ℕ) (r : Result A ℕ) → g ≡ false → Made P (unless_rule (not g) k r)
 unless_refuses P true k r e = absurd cc
 unless_refuses P false k (Ok x) e = tt
 unless_refuses P false k (Err n) e = by_test (nat_lt k n)
@@ -117,7 +117,7 @@ by_way_quiet same c t h = h
 by_way_quiet changed c t h = one_quiet (term.coerce t) c refl h
 by_way_quiet refused c t h = tt
 
-when_quiet : (b : Bool) (e : ℕ) (c : Term) (t : Shape) → acts c ≡ false → Made TreeQuiet (when b e c t)
+when_quiet : (b : Bool) (e : ℕ) (c : Term) (t : Shape) → acts c ≡ false → Made TreeQuiet (part_or_rule b e c t)
 when_quiet true e c t h = h
 when_quiet false e c t h = tt
 
@@ -159,7 +159,7 @@ all_quiet r common (p ∷ ps) h =
     (λ x k. put_quiet x (stand_rest r (suc (length ps)) 1 x.1 common ps) k (rest_quiet r (suc (length ps)) 1 x.1 common ps h.1))
 
 answer_quiet : (r : Row) (h : Top) (common : Shape) (xs : List (Term × Shape)) → is_acting h ≡ false → AllQuiet xs → Made TreeQuiet (answer_by r h common xs)
-answer_quiet r h common xs e k = then_quiet (λ t. Unit {0}) TreeQuiet (answered r.answer common xs) _ (any_answer (answered r.answer common xs)) (λ t u. tree_quiet h xs e k)
+answer_quiet r h common xs e k = then_quiet (λ t. Unit {0}) TreeQuiet (answered_type r.answer common xs) _ (any_answer (answered_type r.answer common xs)) (λ t u. tree_quiet h xs e k)
   where
     any_answer : (o : Result Shape ℕ) → Made (λ t. Unit {0}) o
     any_answer (Ok t) = tt
@@ -177,7 +177,7 @@ head_quiet : (k : Takes) (f : Fun) → is_acting (head_by k f) ≡ false
 head_quiet takes.Table f = refl
 head_quiet k f = refl
 
-pub made_quiet : (f : Fun) (ps : List Piece) → PiecesQuiet ps → Made TreeQuiet (made f ps)
+pub made_quiet : (f : Fun) (ps : List Piece) → PiecesQuiet ps → Made TreeQuiet (node_made f ps)
 made_quiet f ps h = made_by_quiet (row_of f) (head_of f) ps (head_quiet (row_of f).first f) h
 
 pub formed_quiet : (f : Form) (ps : List Piece) → PiecesQuiet ps → Made TreeQuiet (formed f ps)
@@ -188,7 +188,7 @@ made_if_quiet (Some f) ps h = made_quiet f ps h
 made_if_quiet None ps h = tt
 
 -- parts
-pub pieces_quiet : (qs : List Part) → EachQuiet qs → PiecesQuiet (pieces qs)
+pub pieces_quiet : (qs : List JudgedPart) → EachQuiet qs → PiecesQuiet (pieces qs)
 pieces_quiet [] h = tt
 pieces_quiet (piece k ∷ qs) h = (h.0, pieces_quiet qs h.1)
 pieces_quiet (meant m ∷ qs) h = (tt, pieces_quiet qs h.1)
@@ -199,7 +199,7 @@ put_value_quiet : (x : Term × Shape) (r : Result (List (Term × Shape)) ℕ) �
 put_value_quiet x (Ok xs) h k = (h, k)
 put_value_quiet x (Err e) h k = tt
 
-pub values_quiet : (qs : List Part) → EachQuiet qs → Made AllQuiet (values qs)
+pub values_quiet : (qs : List JudgedPart) → EachQuiet qs → Made AllQuiet (values qs)
 values_quiet [] h = tt
 values_quiet (piece (value a c t) ∷ qs) h = put_value_quiet (c, t) (values qs) h.0 (values_quiet qs h.1)
 values_quiet (piece (label x) ∷ qs) h = tt
@@ -213,11 +213,11 @@ take_quiet (suc n) [] h = tt
 take_quiet (suc n) (p ∷ ps) h = (h.0, take_quiet n ps h.1)
 
 -- names
-else_quiet : (a b : Option Meaning) → IfMeant a → IfMeant b → IfMeant (or_else a b)
+else_quiet : (a b : Option NameMeaning) → IfMeant a → IfMeant b → IfMeant (or_else a b)
 else_quiet (Some m) b h k = h
 else_quiet None b h k = k
 
-map_quiet : {A : Type 0} (f : A → Meaning) (o : Option A) → ((a : A) → MeaningQuiet (f a)) → IfMeant (option_map f o)
+map_quiet : {A : Type 0} (f : A → NameMeaning) (o : Option A) → ((a : A) → MeaningQuiet (f a)) → IfMeant (option_map f o)
 map_quiet f (Some a) h = h a
 map_quiet f None h = tt
 
@@ -231,7 +231,7 @@ in_scope_quiet (Some a) k x t = by_test (bytes_eq a x)
     by_test : (b : Bool) → IfMeant (if b then Some (valued (of (row k) nil) t) else None)
     by_test true = refl
     by_test false = tt
-in_scope_quiet None k x t = field_at_quiet k x (field_of x t)
+in_scope_quiet None k x t = field_at_quiet k x (field_shape x t)
 
 in_scopes_quiet : (k : ℕ) (x : List ℕ) (ss : List Scope) → IfMeant (in_scopes k x ss)
 in_scopes_quiet k x [] = tt
@@ -254,22 +254,22 @@ first_error_quiet true = refl
 first_error_quiet false = tt
 
 in_context_quiet : (p : Place) (x : List ℕ) → IfMeant (in_context p x)
-in_context_quiet p x = map_quiet _ (place_of (λ (v : Variable). is_on p.screen v.screen && bytes_eq v.name x) 0 p.names.variables) (λ v. refl)
+in_context_quiet p x = map_quiet _ (first_match (λ (v : Variable). is_on p.screen v.screen && bytes_eq v.name x) 0 p.names.variables) (λ v. refl)
 
 pub in_globals_quiet : (n : Names) (x : List ℕ) → IfMeant (in_globals n x)
 in_globals_quiet n x =
-    else_quiet _ _ (map_quiet _ (place_of (λ (v : Variable). is_global v.screen && bytes_eq v.name x) 0 n.variables) (λ v. refl))
-    (else_quiet _ _ (map_quiet _ (place_of (λ (c : Collection). bytes_eq c.name x) 0 n.collections) (λ v. refl))
-    (else_quiet _ _ (map_quiet _ (place_of (λ (f : FormulaName). bytes_eq f.name x) 0 n.formulas) (λ v. refl))
-    (else_quiet _ _ (map_quiet _ (place_of (λ (t : TableShape). bytes_eq t.name x) 0 n.schema.tables) (λ v. refl))
-    (else_quiet _ _ (map_quiet _ (place_of (λ (c : ControlName). bytes_eq c.name x) 0 n.controls) (λ v. tt))
-    (map_quiet _ (place_of (λ (s : List ℕ). bytes_eq s x) 0 n.screens) (λ v. tt))))))
+    else_quiet _ _ (map_quiet _ (first_match (λ (v : Variable). is_global v.screen && bytes_eq v.name x) 0 n.variables) (λ v. refl))
+    (else_quiet _ _ (map_quiet _ (first_match (λ (c : Collection). bytes_eq c.name x) 0 n.collections) (λ v. refl))
+    (else_quiet _ _ (map_quiet _ (first_match (λ (f : FormulaName). bytes_eq f.name x) 0 n.formulas) (λ v. refl))
+    (else_quiet _ _ (map_quiet _ (first_match (λ (t : TableShape). bytes_eq t.name x) 0 n.schema.tables) (λ v. refl))
+    (else_quiet _ _ (map_quiet _ (first_match (λ (c : ControlName). bytes_eq c.name x) 0 n.controls) (λ v. tt))
+    (map_quiet _ (first_match (λ (s : List ℕ). bytes_eq s x) 0 n.screens) (λ v. tt))))))
 
-abbrev IfReserved : Option (Option Meaning) → Type 0
+abbrev IfReserved : Option (Option NameMeaning) → Type 0
 IfReserved (Some o) = IfMeant o
 IfReserved None = Unit {0}
 
-if_reserved : (b : Bool) (o : Option Meaning) (r : Option (Option Meaning)) → IfMeant o → IfReserved r → IfReserved (if b then Some o else r)
+if_reserved : (b : Bool) (o : Option NameMeaning) (r : Option (Option NameMeaning)) → IfMeant o → IfReserved r → IfReserved (if b then Some o else r)
 if_reserved true o r h k = h
 if_reserved false o r h k = k
 
@@ -286,25 +286,25 @@ reserved_quiet p ss b x =
 pub meaning_quiet : (p : Place) (ss : List Scope) (b : Bool) (x : List ℕ) → IfMeant (meaning_of p ss b x)
 meaning_quiet p ss b x = else_quiet (in_scopes 0 x ss) _ (in_scopes_quiet 0 x ss) (behind (reserved p ss b x) (reserved_quiet p ss b x))
   where
-    behind : (o : Option (Option Meaning)) → IfReserved o → IfMeant (behind_scopes p x o)
+    behind : (o : Option (Option NameMeaning)) → IfReserved o → IfMeant (behind_scopes p x o)
     behind (Some o) h = h
     behind None h = else_quiet (in_context p x) (in_globals p.names x) (in_context_quiet p x) (in_globals_quiet p.names x)
 
-left_quiet : (o : Option Meaning) → IfMeant o → Made PartQuiet (left_of_dot o)
+left_quiet : (o : Option NameMeaning) → IfMeant o → Made PartQuiet (left_of_dot o)
 left_quiet (Some (valued c t)) h = h
 left_quiet (Some (controlled k c)) h = tt
 left_quiet (Some screened) h = tt
 left_quiet (Some (enumerated e)) h = tt
 left_quiet None h = tt
 
-named_quiet : (o : Option Meaning) → IfMeant o → Made PartQuiet (as_part (named o))
+named_quiet : (o : Option NameMeaning) → IfMeant o → Made PartQuiet (as_part (named o))
 named_quiet (Some (valued c t)) h = h
 named_quiet (Some (controlled k c)) h = tt
 named_quiet (Some screened) h = tt
 named_quiet (Some (enumerated e)) h = tt
 named_quiet None h = tt
 
-pub name_by_quiet : (g : Grant) (x : List ℕ) (o : Option Meaning) → IfMeant o → Made PartQuiet (name_by g x o)
+pub name_by_quiet : (g : Grant) (x : List ℕ) (o : Option NameMeaning) → IfMeant o → Made PartQuiet (name_by g x o)
 name_by_quiet a_column x o h = tt
 name_by_quiet a_target x o h = tt
 name_by_quiet aliased_target x o h = tt
@@ -314,7 +314,7 @@ name_by_quiet acting x o h = named_quiet o h
 name_by_quiet an_alias x o h = named_quiet o h
 name_by_quiet (on_screen b) x o h = named_quiet o h
 
-pub global_by_quiet : (g : Grant) (x : List ℕ) (o : Option Meaning) → IfMeant o → Made PartQuiet (global_by g x o)
+pub global_by_quiet : (g : Grant) (x : List ℕ) (o : Option NameMeaning) → IfMeant o → Made PartQuiet (global_by g x o)
 global_by_quiet a_column x o h = named_quiet o h
 global_by_quiet a_target x o h = tt
 global_by_quiet aliased_target x o h = tt
@@ -338,7 +338,7 @@ input_quiet k (Some t) = refl
 input_quiet k None = tt
 
 property_quiet : (n : Names) (k : ℕ) (c : ControlName) (x : List ℕ) (o : Option Shape) → Made TreeQuiet (property_read n k c x o)
-property_quiet n k c x (Some t) = by_written (place_of (λ (q : Property). nat_eq q.control k && bytes_eq q.name x) 0 n.properties)
+property_quiet n k c x (Some t) = by_written (first_match (λ (q : Property). nat_eq q.control k && bytes_eq q.name x) 0 n.properties)
   where
     by_written : (o : Option (ℕ × Property)) → acts (written_or c.kind x t o).0 ≡ false
     by_written (Some q) = refl
@@ -355,18 +355,18 @@ member_quiet : (b : Bool) (x : List ℕ) → Made TreeQuiet (member_of b x)
 member_quiet true x = refl
 member_quiet false x = tt
 
-dotted_quiet : (n : Names) (x : List ℕ) (m : Meaning) → MeaningQuiet m → Made TreeQuiet (dotted n x (Some m))
+dotted_quiet : (n : Names) (x : List ℕ) (m : NameMeaning) → MeaningQuiet m → Made TreeQuiet (dotted n x (Some m))
 dotted_quiet n x (valued c t) h = field_quiet c x t h
 dotted_quiet n x (controlled k c) h = control_quiet n k c c.gallery x
 dotted_quiet n x (enumerated e) h = member_quiet (has_member e (encode_utf8_all x)) x
 dotted_quiet n x screened h = tt
 
-pub dot_by_quiet : (p : Place) (x : List ℕ) (qs : List Part) → EachQuiet qs → Made TreeQuiet (dot_by p x qs)
+pub dot_by_quiet : (p : Place) (x : List ℕ) (qs : List JudgedPart) → EachQuiet qs → Made TreeQuiet (dot_by p x qs)
 dot_by_quiet p x (piece (value a c t) ∷ []) h = dotted_quiet p.names x (valued c t) h.0
 dot_by_quiet p x (meant m ∷ []) h = dotted_quiet p.names x m h.0
 dot_by_quiet p x qs h = tt
 
-pub alias_by_quiet : (g : Grant) (x : List ℕ) (qs : List Part) → EachQuiet qs → Made PartQuiet (alias_by g x qs)
+pub alias_by_quiet : (g : Grant) (x : List ℕ) (qs : List JudgedPart) → EachQuiet qs → Made PartQuiet (alias_by g x qs)
 alias_by_quiet an_alias x (piece (value a c t) ∷ []) h = h.0
 alias_by_quiet aliased_target x (piece (value a c t) ∷ []) h = h.0
 alias_by_quiet aliased_target x (target None y ∷ []) h = tt

@@ -9,7 +9,7 @@ use Rattle.fx_core.specs.Term as term
 use Rattle.fx_typing.specs.Local.{join_all, firsts}
 use Rattle.fx_typing.specs.WellTyped.{Context, IsBelowNames, NamesRise, columns_by, last_type}
 use Rattle.fx_typing.proofs.Rules.{Typed}
-use Rattle.fx_typing.specs.Builds.{list_as, bounded, put_field, put_fields, field_names, field_parts, types_of, are_distinct, record_by, record_of, list_of}
+use Rattle.fx_typing.specs.Builds.{list_as, bounded, put_field, put_fields, field_names, field_parts, types_of, are_names_distinct, record_by, typed_record, typed_list}
 use Rattle.fx_typing.specs.Typing.{chain_as, chain_by}
 use Rattle.fx_typing.proofs.Built.{bounded_ok, list_as_typed}
 use Rattle.fx_typing.proofs.Frame.{AllTyped}
@@ -72,8 +72,8 @@ as_many : (fs : Fields) → length (field_names fs) ≡ length (types_of (field_
 as_many [] = refl
 as_many (f ∷ fs) = ap suc (as_many fs)
 
-pub record_typed : (c : Context) (ns : List (List ℕ)) (xs : List (Term × Shape)) (y : Term × Shape) → AllTyped c xs → record_of ns xs ≡ Ok y → Typed c y
-record_typed c ns xs y h e = by_test (are_distinct ns) e
+pub record_typed : (c : Context) (ns : List (List ℕ)) (xs : List (Term × Shape)) (y : Term × Shape) → AllTyped c xs → typed_record ns xs ≡ Ok y → Typed c y
+record_typed c ns xs y h e = by_test (are_names_distinct ns) e
   where
     by_test : (b : Bool) → (if b then bounded (Ok (record_by (put_fields ns xs))) else Err 5) ≡ Ok y → Typed c y
     by_test true i =
@@ -87,7 +87,7 @@ record_typed c ns xs y h e = by_test (are_distinct ns) e
     by_test false i = absurd cc
 
 -- rows
-pub list_typed : (c : Context) (xs : List (Term × Shape)) (y : Term × Shape) → AllTyped c xs → list_of xs ≡ Ok y → Typed c y
+pub list_typed : (c : Context) (xs : List (Term × Shape)) (y : Term × Shape) → AllTyped c xs → typed_list xs ≡ Ok y → Typed c y
 list_typed c [] y h e = list_as_typed c (Some (records no_columns)) [] y h (bounded_ok (list_as (Some (records no_columns)) []) y e)
 list_typed c (x ∷ xs) y h e =
     let joined = join_all (Some blanks) (x ∷ xs) in

@@ -28,33 +28,33 @@ use Rattle.fx_typing.specs.WellTyped.{target_source, head_of}
 use Rattle.fx_typing.specs.Ways.{Way, same, changed, refused, way, is_open}
 use Rattle.fx_typing.specs.Breaks.{could_be_row, could_be_condition, all_could, could_act, all_on_screen, gives_variables, too_large, large_variable, large_collection, large_on_screen, large_given}
 use Rattle.fx_typing.specs.Builds.{is_bounded}
-use Rattle.fx_typing.specs.Deeds.{done_by, joins_to, given, by_name, if_known, by_rows, set_to, set_of, give_one, give_all, given_sources, given_terms, update_of, rows_of, rows_given, collect_to, collect_of, clear_by, clear_of, misfit, settable, by_id, row_named, rows_named_by, leaves_id, row_of_one, change_of, changes_of, patch_to, patch_of, remove_of, filter_of, remove_if, update_to, update_if, navigate_of, notify_of, reset_by, reset_of, acted}
-use Rattle.fx_typing.specs.Parts.{Part, piece, meant, target, assigned, piece_of, pieces, values, lowest, all_or_lowest}
+use Rattle.fx_typing.specs.Deeds.{done_by, joins_to, given_variable, by_first_name, if_known, by_rows, set_to, set_of, give_one, give_all, given_sources, given_terms, update_of, rows_collected, rows_given, collect_to, collect_of, clear_by, clear_of, misfit, settable, by_id, row_typed, rows_named_by, leaves_id, row_of_one, change_of, changes_of, patch_to, patch_of, remove_of, filter_of, remove_if, update_to, update_if, navigate_of, notify_of, reset_by, reset_of, acted}
+use Rattle.fx_typing.specs.Parts.{JudgedPart, piece, meant, target, assigned, piece_of, pieces, values, lowest, all_or_lowest}
 use Rattle.fx_typing.specs.Targets.{global_variable, screen_variable, collection_named, screen_named, control_named, rows_named}
-use Rattle.fx_typing.specs.Acting.{Given, given_as, GivenAll, no_names, no_values_left, one_given, Collected, none_collected, one_collected, NamedRow, by_number, by_blank, no_row_of_table, by_all, no_row_of_collection, Change, some_columns, no_change, Each, none_each, one_each, Acts}
+use Rattle.fx_typing.specs.Acting.{IsAssignable, given_as, GivenAll, no_names, no_values_left, one_given, Collected, none_collected, one_collected, NamedRow, by_number, by_blank, no_row_of_table, by_all, no_row_of_collection, Change, some_columns, no_change, Each, none_each, one_each, ActingCallHasType}
 use Rattle.fx_typing.specs.Acting
 use Rattle.fx_typing.specs.Functions.{StandFrom, none_stand, one_stands, first_and_others, by_row}
 use Rattle.fx_typing.specs.Records
-use Rattle.fx_typing.specs.Records.{Values}
+use Rattle.fx_typing.specs.Records.{AreValueParts}
 use Rattle.fx_typing.proofs.RelatedFunctions.{becomes_ok, becomes_goes, stands_goes, made_ok, made_goes}
 use Rattle.fx_typing.proofs.RelatedSteps.{ok_is, then_goes, put_first_ok, lowest_ok, if_true, if_ok, values_ok, values_are}
 use Rattle.fx_typing.proofs.Filters.{condition_at, Filtering}
 use Rattle.fx_typing.proofs.Operators.{then_ok}
 
 -- ---- values that variables are given
-given_ok : (t : Shape) (x y : Term × Shape) → given t x ≡ Ok y → Given t x y
+given_ok : (t : Shape) (x y : Term × Shape) → given_variable t x ≡ Ok y → IsAssignable t x y
 given_ok t (c, u) y e =
     let a = if_ok (joins_to t u) (by_way (way u t) c t) 11 y e in
     let b = becomes_ok (way u t) c t y a.1 in
-    subst (Given t (c, u)) b.2 (given_as a.0 b.1)
+    subst (IsAssignable t (c, u)) b.2 (given_as a.0 b.1)
 
-given_goes : (t : Shape) (x y : Term × Shape) → Given t x y → given t x ≡ Ok y
+given_goes : (t : Shape) (x y : Term × Shape) → IsAssignable t x y → given_variable t x ≡ Ok y
 given_goes t x y (given_as {c = c} {d = d} {u = u} j b) = if_true (joins_to t u) (by_way (way u t) c t) (Err 11) j ∙ becomes_goes (way u t) c t d b
 
 one_ok : (n : Names) (s : Option ℕ) (m : List ℕ) (x : Term × Shape) (g : Source × Term) (o : Option (ℕ × Variable)) → screen_variable n s m ≡ o → give_one o x ≡ Ok g →
-    (k : ℕ) × (v : Variable) × (y : Term × Shape) × (screen_variable n s m ≡ Some (k, v)) × Given (shape v.ty) x y × ((source.Context k, y.0) ≡ g)
+    (k : ℕ) × (v : Variable) × (y : Term × Shape) × (screen_variable n s m ≡ Some (k, v)) × IsAssignable (shape v.ty) x y × ((source.Context k, y.0) ≡ g)
 one_ok n s m x g (Some (k, v)) i e =
-    let a = then_ok (given (shape v.ty) x) (λ y. Ok (source.Context k, y.0)) g e in
+    let a = then_ok (given_variable (shape v.ty) x) (λ y. Ok (source.Context k, y.0)) g e in
     (k, v, a.0, i, given_ok (shape v.ty) x a.0 a.1, ok_is (source.Context k, a.0.0) g a.2)
 one_ok n s m x g None i e = absurd cc
 
@@ -74,21 +74,21 @@ give_goes n s ms xs gs no_names = refl
 give_goes n s ms xs gs no_values_left = refl
 give_goes n s ms xs gs (one_given {m = m} {ms = names} {x = x} {y = y} {xs = others} {k = k} {v = v} {gs = after} i g more) =
     both_lowest (λ h hs. h ∷ hs) (give_one (screen_variable n s m) x) (give_all n s names others) (source.Context k, y.0) after
-    (ap (λ o. give_one o x) i ∙ then_goes (given (shape v.ty) x) (λ z. Ok (source.Context k, z.0)) y (source.Context k, y.0) (given_goes (shape v.ty) x y g) refl)
+    (ap (λ o. give_one o x) i ∙ then_goes (given_variable (shape v.ty) x) (λ z. Ok (source.Context k, z.0)) y (source.Context k, y.0) (given_goes (shape v.ty) x y g) refl)
     (give_goes n s names others after more)
 
 -- ---- collected values
 collected_ok : (t : Shape) (xs ys : List (Term × Shape)) → rows_given t xs ≡ Ok ys → Collected t xs ys
 collected_ok t [] ys e = subst (Collected t []) (ok_is [] ys e) none_collected
 collected_ok t (x ∷ xs) ys e =
-    let a = then_ok (given t (rows_of x)) (λ y. put_first y (rows_given t xs)) ys e in
+    let a = then_ok (given_variable t (rows_collected x)) (λ y. put_first y (rows_given t xs)) ys e in
     let b = put_first_ok a.0 (rows_given t xs) ys a.2 in
-    subst (Collected t (x ∷ xs)) b.2 (one_collected (given_ok t (rows_of x) a.0 a.1) (collected_ok t xs b.0 b.1))
+    subst (Collected t (x ∷ xs)) b.2 (one_collected (given_ok t (rows_collected x) a.0 a.1) (collected_ok t xs b.0 b.1))
 
 collected_goes : (t : Shape) (xs ys : List (Term × Shape)) → Collected t xs ys → rows_given t xs ≡ Ok ys
 collected_goes t xs ys none_collected = refl
 collected_goes t xs ys (one_collected {x = x} {y = y} {xs = others} {ys = after} g more) =
-    then_goes (given t (rows_of x)) (λ z. put_first z (rows_given t others)) y (y ∷ after) (given_goes t (rows_of x) y g) (ap (put_first y) (collected_goes t others after more))
+    then_goes (given_variable t (rows_collected x)) (λ z. put_first z (rows_given t others)) y (y ∷ after) (given_goes t (rows_collected x) y g) (ap (put_first y) (collected_goes t others after more))
 
 -- ---- rows that are named, and changes
 id_ok : (cs : ColumnList) (k : ℕ) (c : Term) (ds : ColumnList) (o : Option Shape) (y : Term × Shape) → field_in (codes "ID") ds ≡ o → by_id c ds o ≡ Ok y →
@@ -97,7 +97,7 @@ id_ok cs k c ds (Some numbers) y i e = subst (NamedRow cs (rows.Table k) (c, rec
 id_ok cs k c ds (Some blanks) y i e = subst (NamedRow cs (rows.Table k) (c, records ds)) (ok_is (c, records ds) y e) (by_blank i)
 id_ok cs k c ds o y i e = absurd cc
 
-named_ok : (cs : ColumnList) (t : Target) (x y : Term × Shape) → row_named t cs x ≡ Ok y → NamedRow cs t x y
+named_ok : (cs : ColumnList) (t : Target) (x y : Term × Shape) → row_typed t cs x ≡ Ok y → NamedRow cs t x y
 named_ok cs (rows.Table k) (c, records ds) y e = id_ok cs k c ds (field_in (codes "ID") ds) y refl e
 named_ok cs (rows.Table k) (c, blanks) y e = subst (NamedRow cs (rows.Table k) (c, blanks)) (ok_is _ y e) no_row_of_table
 named_ok cs (rows.Gathered k) (c, records ds) y e =
@@ -107,7 +107,7 @@ named_ok cs (rows.Gathered k) (c, records ds) y e =
 named_ok cs (rows.Gathered k) (c, blanks) y e = subst (NamedRow cs (rows.Gathered k) (c, blanks)) (ok_is _ y e) no_row_of_collection
 named_ok cs t x y e = absurd cc
 
-named_goes : (cs : ColumnList) (t : Target) (x y : Term × Shape) → NamedRow cs t x y → row_named t cs x ≡ Ok y
+named_goes : (cs : ColumnList) (t : Target) (x y : Term × Shape) → NamedRow cs t x y → row_typed t cs x ≡ Ok y
 named_goes cs t x y (by_number {c = c} {ds = ds} i) = ap (by_id c ds) i
 named_goes cs t x y (by_blank {c = c} {ds = ds} i) = ap (by_id c ds) i
 named_goes cs t x y no_row_of_table = refl
@@ -143,8 +143,8 @@ module _ {A B : Type 0} (f : A → Result B ℕ) (R : A → B → Type 0) where
       both_lowest (λ z zs. z ∷ zs) (f x) (all_or_lowest f others) y after (one x y r) (each_goes one others after more)
 
 -- ---- what acting calls name
-by_name_ok : (qs : List Part) (go : List ℕ → List Part → Result (Term × Shape) ℕ) (y : Term × Shape) → by_name qs go ≡ Ok y →
-    (x : List ℕ) × (more : List Part) × (target None x ∷ more ≡ qs) × (go x more ≡ Ok y)
+by_name_ok : (qs : List JudgedPart) (go : List ℕ → List JudgedPart → Result (Term × Shape) ℕ) (y : Term × Shape) → by_first_name qs go ≡ Ok y →
+    (x : List ℕ) × (more : List JudgedPart) × (target None x ∷ more ≡ qs) × (go x more ≡ Ok y)
 by_name_ok (target None x ∷ qs) go y e = (x, qs, refl, e)
 by_name_ok qs go y e = absurd cc
 
@@ -215,141 +215,141 @@ from_screen n s (m ∷ ms) h =
 
 -- ---- one by one
 module _ (p : Place) where
-  set_ok : (x : List ℕ) (qs : List Part) (y : Term × Shape) → large_variable (global_variable p.names x) ≡ None → set_of p.names x qs ≡ Ok y → Acts p acts.Set (target None x ∷ qs) y
+  set_ok : (x : List ℕ) (qs : List JudgedPart) (y : Term × Shape) → large_variable (global_variable p.names x) ≡ None → set_of p.names x qs ≡ Ok y → ActingCallHasType p acts.Set (target None x ∷ qs) y
   set_ok x qs y small e =
       let a = then_ok (values qs) (λ xs. if_known (global_variable p.names x) (λ v. set_to v xs)) y e in
       let b = known_ok (global_variable p.names x) (λ v. set_to v a.0) y a.2 in
       by_values b.0.0 b.0.1 a.0 (values_ok qs a.0 a.1) b.1 b.2
     where
-      by_values : (k : ℕ) (g : Variable) (xs : List (Term × Shape)) → Values qs xs → global_variable p.names x ≡ Some (k, g) → set_to (k, g) xs ≡ Ok y →
-          Acts p acts.Set (target None x ∷ qs) y
+      by_values : (k : ℕ) (g : Variable) (xs : List (Term × Shape)) → AreValueParts qs xs → global_variable p.names x ≡ Some (k, g) → set_to (k, g) xs ≡ Ok y →
+          ActingCallHasType p acts.Set (target None x ∷ qs) y
       by_values k g (v ∷ []) vs i f =
-          let c = then_ok (given (shape g.ty) v) (λ z. Ok (done_by (deed.Set k) (z.0 ∷ []))) y f in
-          subst (Acts p acts.Set (target None x ∷ qs)) (ok_is (done_by (deed.Set k) (c.0.0 ∷ [])) y c.2) (Acting.set vs i (small_variable (global_variable p.names x) (k, g) i small) (given_ok (shape g.ty) v c.0 c.1))
+          let c = then_ok (given_variable (shape g.ty) v) (λ z. Ok (done_by (deed.Set k) (z.0 ∷ []))) y f in
+          subst (ActingCallHasType p acts.Set (target None x ∷ qs)) (ok_is (done_by (deed.Set k) (c.0.0 ∷ [])) y c.2) (Acting.set vs i (small_variable (global_variable p.names x) (k, g) i small) (given_ok (shape g.ty) v c.0 c.1))
       by_values k g xs vs i f = absurd cc
 
-  update_ok : (s : Option ℕ) (qs : List Part) (y : Term × Shape) → gives_variables p.names p.screen acts.UpdateContext qs ≡ true → large_given p.names p.screen acts.UpdateContext qs ≡ None → p.screen ≡ s → update_of p.names s qs ≡ Ok y → Acts p acts.UpdateContext qs y
+  update_ok : (s : Option ℕ) (qs : List JudgedPart) (y : Term × Shape) → gives_variables p.names p.screen acts.UpdateContext qs ≡ true → large_given p.names p.screen acts.UpdateContext qs ≡ None → p.screen ≡ s → update_of p.names s qs ≡ Ok y → ActingCallHasType p acts.UpdateContext qs y
   update_ok (Some s) (assigned ms xs ∷ []) y all small i e =
       let a = then_ok (give_all p.names (Some s) ms xs) (λ gs. Ok (done_by (deed.UpdateContext (given_sources gs)) (given_terms gs))) y e in
-      subst (Acts p acts.UpdateContext (assigned ms xs ∷ [])) (ok_is (done_by (deed.UpdateContext (given_sources a.0)) (given_terms a.0)) y a.2)
+      subst (ActingCallHasType p acts.UpdateContext (assigned ms xs ∷ [])) (ok_is (done_by (deed.UpdateContext (given_sources a.0)) (given_terms a.0)) y a.2)
       (Acting.update_context i (on_screen p.names p.screen ms all small) (subst (λ o. GivenAll p.names o ms xs a.0) (sym i) (give_ok p.names (Some s) ms xs a.0 a.1)))
   update_ok s qs y all small i e = absurd cc
 
-  collect_values : (d : ℕ → Deed) (x : List ℕ) (qs : List Part) (y : Term × Shape) → collect_of d p.names x qs ≡ Ok y →
-      (v : Term × Shape) × (vs : List (Term × Shape)) × (ys : List (Term × Shape)) × (k : ℕ) × (c : Collection) × Values qs (v ∷ vs)
+  collect_values : (d : ℕ → Deed) (x : List ℕ) (qs : List JudgedPart) (y : Term × Shape) → collect_of d p.names x qs ≡ Ok y →
+      (v : Term × Shape) × (vs : List (Term × Shape)) × (ys : List (Term × Shape)) × (k : ℕ) × (c : Collection) × AreValueParts qs (v ∷ vs)
       × (collection_named p.names x ≡ Some (k, c)) × Collected (shape c.ty) (v ∷ vs) ys × (done_by (d k) (firsts ys) ≡ y)
   collect_values d x qs y e =
       let a = then_ok (values qs) (λ xs. if_known (collection_named p.names x) (λ (c : ℕ × Collection). collect_to d c xs)) y e in
       let b = known_ok (collection_named p.names x) (λ (c : ℕ × Collection). collect_to d c a.0) y a.2 in
       by_values b.0.0 b.0.1 a.0 (values_ok qs a.0 a.1) b.1 b.2
     where
-      by_values : (k : ℕ) (c : Collection) (xs : List (Term × Shape)) → Values qs xs → collection_named p.names x ≡ Some (k, c) → collect_to d (k, c) xs ≡ Ok y →
-          (v : Term × Shape) × (vs : List (Term × Shape)) × (ys : List (Term × Shape)) × (k : ℕ) × (c : Collection) × Values qs (v ∷ vs)
+      by_values : (k : ℕ) (c : Collection) (xs : List (Term × Shape)) → AreValueParts qs xs → collection_named p.names x ≡ Some (k, c) → collect_to d (k, c) xs ≡ Ok y →
+          (v : Term × Shape) × (vs : List (Term × Shape)) × (ys : List (Term × Shape)) × (k : ℕ) × (c : Collection) × AreValueParts qs (v ∷ vs)
           × (collection_named p.names x ≡ Some (k, c)) × Collected (shape c.ty) (v ∷ vs) ys × (done_by (d k) (firsts ys) ≡ y)
       by_values k c (v ∷ vs) h i f =
           let g = then_ok (rows_given (shape c.ty) (v ∷ vs)) (λ ys. Ok (done_by (d k) (firsts ys))) y f in
           (v, vs, g.0, k, c, h, i, collected_ok (shape c.ty) (v ∷ vs) g.0 g.1, ok_is (done_by (d k) (firsts g.0)) y g.2)
       by_values k c [] h i f = absurd cc
 
-  clear_ok : (x : List ℕ) (qs : List Part) (y : Term × Shape) → clear_of p.names x qs ≡ Ok y → Acts p acts.Clear (target None x ∷ qs) y
+  clear_ok : (x : List ℕ) (qs : List JudgedPart) (y : Term × Shape) → clear_of p.names x qs ≡ Ok y → ActingCallHasType p acts.Clear (target None x ∷ qs) y
   clear_ok x qs y e =
       let b = known_ok (collection_named p.names x) (λ (c : ℕ × Collection). clear_by c.0 (shape c.1.ty)) y e in
       by_type b.0.0 b.0.1 (shape b.0.1.ty) b.1 refl b.2
     where
-      by_type : (k : ℕ) (c : Collection) (t : Shape) → collection_named p.names x ≡ Some (k, c) → shape c.ty ≡ t → clear_by k t ≡ Ok y → Acts p acts.Clear (target None x ∷ qs) y
-      by_type k c (tables cs) i j f = subst (Acts p acts.Clear (target None x ∷ qs)) (ok_is (done_by (deed.Clear k) []) y f) (Acting.clear i j)
+      by_type : (k : ℕ) (c : Collection) (t : Shape) → collection_named p.names x ≡ Some (k, c) → shape c.ty ≡ t → clear_by k t ≡ Ok y → ActingCallHasType p acts.Clear (target None x ∷ qs) y
+      by_type k c (tables cs) i j f = subst (ActingCallHasType p acts.Clear (target None x ∷ qs)) (ok_is (done_by (deed.Clear k) []) y f) (Acting.clear i j)
       by_type k c t i j f = absurd cc
 
-  patch_ok : (x : List ℕ) (qs : List Part) (y : Term × Shape) → patch_of p.names x qs ≡ Ok y → Acts p acts.Patch (target None x ∷ qs) y
+  patch_ok : (x : List ℕ) (qs : List JudgedPart) (y : Term × Shape) → patch_of p.names x qs ≡ Ok y → ActingCallHasType p acts.Patch (target None x ∷ qs) y
   patch_ok x qs y e =
       let a = then_ok (values qs) (λ xs. by_rows (rows_named p.names x) (λ r. patch_to r xs)) y e in
       let b = by_rows_ok (rows_named p.names x) (λ r. patch_to r a.0) y a.2 in
       by_values b.0 b.1 a.0 (values_ok qs a.0 a.1) b.2 b.3
     where
-      by_values : (t : Target) (cs : ColumnList) (xs : List (Term × Shape)) → Values qs xs → rows_named p.names x ≡ Some (t, tables cs) → patch_to (t, cs) xs ≡ Ok y →
-          Acts p acts.Patch (target None x ∷ qs) y
+      by_values : (t : Target) (cs : ColumnList) (xs : List (Term × Shape)) → AreValueParts qs xs → rows_named p.names x ≡ Some (t, tables cs) → patch_to (t, cs) xs ≡ Ok y →
+          ActingCallHasType p acts.Patch (target None x ∷ qs) y
       by_values t cs (base ∷ vs) h i f =
-          let c = lowest_ok (λ b ys. (of (act (deed.Patch t)) (all (b.0 ∷ firsts ys)), records cs)) (row_named t cs base) (changes_of t cs vs) y f in
-          subst (Acts p acts.Patch (target None x ∷ qs)) c.4
+          let c = lowest_ok (λ b ys. (of (act (deed.Patch t)) (all (b.0 ∷ firsts ys)), records cs)) (row_typed t cs base) (changes_of t cs vs) y f in
+          subst (ActingCallHasType p acts.Patch (target None x ∷ qs)) c.4
           (Acting.patch h i (named_ok cs t base c.0 c.1) (each_ok (change_of t cs) (Change cs t) (change_ok cs t) vs c.2 c.3))
       by_values t cs [] h i f = absurd cc
 
-  remove_ok : (x : List ℕ) (qs : List Part) (y : Term × Shape) → remove_of p.names x qs ≡ Ok y → Acts p acts.Remove (target None x ∷ qs) y
+  remove_ok : (x : List ℕ) (qs : List JudgedPart) (y : Term × Shape) → remove_of p.names x qs ≡ Ok y → ActingCallHasType p acts.Remove (target None x ∷ qs) y
   remove_ok x qs y e =
       let a = then_ok (values qs) (λ xs. by_rows (rows_named p.names x)
       (λ r. and_then (rows_named_by r.0 r.1 xs) (λ ys. Ok (done_by (deed.Remove r.0) (firsts ys))))) y e in
       let b = by_rows_ok (rows_named p.names x) (λ r. and_then (rows_named_by r.0 r.1 a.0) (λ ys. Ok (done_by (deed.Remove r.0) (firsts ys)))) y a.2 in
       let c = then_ok (rows_named_by b.0 b.1 a.0) (λ ys. Ok (done_by (deed.Remove b.0) (firsts ys))) y b.3 in
-      subst (Acts p acts.Remove (target None x ∷ qs)) (ok_is (done_by (deed.Remove b.0) (firsts c.0)) y c.2)
-      (Acting.remove (values_ok qs a.0 a.1) b.2 (each_ok (row_named b.0 b.1) (NamedRow b.1 b.0) (named_ok b.1 b.0) a.0 c.0 c.1))
+      subst (ActingCallHasType p acts.Remove (target None x ∷ qs)) (ok_is (done_by (deed.Remove b.0) (firsts c.0)) y c.2)
+      (Acting.remove (values_ok qs a.0 a.1) b.2 (each_ok (row_typed b.0 b.1) (NamedRow b.1 b.0) (named_ok b.1 b.0) a.0 c.0 c.1))
 
-  filtered_ok : (t : Target) (cs : ColumnList) (a : Option (List ℕ)) (qs : List Part) (f : Term × Shape) → filter_of (t, cs) a qs ≡ Ok f → Acting.Filtered t cs a qs f
+  filtered_ok : (t : Target) (cs : ColumnList) (a : Option (List ℕ)) (qs : List JudgedPart) (f : Term × Shape) → filter_of (t, cs) a qs ≡ Ok f → Acting.Filtered t cs a qs f
   filtered_ok t cs a qs f e = made_ok (row_of fun.Filter) (head_of fun.Filter) (value a (of (read (target_source t)) nil) (tables cs) ∷ pieces qs) f e
 
-  filtered_goes : (t : Target) (cs : ColumnList) (a : Option (List ℕ)) (qs : List Part) (f : Term × Shape) → Acting.Filtered t cs a qs f → filter_of (t, cs) a qs ≡ Ok f
+  filtered_goes : (t : Target) (cs : ColumnList) (a : Option (List ℕ)) (qs : List JudgedPart) (f : Term × Shape) → Acting.Filtered t cs a qs f → filter_of (t, cs) a qs ≡ Ok f
   filtered_goes t cs a qs f e = made_goes (row_of fun.Filter) (head_of fun.Filter) (value a (of (read (target_source t)) nil) (tables cs) ∷ pieces qs) f e
 
-  remove_if_ok : (qs : List Part) (y : Term × Shape) → remove_if p.names qs ≡ Ok y → Acts p acts.RemoveIf qs y
+  remove_if_ok : (qs : List JudgedPart) (y : Term × Shape) → remove_if p.names qs ≡ Ok y → ActingCallHasType p acts.RemoveIf qs y
   remove_if_ok (target a x ∷ qs) y e =
       let b = by_rows_ok (rows_named p.names x) (λ r. and_then (filter_of r a qs) (λ f. Ok (done_by (deed.RemoveIf r.0) (f.0 ∷ [])))) y e in
       let c = then_ok (filter_of (b.0, b.1) a qs) (λ f. Ok (done_by (deed.RemoveIf b.0) (f.0 ∷ []))) y b.3 in
-      subst (Acts p acts.RemoveIf (target a x ∷ qs)) (ok_is (done_by (deed.RemoveIf b.0) (c.0.0 ∷ [])) y c.2)
+      subst (ActingCallHasType p acts.RemoveIf (target a x ∷ qs)) (ok_is (done_by (deed.RemoveIf b.0) (c.0.0 ∷ [])) y c.2)
       (Acting.remove_if b.2 (filtered_ok b.0 b.1 a qs c.0 c.1))
   remove_if_ok qs y e = absurd cc
 
-  update_if_ok : (qs : List Part) (y : Term × Shape) → update_if p.names qs ≡ Ok y → Acts p acts.UpdateIf qs y
+  update_if_ok : (qs : List JudgedPart) (y : Term × Shape) → update_if p.names qs ≡ Ok y → ActingCallHasType p acts.UpdateIf qs y
   update_if_ok (target a x ∷ q ∷ qs) y e =
       let v = then_ok (values qs) (λ xs. by_rows (rows_named p.names x) (λ r. update_to r a q xs)) y e in
       let b = by_rows_ok (rows_named p.names x) (λ r. update_to r a q v.0) y v.2 in
       by_values b.0 b.1 v.0 (values_ok qs v.0 v.1) b.2 b.3
     where
-      by_values : (t : Target) (cs : ColumnList) (xs : List (Term × Shape)) → Values qs xs → rows_named p.names x ≡ Some (t, tables cs) → update_to (t, cs) a q xs ≡ Ok y →
-          Acts p acts.UpdateIf (target a x ∷ q ∷ qs) y
+      by_values : (t : Target) (cs : ColumnList) (xs : List (Term × Shape)) → AreValueParts qs xs → rows_named p.names x ≡ Some (t, tables cs) → update_to (t, cs) a q xs ≡ Ok y →
+          ActingCallHasType p acts.UpdateIf (target a x ∷ q ∷ qs) y
       by_values t cs (w ∷ []) h i f =
           let c = then_ok (filter_of (t, cs) a (q ∷ [])) (λ g. and_then (change_of t cs w) (λ z. Ok (done_by (deed.UpdateIf t) (g.0 ∷ z.0 ∷ [])))) y f in
           let d = then_ok (change_of t cs w) (λ z. Ok (done_by (deed.UpdateIf t) (c.0.0 ∷ z.0 ∷ []))) y c.2 in
-          subst (Acts p acts.UpdateIf (target a x ∷ q ∷ qs)) (ok_is (done_by (deed.UpdateIf t) (c.0.0 ∷ d.0.0 ∷ [])) y d.2)
+          subst (ActingCallHasType p acts.UpdateIf (target a x ∷ q ∷ qs)) (ok_is (done_by (deed.UpdateIf t) (c.0.0 ∷ d.0.0 ∷ [])) y d.2)
           (Acting.update_if h i (filtered_ok t cs a (q ∷ []) c.0 c.1) (change_ok cs t w d.0 d.1))
       by_values t cs xs h i f = absurd cc
   update_if_ok qs y e = absurd cc
 
-  navigate_ok : (x : List ℕ) (qs : List Part) (y : Term × Shape) → navigate_of p.names x qs ≡ Ok y → Acts p acts.Navigate (target None x ∷ qs) y
+  navigate_ok : (x : List ℕ) (qs : List JudgedPart) (y : Term × Shape) → navigate_of p.names x qs ≡ Ok y → ActingCallHasType p acts.Navigate (target None x ∷ qs) y
   navigate_ok x qs y e =
       let b = known_ok (screen_named p.names x) (λ (s : ℕ × List ℕ). Ok (done_by (deed.Navigate s.0) [])) y e in
-      subst (Acts p acts.Navigate (target None x ∷ qs)) (ok_is (done_by (deed.Navigate b.0.0) []) y b.2) (Acting.navigate {name = b.0.1} b.1)
+      subst (ActingCallHasType p acts.Navigate (target None x ∷ qs)) (ok_is (done_by (deed.Navigate b.0.0) []) y b.2) (Acting.navigate {name = b.0.1} b.1)
 
-  notify_ok : (qs : List Part) (y : Term × Shape) → and_then (values qs) notify_of ≡ Ok y → Acts p acts.Notify qs y
+  notify_ok : (qs : List JudgedPart) (y : Term × Shape) → and_then (values qs) notify_of ≡ Ok y → ActingCallHasType p acts.Notify qs y
   notify_ok qs y e = let a = then_ok (values qs) notify_of y e in by_values a.0 (values_ok qs a.0 a.1) a.2
     where
-      by_values : (xs : List (Term × Shape)) → Values qs xs → notify_of xs ≡ Ok y → Acts p acts.Notify qs y
+      by_values : (xs : List (Term × Shape)) → AreValueParts qs xs → notify_of xs ≡ Ok y → ActingCallHasType p acts.Notify qs y
       by_values ((c, u) ∷ []) h f =
           let a = then_ok (by_way (way u texts) c texts) (λ z. Ok (done_by deed.Notify (z.0 ∷ []))) y f in
           let b = becomes_ok (way u texts) c texts a.0 a.1 in
-          subst (Acts p acts.Notify qs) (ap (λ z. done_by deed.Notify (z.0 ∷ [])) b.2 ∙ ok_is (done_by deed.Notify (a.0.0 ∷ [])) y a.2) (Acting.notify h b.1)
+          subst (ActingCallHasType p acts.Notify qs) (ap (λ z. done_by deed.Notify (z.0 ∷ [])) b.2 ∙ ok_is (done_by deed.Notify (a.0.0 ∷ [])) y a.2) (Acting.notify h b.1)
       by_values xs h f = absurd cc
 
-  reset_ok : (x : List ℕ) (qs : List Part) (y : Term × Shape) → reset_of p.names x qs ≡ Ok y → Acts p acts.Reset (target None x ∷ qs) y
+  reset_ok : (x : List ℕ) (qs : List JudgedPart) (y : Term × Shape) → reset_of p.names x qs ≡ Ok y → ActingCallHasType p acts.Reset (target None x ∷ qs) y
   reset_ok x qs y e =
       let b = known_ok (control_named p.names x) (λ (c : ℕ × ControlName). reset_by c.0 (input_type c.1.kind)) y e in
       by_type b.0.0 b.0.1 (input_type b.0.1.kind) b.1 refl b.2
     where
-      by_type : (k : ℕ) (c : ControlName) (o : Option Shape) → control_named p.names x ≡ Some (k, c) → input_type c.kind ≡ o → reset_by k o ≡ Ok y → Acts p acts.Reset (target None x ∷ qs) y
-      by_type k c (Some t) i j f = subst (Acts p acts.Reset (target None x ∷ qs)) (ok_is (done_by (deed.Reset k) []) y f) (Acting.reset i j)
+      by_type : (k : ℕ) (c : ControlName) (o : Option Shape) → control_named p.names x ≡ Some (k, c) → input_type c.kind ≡ o → reset_by k o ≡ Ok y → ActingCallHasType p acts.Reset (target None x ∷ qs) y
+      by_type k c (Some t) i j f = subst (ActingCallHasType p acts.Reset (target None x ∷ qs)) (ok_is (done_by (deed.Reset k) []) y f) (Acting.reset i j)
       by_type k c None i j f = absurd cc
 
   -- a call by the name of what changes
-  named_call : (a : Acting) (qs : List Part) (go : List ℕ → List Part → Result (Term × Shape) ℕ) (y : Term × Shape) → large_given p.names p.screen a qs ≡ None →
-      ((x : List ℕ) (more : List Part) → large_given p.names p.screen a (target None x ∷ more) ≡ None → go x more ≡ Ok y → Acts p a (target None x ∷ more) y) → by_name qs go ≡ Ok y → Acts p a qs y
+  named_call : (a : Acting) (qs : List JudgedPart) (go : List ℕ → List JudgedPart → Result (Term × Shape) ℕ) (y : Term × Shape) → large_given p.names p.screen a qs ≡ None →
+      ((x : List ℕ) (more : List JudgedPart) → large_given p.names p.screen a (target None x ∷ more) ≡ None → go x more ≡ Ok y → ActingCallHasType p a (target None x ∷ more) y) → by_first_name qs go ≡ Ok y → ActingCallHasType p a qs y
   named_call a qs go y small one e =
       let b = by_name_ok qs go y e in
-      subst (λ z. Acts p a z y) b.2 (one b.0 b.1 (subst (λ z. large_given p.names p.screen a z ≡ None) (sym b.2) small) b.3)
+      subst (λ z. ActingCallHasType p a z y) b.2 (one b.0 b.1 (subst (λ z. large_given p.names p.screen a z ≡ None) (sym b.2) small) b.3)
 
-  pub acts_ok : (a : Acting) (qs : List Part) (y : Term × Shape) → gives_variables p.names p.screen a qs ≡ true → large_given p.names p.screen a qs ≡ None → acted p.names p.screen a qs ≡ Ok y → Acts p a qs y
+  pub acts_ok : (a : Acting) (qs : List JudgedPart) (y : Term × Shape) → gives_variables p.names p.screen a qs ≡ true → large_given p.names p.screen a qs ≡ None → acted p.names p.screen a qs ≡ Ok y → ActingCallHasType p a qs y
   acts_ok acts.Set qs y gives small e = named_call acts.Set qs (set_of p.names) y small (λ x more less f. set_ok x more y less f) e
   acts_ok acts.UpdateContext qs y gives small e = update_ok p.screen qs y gives small refl e
-  acts_ok acts.Collect qs y gives small e = named_call acts.Collect qs (collect_of deed.Collect p.names) y small (λ x more less f. let b = collect_values deed.Collect x more y f in subst (Acts p acts.Collect (target None x ∷ more)) b.8 (Acting.collect b.5 b.6 (small_collection (collection_named p.names x) (b.3, b.4) b.6 less) b.7)) e
+  acts_ok acts.Collect qs y gives small e = named_call acts.Collect qs (collect_of deed.Collect p.names) y small (λ x more less f. let b = collect_values deed.Collect x more y f in subst (ActingCallHasType p acts.Collect (target None x ∷ more)) b.8 (Acting.collect b.5 b.6 (small_collection (collection_named p.names x) (b.3, b.4) b.6 less) b.7)) e
   acts_ok acts.Clear qs y gives small e = named_call acts.Clear qs (clear_of p.names) y small (λ x more less f. clear_ok x more y f) e
-  acts_ok acts.ClearCollect qs y gives small e = named_call acts.ClearCollect qs (collect_of deed.ClearCollect p.names) y small (λ x more less f. let b = collect_values deed.ClearCollect x more y f in subst (Acts p acts.ClearCollect (target None x ∷ more)) b.8 (Acting.clear_collect b.5 b.6 (small_collection (collection_named p.names x) (b.3, b.4) b.6 less) b.7)) e
+  acts_ok acts.ClearCollect qs y gives small e = named_call acts.ClearCollect qs (collect_of deed.ClearCollect p.names) y small (λ x more less f. let b = collect_values deed.ClearCollect x more y f in subst (ActingCallHasType p acts.ClearCollect (target None x ∷ more)) b.8 (Acting.clear_collect b.5 b.6 (small_collection (collection_named p.names x) (b.3, b.4) b.6 less) b.7)) e
   acts_ok acts.Patch qs y gives small e = named_call acts.Patch qs (patch_of p.names) y small (λ x more less f. patch_ok x more y f) e
   acts_ok acts.Remove qs y gives small e = named_call acts.Remove qs (remove_of p.names) y small (λ x more less f. remove_ok x more y f) e
   acts_ok acts.RemoveIf qs y gives small e = remove_if_ok qs y e
@@ -359,18 +359,18 @@ module _ (p : Place) where
   acts_ok acts.Reset qs y gives small e = named_call acts.Reset qs (reset_of p.names) y small (λ x more less f. reset_ok x more y f) e
 
   -- ---- and back
-  collect_goes : (d : ℕ → Deed) (x : List ℕ) (qs : List Part) (v : Term × Shape) (vs ys : List (Term × Shape)) (k : ℕ) (c : Collection) → Values qs (v ∷ vs) →
+  collect_goes : (d : ℕ → Deed) (x : List ℕ) (qs : List JudgedPart) (v : Term × Shape) (vs ys : List (Term × Shape)) (k : ℕ) (c : Collection) → AreValueParts qs (v ∷ vs) →
       collection_named p.names x ≡ Some (k, c) → Collected (shape c.ty) (v ∷ vs) ys → collect_of d p.names x qs ≡ Ok (done_by (d k) (firsts ys))
   collect_goes d x qs v vs ys k c h i g =
       then_goes (values qs) (λ xs. if_known (collection_named p.names x) (λ (c : ℕ × Collection). collect_to d c xs)) (v ∷ vs) (done_by (d k) (firsts ys)) (values_are qs (v ∷ vs) h)
       (known_goes (collection_named p.names x) (λ (c : ℕ × Collection). collect_to d c (v ∷ vs)) (k, c) (done_by (d k) (firsts ys)) i
       (then_goes (rows_given (shape c.ty) (v ∷ vs)) (λ zs. Ok (done_by (d k) (firsts zs))) ys (done_by (d k) (firsts ys)) (collected_goes (shape c.ty) (v ∷ vs) ys g) refl))
 
-  pub acts_go : (a : Acting) (qs : List Part) (y : Term × Shape) → Acts p a qs y → acted p.names p.screen a qs ≡ Ok y
+  pub acts_go : (a : Acting) (qs : List JudgedPart) (y : Term × Shape) → ActingCallHasType p a qs y → acted p.names p.screen a qs ≡ Ok y
   acts_go a qs z (Acting.set {x = x} {qs = more} {v = v} {y = y} {k = k} {g = g} h i b w) =
       then_goes (values more) (λ xs. if_known (global_variable p.names x) (λ u. set_to u xs)) (v ∷ []) (done_by (deed.Set k) (y.0 ∷ [])) (values_are more (v ∷ []) h)
       (known_goes (global_variable p.names x) (λ u. set_to u (v ∷ [])) (k, g) (done_by (deed.Set k) (y.0 ∷ [])) i
-      (then_goes (given (shape g.ty) v) (λ u. Ok (done_by (deed.Set k) (u.0 ∷ []))) y (done_by (deed.Set k) (y.0 ∷ [])) (given_goes (shape g.ty) v y w) refl))
+      (then_goes (given_variable (shape g.ty) v) (λ u. Ok (done_by (deed.Set k) (u.0 ∷ []))) y (done_by (deed.Set k) (y.0 ∷ [])) (given_goes (shape g.ty) v y w) refl))
   acts_go a qs z (Acting.update_context {s = s} {ms = ms} {xs = xs} {gs = gs} i all g) =
       ap (λ o. update_of p.names o (assigned ms xs ∷ [])) i
       ∙ then_goes (give_all p.names (Some s) ms xs) (λ hs. Ok (done_by (deed.UpdateContext (given_sources hs)) (given_terms hs))) gs _
@@ -382,12 +382,12 @@ module _ (p : Place) where
   acts_go a qs z (Acting.patch {x = x} {qs = more} {t = t} {cs = cs} {base = base} {b = b} {vs = vs} {ys = ys} h i r e) =
       then_goes (values more) (λ xs. by_rows (rows_named p.names x) (λ r. patch_to r xs)) (base ∷ vs) _ (values_are more (base ∷ vs) h)
       (by_rows_goes (rows_named p.names x) (λ r. patch_to r (base ∷ vs)) t cs _ i
-      (both_lowest (λ b ys. (of (act (deed.Patch t)) (all (b.0 ∷ firsts ys)), records cs)) (row_named t cs base) (changes_of t cs vs) b ys
+      (both_lowest (λ b ys. (of (act (deed.Patch t)) (all (b.0 ∷ firsts ys)), records cs)) (row_typed t cs base) (changes_of t cs vs) b ys
       (named_goes cs t base b r) (each_goes (change_of t cs) (Change cs t) (change_goes cs t) vs ys e)))
   acts_go a qs z (Acting.remove {x = x} {qs = more} {t = t} {cs = cs} {vs = vs} {ys = ys} h i e) =
       then_goes (values more) (λ xs. by_rows (rows_named p.names x) (λ r. and_then (rows_named_by r.0 r.1 xs) (λ ys. Ok (done_by (deed.Remove r.0) (firsts ys))))) vs _ (values_are more vs h)
       (by_rows_goes (rows_named p.names x) (λ r. and_then (rows_named_by r.0 r.1 vs) (λ ys. Ok (done_by (deed.Remove r.0) (firsts ys)))) t cs _ i
-      (then_goes (rows_named_by t cs vs) (λ ys. Ok (done_by (deed.Remove t) (firsts ys))) ys _ (each_goes (row_named t cs) (NamedRow cs t) (named_goes cs t) vs ys e) refl))
+      (then_goes (rows_named_by t cs vs) (λ ys. Ok (done_by (deed.Remove t) (firsts ys))) ys _ (each_goes (row_typed t cs) (NamedRow cs t) (named_goes cs t) vs ys e) refl))
   acts_go a qs z (Acting.remove_if {a = b} {x = x} {qs = more} {t = t} {cs = cs} {f = f} i e) =
       by_rows_goes (rows_named p.names x) (λ r. and_then (filter_of r b more) (λ f. Ok (done_by (deed.RemoveIf r.0) (f.0 ∷ [])))) t cs _ i
       (then_goes (filter_of (t, cs) b more) (λ f. Ok (done_by (deed.RemoveIf t) (f.0 ∷ []))) f _ (filtered_goes t cs b more f e) refl)
@@ -423,7 +423,7 @@ abbrev all_rows : List (Term × Shape) → Bool
 all_rows [] = true
 all_rows (x ∷ xs) = is_row x.1 && all_rows xs
 
-rows_could : (qs : List Part) (xs : List (Term × Shape)) → Values qs xs → all_rows xs ≡ true → all_could could_be_row qs ≡ true
+rows_could : (qs : List JudgedPart) (xs : List (Term × Shape)) → AreValueParts qs xs → all_rows xs ≡ true → all_could could_be_row qs ≡ true
 rows_could qs xs Records.no_values e = refl
 rows_could qs xs (Records.one_value {a = a} {c = c} {t = t} {qs = more} {xs = others} v) e =
     let b = and_parts (is_row t) (all_rows others) e in
@@ -450,7 +450,7 @@ way_is_open same c t x e = refl
 way_is_open changed c t x e = refl
 way_is_open refused c t x e = absurd cc
 
-condition_could : (first common : Shape) (q : Part) (x : Term × Shape) → stand (takes.Formula Boolean) first common (piece_of q) ≡ Ok x → could_be_condition q ≡ true
+condition_could : (first common : Shape) (q : JudgedPart) (x : Term × Shape) → stand (takes.Formula Boolean) first common (piece_of q) ≡ Ok x → could_be_condition q ≡ true
 condition_could first common (piece (value a c t)) x e = way_is_open (way t booleans) c booleans x e
 condition_could first common (piece (label l)) x e = absurd cc
 condition_could first common (meant m) x e = absurd cc
@@ -460,7 +460,7 @@ condition_could first common (assigned ns xs) x e = absurd cc
 pub never_first : (i : ℕ) → nat_eq (suc i) 0 ≡ false
 never_first i = ne_eqb (suc i) 0 (λ e. omega (arith, e))
 
-conditions_could : (n i : ℕ) (first common : Shape) (qs : List Part) (ps : List Piece) (xs : List (Term × Shape)) → pieces qs ≡ ps →
+conditions_could : (n i : ℕ) (first common : Shape) (qs : List JudgedPart) (ps : List Piece) (xs : List (Term × Shape)) → pieces qs ≡ ps →
     StandFrom Filtering n first common (suc i) ps xs → all_could could_be_condition qs ≡ true
 conditions_could n i first common [] ps xs e f = refl
 conditions_could n i first common (q ∷ qs) ps xs e none_stand = absurd cc
@@ -472,11 +472,11 @@ conditions_could n i first common (q ∷ qs) ps xs e (one_stands {p = p} {ps = m
     and_from (could_be_condition q) (all_could could_be_condition qs) (condition_could first common q x stood)
     (conditions_could n (suc i) first common qs more others same_rest f)
 
-filter_could : (t : Target) (cs : ColumnList) (a : Option (List ℕ)) (qs : List Part) (f : Term × Shape) → Acting.Filtered t cs a qs f → all_could could_be_condition qs ≡ true
+filter_could : (t : Target) (cs : ColumnList) (a : Option (List ℕ)) (qs : List JudgedPart) (f : Term × Shape) → Acting.Filtered t cs a qs f → all_could could_be_condition qs ≡ true
 filter_could t cs a qs f (by_row {common = u} count join (first_and_others {x = x} {xs = xs} s others) answers) =
     conditions_could (suc (length (pieces qs))) 0 x.1 u qs (pieces qs) xs refl others
 
-pub acts_could : (p : Place) (a : Acting) (qs : List Part) (y : Term × Shape) → Acts p a qs y → could_act a qs ≡ true
+pub acts_could : (p : Place) (a : Acting) (qs : List JudgedPart) (y : Term × Shape) → ActingCallHasType p a qs y → could_act a qs ≡ true
 acts_could p a qs z (Acting.patch {qs = more} {t = t} {cs = cs} {base = base} {b = b} {vs = vs} {ys = ys} h i r e) =
     rows_could more (base ∷ vs) h (and_from (is_row base.1) (all_rows vs) (named_is_row cs t base b r) (each_is_row (Change cs t) (change_is_row cs t) vs ys e))
 acts_could p a qs z (Acting.remove {qs = more} {t = t} {cs = cs} {vs = vs} {ys = ys} h i e) =
@@ -494,7 +494,7 @@ acts_could p a qs z (Acting.navigate i) = refl
 acts_could p a qs z (Acting.notify h b) = refl
 acts_could p a qs z (Acting.reset i j) = refl
 
-pub acts_give : (p : Place) (a : Acting) (qs : List Part) (y : Term × Shape) → Acts p a qs y → gives_variables p.names p.screen a qs ≡ true
+pub acts_give : (p : Place) (a : Acting) (qs : List JudgedPart) (y : Term × Shape) → ActingCallHasType p a qs y → gives_variables p.names p.screen a qs ≡ true
 acts_give p a qs z (Acting.update_context {ms = ms} i all g) = (from_screen p.names p.screen ms all).0
 acts_give p a qs z (Acting.patch h i r e) = refl
 acts_give p a qs z (Acting.remove h i e) = refl
@@ -508,7 +508,7 @@ acts_give p a qs z (Acting.navigate i) = refl
 acts_give p a qs z (Acting.notify h b) = refl
 acts_give p a qs z (Acting.reset i j) = refl
 
-pub acts_small : (p : Place) (a : Acting) (qs : List Part) (y : Term × Shape) → Acts p a qs y → large_given p.names p.screen a qs ≡ None
+pub acts_small : (p : Place) (a : Acting) (qs : List JudgedPart) (y : Term × Shape) → ActingCallHasType p a qs y → large_given p.names p.screen a qs ≡ None
 acts_small p a qs z (Acting.update_context {ms = ms} i all g) = (from_screen p.names p.screen ms all).1
 acts_small p a qs z (Acting.set {g = g} h i b w) = ap large_variable i ∙ small_bounded (shape g.ty) b
 acts_small p a qs z (Acting.collect {c = c} h i b g) = ap large_collection i ∙ small_bounded (shape c.ty) b

@@ -9,13 +9,13 @@ use Rattle.fx_core.specs.declared.rows.Takes.TheVariants as takes
 use Rattle.fx_core.specs.Rows.{shape_of, takes_at, takes_count}
 use Rattle.fx_core.specs.Term.{Term, of, all, Top}
 use Rattle.fx_core.specs.SourceTypes.{put_column}
-use Rattle.fx_typing.specs.Columns.{tells_error, label_of, by_label, names_there, added, dropped, shown, renamed}
-use Rattle.fx_core.specs.ColumnLists.{and_then, field_in, without, without_all, only, if_there, if_free, with_new, with_renamed, value_column, row_columns}
-use Rattle.fx_typing.specs.Local.{Piece, value, label, coerced, by_way, exact_way, branch_way, when, without_kind, stand, put_first, stand_rest, stand_all, branches, join_all, all_scalar, some_text, some_acts, or_blank, common_or, common_of, firsts, answer_by, made_as, made_by}
-use Rattle.fx_typing.specs.WellTyped.{row_type, as_table, answered}
+use Rattle.fx_typing.specs.Columns.{tells_error, label_of, by_label, names_there, added, dropped, columns_shown, columns_renamed}
+use Rattle.fx_core.specs.ColumnLists.{and_then, field_in, columns_without, without_all, columns_only, if_there, if_free, with_new, with_renamed, value_column, row_columns}
+use Rattle.fx_typing.specs.Local.{Piece, value, label, coerced, by_way, exact_way, branch_way, part_or_rule, without_kind, stand, put_first, stand_rest, stand_all, branches, join_all, all_scalar, some_text, some_acts, or_blank, common_or, common_of, firsts, answer_by, made_as, made_by}
+use Rattle.fx_typing.specs.WellTyped.{row_type, as_table, answered_type}
 use Rattle.fx_typing.specs.Ways.{Way, same, changed, refused, way, is_scalar, is_comparable}
 use Rattle.fx_typing.specs.Functions
-use Rattle.fx_typing.specs.Functions.{Becomes, as_it_is, by_coercion, IsNoTable, StandsAs, StandFrom, none_stand, one_stands, AllStand, no_parts, first_and_others, Common, their_join, as_texts, as_blanks, Adds, nothing_added, no_formula, one_added, Renames, nothing_renamed, no_new_name, one_renamed, AreColumns, none_named, one_named, Answers, Made, by_row}
+use Rattle.fx_typing.specs.Functions.{Becomes, as_it_is, by_coercion, IsNoTableType, StandsAs, StandFrom, none_stand, one_stands, AllPartsStand, no_parts, first_and_others, Common, their_join, as_texts, as_blanks, Adds, nothing_added, no_formula, one_added, Renames, nothing_renamed, no_new_name, one_renamed, AreColumns, none_named, one_named, AnswerType, Made, by_row}
 use Rattle.fx_typing.proofs.RelatedSteps.{ok_is, some_is, then_goes, put_first_ok, if_true, if_ok}
 use Rattle.fx_typing.proofs.Operators.{then_ok}
 
@@ -28,12 +28,12 @@ pub becomes_goes : (w : Way) (c : Term) (t : Shape) (d : Term) → Becomes w c t
 becomes_goes w c t d as_it_is = refl
 becomes_goes w c t d by_coercion = refl
 
-pub when_ok : (b : Bool) (e : ℕ) (k : Term) (t : Shape) (x : Term × Shape) → when b e k t ≡ Ok x → (b ≡ true) × ((k, t) ≡ x)
+pub when_ok : (b : Bool) (e : ℕ) (k : Term) (t : Shape) (x : Term × Shape) → part_or_rule b e k t ≡ Ok x → (b ≡ true) × ((k, t) ≡ x)
 when_ok true e k t x h = (refl, ok_is (k, t) x h)
 when_ok false e k t x h = absurd cc
 
-when_goes : (b : Bool) (e : ℕ) (k : Term) (t : Shape) → b ≡ true → when b e k t ≡ Ok (k, t)
-when_goes b e k t h = ap (λ z. when z e k t) h
+when_goes : (b : Bool) (e : ℕ) (k : Term) (t : Shape) → b ≡ true → part_or_rule b e k t ≡ Ok (k, t)
+when_goes b e k t h = ap (λ z. part_or_rule z e k t) h
 
 -- a part at its place
 module _ (first common : Shape) where
@@ -75,7 +75,7 @@ module _ (first common : Shape) where
   stands_ok k p x e = absurd cc
 
   -- a formula of a row that is no table stands as it is
-  no_table_stands : (a : Option (List ℕ)) (c : Term) (t : Shape) → IsNoTable t → stand takes.RowFormula first common (value a c t) ≡ Ok (c, t)
+  no_table_stands : (a : Option (List ℕ)) (c : Term) (t : Shape) → IsNoTableType t → stand takes.RowFormula first common (value a c t) ≡ Ok (c, t)
   no_table_stands a c (tables cs) i = absurd i
   no_table_stands a c blanks i = refl
   no_table_stands a c numbers i = refl
@@ -120,16 +120,16 @@ from_goes r n first common i ps xs (one_stands {p = p} {ps = more} {x = x} {xs =
     then_goes (stand (takes_at r n i) first common p) (λ z. put_first z (stand_rest r n (suc i) first common more)) x (x ∷ others)
     (stands_goes first common (takes_at r n i) p x s) (ap (put_first x) (from_goes r n first common (suc i) more others f))
 
-all_ok : (r : Row) (common : Shape) (ps : List Piece) (xs : List (Term × Shape)) → stand_all r common ps ≡ Ok xs → AllStand r common ps xs
-all_ok r common [] xs e = subst (AllStand r common []) (ok_is [] xs e) no_parts
+all_ok : (r : Row) (common : Shape) (ps : List Piece) (xs : List (Term × Shape)) → stand_all r common ps ≡ Ok xs → AllPartsStand r common ps xs
+all_ok r common [] xs e = subst (AllPartsStand r common []) (ok_is [] xs e) no_parts
 all_ok r common (p ∷ ps) xs e =
     let n = suc (length ps) in
     let a = then_ok (stand (takes_at r (suc (length ps)) 0) blanks common p) (λ (x : Term × Shape). put_first x (stand_rest r (suc (length ps)) 1 x.1 common ps)) xs e in
     let b = put_first_ok a.0 (stand_rest r (suc (length ps)) 1 a.0.1 common ps) xs a.2 in
-    subst (AllStand r common (p ∷ ps)) b.2
+    subst (AllPartsStand r common (p ∷ ps)) b.2
     (first_and_others (stands_ok blanks common (takes_at r (suc (length ps)) 0) p a.0 a.1) (from_ok r (suc (length ps)) a.0.1 common 1 ps b.0 b.1))
 
-all_goes : (r : Row) (common : Shape) (ps : List Piece) (xs : List (Term × Shape)) → AllStand r common ps xs → stand_all r common ps ≡ Ok xs
+all_goes : (r : Row) (common : Shape) (ps : List Piece) (xs : List (Term × Shape)) → AllPartsStand r common ps xs → stand_all r common ps ≡ Ok xs
 all_goes r common ps xs no_parts = refl
 all_goes r common ps xs (first_and_others {p = p} {ps = more} {x = x} {xs = others} s f) =
     then_goes (stand (takes_at r (suc (length more)) 0) blanks common p) (λ (z : Term × Shape). put_first z (stand_rest r (suc (length more)) 1 z.1 common more)) x (x ∷ others)
@@ -195,27 +195,27 @@ adds_go xs cs ds (one_added {x = x} {f = f} {n = n} {xs = others} i j more) =
     (then_goes (with_new n f.1 cs) (λ es. added others es) (put_column n f.1 cs) ds (ap (λ o. if_free o (put_column n f.1 cs)) j)
     (adds_go others (put_column n f.1 cs) ds more))
 
-renames_ok : (xs : List (Term × Shape)) (cs ds : ColumnList) → renamed xs cs ≡ Ok ds → Renames xs cs ds
+renames_ok : (xs : List (Term × Shape)) (cs ds : ColumnList) → columns_renamed xs cs ≡ Ok ds → Renames xs cs ds
 renames_ok [] cs ds e = subst (Renames [] cs) (ok_is cs ds e) nothing_renamed
 renames_ok (x ∷ []) cs ds e = subst (Renames (x ∷ []) cs) (ok_is cs ds e) no_new_name
 renames_ok (x ∷ y ∷ xs) cs ds e =
-    let a = by_label_ok (label_of x.0) (λ n. by_label (label_of y.0) (λ m. and_then (with_renamed n m cs) (λ es. renamed xs es))) ds e in
-    let b = by_label_ok (label_of y.0) (λ m. and_then (with_renamed a.0 m cs) (λ es. renamed xs es)) ds a.2 in
-    let c = then_ok (with_renamed a.0 b.0 cs) (λ es. renamed xs es) ds b.2 in
-    let d = then_ok (if_there (field_in a.0 cs)) (λ t. if_free (field_in b.0 cs) (put_column b.0 t (without a.0 cs))) c.0 c.1 in
-    let f = free_ok (field_in b.0 cs) (put_column b.0 d.0 (without a.0 cs)) c.0 d.2 in
-    one_renamed a.1 b.1 (there_ok (field_in a.0 cs) d.0 d.1) f.0 (renames_ok xs (put_column b.0 d.0 (without a.0 cs)) ds (ap (renamed xs) f.1 ∙ c.2))
+    let a = by_label_ok (label_of x.0) (λ n. by_label (label_of y.0) (λ m. and_then (with_renamed n m cs) (λ es. columns_renamed xs es))) ds e in
+    let b = by_label_ok (label_of y.0) (λ m. and_then (with_renamed a.0 m cs) (λ es. columns_renamed xs es)) ds a.2 in
+    let c = then_ok (with_renamed a.0 b.0 cs) (λ es. columns_renamed xs es) ds b.2 in
+    let d = then_ok (if_there (field_in a.0 cs)) (λ t. if_free (field_in b.0 cs) (put_column b.0 t (columns_without a.0 cs))) c.0 c.1 in
+    let f = free_ok (field_in b.0 cs) (put_column b.0 d.0 (columns_without a.0 cs)) c.0 d.2 in
+    one_renamed a.1 b.1 (there_ok (field_in a.0 cs) d.0 d.1) f.0 (renames_ok xs (put_column b.0 d.0 (columns_without a.0 cs)) ds (ap (columns_renamed xs) f.1 ∙ c.2))
 
-pub renames_go : (xs : List (Term × Shape)) (cs ds : ColumnList) → Renames xs cs ds → renamed xs cs ≡ Ok ds
+pub renames_go : (xs : List (Term × Shape)) (cs ds : ColumnList) → Renames xs cs ds → columns_renamed xs cs ≡ Ok ds
 renames_go xs cs ds nothing_renamed = refl
 renames_go xs cs ds no_new_name = refl
 renames_go xs cs ds (one_renamed {x = x} {y = y} {n = n} {m = m} {t = t} {xs = others} i j k l more) =
-    by_label_goes (label_of x.0) (λ n. by_label (label_of y.0) (λ m. and_then (with_renamed n m cs) (λ es. renamed others es))) n ds i
-    (by_label_goes (label_of y.0) (λ m. and_then (with_renamed n m cs) (λ es. renamed others es)) m ds j
-    (then_goes (with_renamed n m cs) (λ es. renamed others es) (put_column m t (without n cs)) ds
-    (then_goes (if_there (field_in n cs)) (λ u. if_free (field_in m cs) (put_column m u (without n cs))) t (put_column m t (without n cs)) (ap if_there k)
-    (ap (λ o. if_free o (put_column m t (without n cs))) l))
-    (renames_go others (put_column m t (without n cs)) ds more)))
+    by_label_goes (label_of x.0) (λ n. by_label (label_of y.0) (λ m. and_then (with_renamed n m cs) (λ es. columns_renamed others es))) n ds i
+    (by_label_goes (label_of y.0) (λ m. and_then (with_renamed n m cs) (λ es. columns_renamed others es)) m ds j
+    (then_goes (with_renamed n m cs) (λ es. columns_renamed others es) (put_column m t (columns_without n cs)) ds
+    (then_goes (if_there (field_in n cs)) (λ u. if_free (field_in m cs) (put_column m u (columns_without n cs))) t (put_column m t (columns_without n cs)) (ap if_there k)
+    (ap (λ o. if_free o (put_column m t (columns_without n cs))) l))
+    (renames_go others (put_column m t (columns_without n cs)) ds more)))
 
 columns_ok : (cs : ColumnList) (xs : List (Term × Shape)) (ns : List (List ℕ)) → names_there xs cs ≡ Ok ns → AreColumns cs xs ns
 columns_ok cs [] ns e = subst (AreColumns cs []) (ok_is [] ns e) none_named
@@ -232,31 +232,31 @@ columns_go cs xs ns (one_named {x = x} {n = n} {t = t} {xs = others} {ns = after
     (then_goes (if_there (field_in n cs)) (λ t. and_then (names_there others cs) (λ ms. Ok (n ∷ ms))) t (n ∷ after) (ap if_there j)
     (then_goes (names_there others cs) (λ ms. Ok (n ∷ ms)) after (n ∷ after) (columns_go cs others after more) refl))
 
-answer_ok : (common : Shape) (a : Answer) (xs : List (Term × Shape)) (t : Shape) → answered a common xs ≡ Ok t → Answers common a xs t
-answer_ok common (answer.Scalar s) xs t e = subst (Answers common (answer.Scalar s) xs) (ok_is (shape_of s) t e) Functions.this
-answer_ok common answer.Same (x ∷ xs) t e = subst (Answers common answer.Same (x ∷ xs)) (ok_is x.1 t e) Functions.the_first
-answer_ok common answer.Row (x ∷ xs) t e = subst (Answers common answer.Row (x ∷ xs)) (ok_is (row_type x.1) t e) Functions.a_row
-answer_ok common answer.Found (x ∷ y ∷ z ∷ xs) t e = subst (Answers common answer.Found (x ∷ y ∷ z ∷ xs)) (ok_is z.1 t e) Functions.of_a_found_row
-answer_ok common answer.Found (x ∷ y ∷ []) t e = subst (Answers common answer.Found (x ∷ y ∷ [])) (ok_is (row_type x.1) t e) Functions.a_row_where
-answer_ok common answer.Found (x ∷ []) t e = subst (Answers common answer.Found (x ∷ [])) (ok_is (row_type x.1) t e) Functions.a_found_row
-answer_ok common answer.Common xs t e = subst (Answers common answer.Common xs) (ok_is common t e) Functions.a_branch
+answer_ok : (common : Shape) (a : Answer) (xs : List (Term × Shape)) (t : Shape) → answered_type a common xs ≡ Ok t → AnswerType common a xs t
+answer_ok common (answer.Scalar s) xs t e = subst (AnswerType common (answer.Scalar s) xs) (ok_is (shape_of s) t e) Functions.this
+answer_ok common answer.Same (x ∷ xs) t e = subst (AnswerType common answer.Same (x ∷ xs)) (ok_is x.1 t e) Functions.the_first
+answer_ok common answer.Row (x ∷ xs) t e = subst (AnswerType common answer.Row (x ∷ xs)) (ok_is (row_type x.1) t e) Functions.a_row
+answer_ok common answer.Found (x ∷ y ∷ z ∷ xs) t e = subst (AnswerType common answer.Found (x ∷ y ∷ z ∷ xs)) (ok_is z.1 t e) Functions.of_a_found_row
+answer_ok common answer.Found (x ∷ y ∷ []) t e = subst (AnswerType common answer.Found (x ∷ y ∷ [])) (ok_is (row_type x.1) t e) Functions.a_row_where
+answer_ok common answer.Found (x ∷ []) t e = subst (AnswerType common answer.Found (x ∷ [])) (ok_is (row_type x.1) t e) Functions.a_found_row
+answer_ok common answer.Common xs t e = subst (AnswerType common answer.Common xs) (ok_is common t e) Functions.a_branch
 answer_ok common answer.Added ((c, tables cs) ∷ xs) t e =
-    let a = as_table_ok (added xs cs) t e in subst (Answers common answer.Added ((c, tables cs) ∷ xs)) a.2 (Functions.with_columns (adds_ok xs cs a.0 a.1))
+    let a = as_table_ok (added xs cs) t e in subst (AnswerType common answer.Added ((c, tables cs) ∷ xs)) a.2 (Functions.with_columns (adds_ok xs cs a.0 a.1))
 answer_ok common answer.Dropped ((c, tables cs) ∷ xs) t e =
     let a = as_table_ok (dropped xs cs) t e in
     let b = then_ok (names_there xs cs) (λ ns. Ok (without_all ns cs)) a.0 a.1 in
-    subst (Answers common answer.Dropped ((c, tables cs) ∷ xs)) (ap tables (ok_is (without_all b.0 cs) a.0 b.2) ∙ a.2) (Functions.without_columns (columns_ok cs xs b.0 b.1))
+    subst (AnswerType common answer.Dropped ((c, tables cs) ∷ xs)) (ap tables (ok_is (without_all b.0 cs) a.0 b.2) ∙ a.2) (Functions.without_columns (columns_ok cs xs b.0 b.1))
 answer_ok common answer.Shown ((c, tables cs) ∷ xs) t e =
-    let a = as_table_ok (shown xs cs) t e in
-    let b = then_ok (names_there xs cs) (λ ns. Ok (only ns cs)) a.0 a.1 in
-    subst (Answers common answer.Shown ((c, tables cs) ∷ xs)) (ap tables (ok_is (only b.0 cs) a.0 b.2) ∙ a.2) (Functions.columns_alone (columns_ok cs xs b.0 b.1))
+    let a = as_table_ok (columns_shown xs cs) t e in
+    let b = then_ok (names_there xs cs) (λ ns. Ok (columns_only ns cs)) a.0 a.1 in
+    subst (AnswerType common answer.Shown ((c, tables cs) ∷ xs)) (ap tables (ok_is (columns_only b.0 cs) a.0 b.2) ∙ a.2) (Functions.columns_alone (columns_ok cs xs b.0 b.1))
 answer_ok common answer.Renamed ((c, tables cs) ∷ xs) t e =
-    let a = as_table_ok (renamed xs cs) t e in subst (Answers common answer.Renamed ((c, tables cs) ∷ xs)) a.2 (Functions.columns_anew (renames_ok xs cs a.0 a.1))
-answer_ok common answer.Values (x ∷ y ∷ xs) t e = subst (Answers common answer.Values (x ∷ y ∷ xs)) (ok_is (tables (value_column y.1)) t e) Functions.values_of
-answer_ok common answer.Each (x ∷ y ∷ xs) t e = subst (Answers common answer.Each (x ∷ y ∷ xs)) (ok_is (tables (row_columns y.1)) t e) Functions.rows_of_each
+    let a = as_table_ok (columns_renamed xs cs) t e in subst (AnswerType common answer.Renamed ((c, tables cs) ∷ xs)) a.2 (Functions.columns_anew (renames_ok xs cs a.0 a.1))
+answer_ok common answer.Values (x ∷ y ∷ xs) t e = subst (AnswerType common answer.Values (x ∷ y ∷ xs)) (ok_is (tables (value_column y.1)) t e) Functions.values_of
+answer_ok common answer.Each (x ∷ y ∷ xs) t e = subst (AnswerType common answer.Each (x ∷ y ∷ xs)) (ok_is (tables (row_columns y.1)) t e) Functions.rows_of_each
 answer_ok common a xs t e = absurd cc
 
-answer_goes : (common : Shape) (a : Answer) (xs : List (Term × Shape)) (t : Shape) → Answers common a xs t → answered a common xs ≡ Ok t
+answer_goes : (common : Shape) (a : Answer) (xs : List (Term × Shape)) (t : Shape) → AnswerType common a xs t → answered_type a common xs ≡ Ok t
 answer_goes common a xs t Functions.this = refl
 answer_goes common a xs t Functions.the_first = refl
 answer_goes common a xs t Functions.a_row = refl
@@ -266,7 +266,7 @@ answer_goes common a xs t Functions.of_a_found_row = refl
 answer_goes common a xs t Functions.a_branch = refl
 answer_goes common a xs t (Functions.with_columns {cs = cs} {ds = ds} {xs = more} e) = ap as_table (adds_go more cs ds e)
 answer_goes common a xs t (Functions.without_columns {cs = cs} {xs = more} {ns = ns} e) = ap as_table (ap (λ r. and_then r (λ ms. Ok (without_all ms cs))) (columns_go cs more ns e))
-answer_goes common a xs t (Functions.columns_alone {cs = cs} {xs = more} {ns = ns} e) = ap as_table (ap (λ r. and_then r (λ ms. Ok (only ms cs))) (columns_go cs more ns e))
+answer_goes common a xs t (Functions.columns_alone {cs = cs} {xs = more} {ns = ns} e) = ap as_table (ap (λ r. and_then r (λ ms. Ok (columns_only ms cs))) (columns_go cs more ns e))
 answer_goes common a xs t (Functions.columns_anew {cs = cs} {ds = ds} {xs = more} e) = ap as_table (renames_go more cs ds e)
 answer_goes common a xs t Functions.values_of = refl
 answer_goes common a xs t Functions.rows_of_each = refl
@@ -280,7 +280,7 @@ module _ (r : Row) (h : Top) (ps : List Piece) where
       made_as r h ps o ≡ Ok y → Made r h ps y
   made_common (Some common) y i count e =
       let a = then_ok (stand_all r common ps) (answer_by r h common) y e in
-      let b = then_ok (answered r.answer common a.0) (λ t. Ok (of h (all (firsts a.0)), t)) y a.2 in
+      let b = then_ok (answered_type r.answer common a.0) (λ t. Ok (of h (all (firsts a.0)), t)) y a.2 in
       subst (Made r h ps) (ok_is (of h (all (firsts a.0)), b.0) y b.2)
       (by_row count (common_ok (branches r (length ps) 0 ps) common i) (all_ok r common ps a.0 a.1) (answer_ok common r.answer a.0 b.0 b.1))
   made_common None y i count e = absurd cc
@@ -295,4 +295,4 @@ module _ (r : Row) (h : Top) (ps : List Piece) where
       if_true (takes_count r (length ps)) (made_as r h ps (common_of (branches r (length ps) 0 ps))) (Err 7) count
       ∙ ap (made_as r h ps) (common_goes (branches r (length ps) 0 ps) common c)
       ∙ then_goes (stand_all r common ps) (answer_by r h common) xs (of h (all (firsts xs)), t) (all_goes r common ps xs s)
-      (then_goes (answered r.answer common xs) (λ u. Ok (of h (all (firsts xs)), u)) t (of h (all (firsts xs)), t) (answer_goes common r.answer xs t a) refl)
+      (then_goes (answered_type r.answer common xs) (λ u. Ok (of h (all (firsts xs)), u)) t (of h (all (firsts xs)), t) (answer_goes common r.answer xs t a) refl)

@@ -13,13 +13,13 @@ use Rattle.fx_core.specs.SourceTypes.{item_type, property_of}
 use Rattle.fx_core.specs.Term.{Term, of, nil, cons, const, read, dot, within}
 use Rattle.fx_core.specs.ColumnLists.{field_in, and_then}
 use Rattle.fx_typing.specs.Local.{value, coerced, by_way, put_first}
-use Rattle.fx_typing.specs.Meaning.{Place, Meaning, valued, controlled, enumerated, is_chosen, is_input, written_or, property_read, input_read, control_read, member_of, known_field, dotted}
+use Rattle.fx_typing.specs.Meaning.{Place, NameMeaning, valued, controlled, enumerated, is_chosen, is_input, written_or, property_read, input_read, control_read, member_of, known_field, dotted}
 use Rattle.fx_typing.specs.Ways.{way}
 use Rattle.fx_typing.specs.Builds.{rows_to, list_by, list_as, as_record, with_of}
-use Rattle.fx_typing.specs.Parts.{Part, piece, meant}
+use Rattle.fx_typing.specs.Parts.{JudgedPart, piece, meant}
 use Rattle.fx_typing.specs.Typing.{dot_by}
-use Rattle.fx_typing.specs.Functions.{IsNoTable}
-use Rattle.fx_typing.specs.Records.{left_meaning, written, Behind, field, chosen, input, property, unwritten, member, RowsBecome, no_rows, one_row, Rows, of_rows, IsRecord, a_record, a_blank_record}
+use Rattle.fx_typing.specs.Functions.{IsNoTableType}
+use Rattle.fx_typing.specs.Records.{left_meaning, written_property, Behind, field, chosen, input, property, unwritten, member, RowsBecome, no_rows, one_row, Rows, of_rows, IsRecord, a_record, a_blank_record}
 use Rattle.fx_typing.proofs.RelatedFunctions.{becomes_ok, becomes_goes}
 use Rattle.fx_typing.proofs.RelatedSteps.{ok_is, then_goes, put_first_ok, if_true, if_false}
 use Rattle.fx_typing.proofs.Operators.{then_ok}
@@ -41,13 +41,13 @@ module _ (n : Names) (x : List ℕ) where
     input_ok None y i j l e = absurd cc
 
     written_ok : (o : Option (ℕ × Property)) (t : Shape) (y : Term × Shape) → is_chosen c.kind (encode_utf8_all x) ≡ false → is_input c.kind (encode_utf8_all x) ≡ false →
-        property_of x c ≡ Some t → written n k x ≡ o → written_or c.kind x t o ≡ y → Behind n x (controlled k c) y
+        property_of x c ≡ Some t → written_property n k x ≡ o → written_or c.kind x t o ≡ y → Behind n x (controlled k c) y
     written_ok (Some (i, r)) t y a b l w e = subst (Behind n x (controlled k c)) e (property free a b l w)
     written_ok None t y a b l w e = subst (Behind n x (controlled k c)) e (unwritten free a b l w)
 
     property_ok : (o : Option Shape) (y : Term × Shape) → is_chosen c.kind (encode_utf8_all x) ≡ false → is_input c.kind (encode_utf8_all x) ≡ false →
         property_of x c ≡ o → property_read n k c x o ≡ Ok y → Behind n x (controlled k c) y
-    property_ok (Some t) y a b l e = written_ok (written n k x) t y a b l refl (ok_is (written_or c.kind x t (written n k x)) y e)
+    property_ok (Some t) y a b l e = written_ok (written_property n k x) t y a b l refl (ok_is (written_or c.kind x t (written_property n k x)) y e)
     property_ok None y a b l e = absurd cc
 
     by_input : (b : Bool) (y : Term × Shape) → is_chosen c.kind (encode_utf8_all x) ≡ false → is_input c.kind (encode_utf8_all x) ≡ b →
@@ -66,14 +66,14 @@ module _ (n : Names) (x : List ℕ) where
   control_ok k c (Some g) y i e = absurd cc
   control_ok k c None y i e = by_chosen k c i (is_chosen c.kind (encode_utf8_all x)) y refl e
 
-  pub behind_ok : (m : Meaning) (y : Term × Shape) → dotted n x (Some m) ≡ Ok y → Behind n x m y
+  pub behind_ok : (m : NameMeaning) (y : Term × Shape) → dotted n x (Some m) ≡ Ok y → Behind n x m y
   behind_ok (valued c (records cs)) y e = known_ok c cs (field_in x cs) y refl e
   behind_ok (controlled k c) y e = control_ok k c c.gallery y refl e
   behind_ok (enumerated v) y e = member_ok v (has_member v (encode_utf8_all x)) y refl e
   behind_ok m y e = absurd cc
 
-  pub dot_ok : (p : Place) → p.names ≡ n → (qs : List Part) (y : Term × Shape) → dot_by p x qs ≡ Ok y →
-      (q : Part) × (qs ≡ q ∷ []) × (m : Meaning) × (left_meaning q ≡ Some m) × (dotted p.names x (Some m) ≡ Ok y)
+  pub dot_ok : (p : Place) → p.names ≡ n → (qs : List JudgedPart) (y : Term × Shape) → dot_by p x qs ≡ Ok y →
+      (q : JudgedPart) × (qs ≡ q ∷ []) × (m : NameMeaning) × (left_meaning q ≡ Some m) × (dotted p.names x (Some m) ≡ Ok y)
   dot_ok p k (piece (value a c t) ∷ []) y e = (piece (value a c t), refl, valued c t, refl, e)
   dot_ok p k (meant m ∷ []) y e = (meant m, refl, m, refl, e)
   dot_ok p k qs y e = absurd cc
@@ -81,7 +81,7 @@ module _ (n : Names) (x : List ℕ) where
   free_reads : (k : ℕ) (c : ControlName) (y : Term × Shape) → c.gallery ≡ None → control_read n k c None x ≡ Ok y → control_read n k c c.gallery x ≡ Ok y
   free_reads k c y i e = ap (λ g. control_read n k c g x) i ∙ e
 
-  pub behind_goes : (m : Meaning) (y : Term × Shape) → Behind n x m y → dotted n x (Some m) ≡ Ok y
+  pub behind_goes : (m : NameMeaning) (y : Term × Shape) → Behind n x m y → dotted n x (Some m) ≡ Ok y
   behind_goes m y (field {c = c} e) = ap (known_field c x) e
   behind_goes m y (chosen {k = k} {c = c} free i) = free_reads k c y free (if_true (is_chosen c.kind (encode_utf8_all x)) _ _ i)
   behind_goes m y (input {k = k} {c = c} free i j l) =
@@ -109,7 +109,7 @@ rows_go t xs ys (one_row {c = c} {d = d} {u = u} {xs = others} {ys = after} b r)
     then_goes (by_way (way u t) c t) (λ y. put_first y (rows_to t others)) (d, t) ((d, t) ∷ after)
     (becomes_goes (way u t) c t d b) (ap (put_first (d, t)) (rows_go t others after r))
 
-rows_of_type : (t : Shape) (xs : List (Term × Shape)) (y : Term × Shape) (o : Option Shape) → o ≡ Some t → IsNoTable t →
+rows_of_type : (t : Shape) (xs : List (Term × Shape)) (y : Term × Shape) (o : Option Shape) → o ≡ Some t → IsNoTableType t →
     and_then (rows_to t xs) (λ ys. Ok (list_by t ys)) ≡ Ok y → Rows o xs y
 rows_of_type t xs y o i j e =
     let a = then_ok (rows_to t xs) (λ ys. Ok (list_by t ys)) y e in
@@ -125,7 +125,7 @@ list_ok (Some booleans) xs y e = rows_of_type booleans xs y (Some booleans) refl
 list_ok (Some dates) xs y e = rows_of_type dates xs y (Some dates) refl tt e
 list_ok (Some (records cs)) xs y e = rows_of_type (records cs) xs y (Some (records cs)) refl tt e
 
-no_table_list : (t : Shape) (xs ys : List (Term × Shape)) → IsNoTable t → rows_to t xs ≡ Ok ys → list_as (Some t) xs ≡ Ok (list_by t ys)
+no_table_list : (t : Shape) (xs ys : List (Term × Shape)) → IsNoTableType t → rows_to t xs ≡ Ok ys → list_as (Some t) xs ≡ Ok (list_by t ys)
 no_table_list (tables cs) xs ys i e = absurd i
 no_table_list blanks xs ys i e = ap (λ r. and_then r (λ zs. Ok (list_by blanks zs))) e
 no_table_list numbers xs ys i e = ap (λ r. and_then r (λ zs. Ok (list_by numbers zs))) e

@@ -6,8 +6,8 @@ use Rattle.fx_core.specs.Term.{Term}
 use Rattle.fx_core.specs.ColumnLists.{and_then}
 use Rattle.fx_typing.specs.Local.{value, label, put_first}
 use Rattle.fx_typing.specs.Builds.{is_bounded, bounded}
-use Rattle.fx_typing.specs.Parts.{Part, piece, meant, target, assigned, plainly, as_part, put_value, values, unless, lowest}
-use Rattle.fx_typing.specs.Records.{Values, no_values, one_value}
+use Rattle.fx_typing.specs.Parts.{JudgedPart, piece, meant, target, assigned, plainly, as_part, put_value, values, unless_rule, lowest}
+use Rattle.fx_typing.specs.Records.{AreValueParts, no_values, one_value}
 
 pub ok_is : {A : Type 0} (a b : A) → ◌≡◌ {A = Result A ℕ} (Ok a) (Ok b) → a ≡ b
 ok_is a b e = cc
@@ -28,7 +28,7 @@ pub put_value_ok : (x : Term × Shape) (r : Result (List (Term × Shape)) ℕ) (
 put_value_ok x (Ok ys) xs e = (ys, refl, cc)
 put_value_ok x (Err n) xs e = absurd cc
 
-pub as_part_ok : (r : Result (Term × Shape) ℕ) (q : Part) → as_part r ≡ Ok q → (x : Term × Shape) × (r ≡ Ok x) × (plainly x ≡ q)
+pub as_part_ok : (r : Result (Term × Shape) ℕ) (q : JudgedPart) → as_part r ≡ Ok q → (x : Term × Shape) × (r ≡ Ok x) × (plainly x ≡ q)
 as_part_ok (Ok x) q e = (x, refl, cc)
 as_part_ok (Err n) q e = absurd cc
 
@@ -40,7 +40,7 @@ lowest_ok f (Err k) (Ok b) z e = absurd cc
 lowest_ok f (Err k) (Err j) z e = absurd cc
 
 -- what breaks no rule of its place is admitted
-pub unless_ok : {A : Type 0} (b : Bool) (k : ℕ) (r : Result A ℕ) (x : A) → unless b k r ≡ Ok x → (b ≡ false) × (r ≡ Ok x)
+pub unless_ok : {A : Type 0} (b : Bool) (k : ℕ) (r : Result A ℕ) (x : A) → unless_rule b k r ≡ Ok x → (b ≡ false) × (r ≡ Ok x)
 unless_ok true k (Ok y) x e = absurd cc
 unless_ok false k (Ok y) x e = (refl, e)
 unless_ok {A = A} b k (Err n) x e = absurd (by_test (b && nat_lt k n) e)
@@ -49,8 +49,8 @@ unless_ok {A = A} b k (Err n) x e = absurd (by_test (b && nat_lt k n) e)
     by_test true i = absurd cc
     by_test false i = absurd cc
 
-pub unless_goes : {A : Type 0} (b : Bool) (k : ℕ) (r : Result A ℕ) (x : A) → b ≡ false → r ≡ Ok x → unless b k r ≡ Ok x
-unless_goes b k r x e f = ap (λ c. unless c k r) e ∙ ap (unless false k) f
+pub unless_goes : {A : Type 0} (b : Bool) (k : ℕ) (r : Result A ℕ) (x : A) → b ≡ false → r ≡ Ok x → unless_rule b k r ≡ Ok x
+unless_goes b k r x e f = ap (λ c. unless_rule c k r) e ∙ ap (unless_rule false k) f
 
 pub if_true : {A : Type 0} (b : Bool) (x y : A) → b ≡ true → (if b then x else y) ≡ x
 if_true true x y e = refl
@@ -77,16 +77,16 @@ pub bounded_goes : (r : Result (Term × Shape) ℕ) (x : Term × Shape) → r �
 bounded_goes r x e f = ap bounded e ∙ unless_goes (not (is_bounded x.1)) 13 (Ok x) x (not_from_true (is_bounded x.1) f) refl
 
 -- parts that are all values
-pub values_ok : (qs : List Part) (xs : List (Term × Shape)) → values qs ≡ Ok xs → Values qs xs
-values_ok [] xs e = let k : [] ≡ xs = cc in subst (Values []) k no_values
+pub values_ok : (qs : List JudgedPart) (xs : List (Term × Shape)) → values qs ≡ Ok xs → AreValueParts qs xs
+values_ok [] xs e = let k : [] ≡ xs = cc in subst (AreValueParts []) k no_values
 values_ok (piece (value a c t) ∷ qs) xs e =
     let b = put_value_ok (c, t) (values qs) xs e in
-    subst (Values (piece (value a c t) ∷ qs)) b.2 (one_value (values_ok qs b.0 b.1))
+    subst (AreValueParts (piece (value a c t) ∷ qs)) b.2 (one_value (values_ok qs b.0 b.1))
 values_ok (piece (label x) ∷ qs) xs e = absurd cc
 values_ok (meant m ∷ qs) xs e = absurd cc
 values_ok (target a x ∷ qs) xs e = absurd cc
 values_ok (assigned ns ys ∷ qs) xs e = absurd cc
 
-pub values_are : (qs : List Part) (xs : List (Term × Shape)) → Values qs xs → values qs ≡ Ok xs
+pub values_are : (qs : List JudgedPart) (xs : List (Term × Shape)) → AreValueParts qs xs → values qs ≡ Ok xs
 values_are qs xs no_values = refl
 values_are qs xs (one_value {c = c} {t = t} {qs = more} {xs = others} v) = ap (put_value (c, t)) (values_are more others v)

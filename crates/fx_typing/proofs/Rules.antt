@@ -12,8 +12,8 @@ use Rattle.fx_core.specs.Rows.{shape_of, row_of, form_row, takes_at, takes_count
 use Rattle.fx_core.specs.Term.{Term, Terms, of, nil, cons, all, Top, const, coerce, form}
 use Rattle.fx_typing.specs.Columns.{tells_error}
 use Rattle.fx_core.specs.ColumnLists.{and_then}
-use Rattle.fx_typing.specs.Local.{Piece, value, label, coerced, by_way, exact_way, branch_way, when, stand, put_first, stand_rest, stand_all, branches, common_of, firsts, answer_by, made_as, made_by, made, formed}
-use Rattle.fx_typing.specs.WellTyped.{Context, head_by, head_of, standing_of, standing_at, context_for, first_type, Stands, AllStand, paired, answered, IsByRow, IsRuled, parts_count, IsTyped, AreTyped}
+use Rattle.fx_typing.specs.Local.{Piece, value, label, coerced, by_way, exact_way, branch_way, part_or_rule, stand, put_first, stand_rest, stand_all, branches, common_of, firsts, answer_by, made_as, made_by, node_made, formed}
+use Rattle.fx_typing.specs.WellTyped.{Context, head_by, head_of, standing_of, standing_at, context_for, first_type, Stands, AllStand, typed_pairs, answered_type, IsByRow, IsRuled, parts_count, IsTyped, AreTyped}
 use Rattle.fx_typing.specs.Ways.{Way, same, changed, refused, way, is_scalar, is_comparable}
 use Rattle.fx_typing.proofs.Same.{way_same, exact_same, exact_changed, branch_same, comparable_itself}
 
@@ -58,7 +58,7 @@ by_way_typed c changed k u to x e h s r =
     subst (λ (z : Term × Shape). Typed c z × (z.1 ≡ to)) y (coerced_typed c k u to h (r refl), refl)
 by_way_typed c refused k u to x e h s r = absurd cc
 
-when_ok : (b : Bool) (e : ℕ) (k : Term) (t : Shape) (x : Term × Shape) → when b e k t ≡ Ok x → (b ≡ true) × ((k, t) ≡ x)
+when_ok : (b : Bool) (e : ℕ) (k : Term) (t : Shape) (x : Term × Shape) → part_or_rule b e k t ≡ Ok x → (b ≡ true) × ((k, t) ≡ x)
 when_ok true e k t x h = (refl, cc)
 when_ok false e k t x h = absurd cc
 
@@ -146,7 +146,7 @@ pub put_ok : (x : Term × Shape) (r : Result (List (Term × Shape)) ℕ) (xs : L
 put_ok x (Ok ys) xs e = (ys, refl, sym cc)
 put_ok x (Err n) xs e = absurd cc
 
-pairs_back : (xs : List (Term × Shape)) → paired (all (firsts xs)) (seconds xs) ≡ xs
+pairs_back : (xs : List (Term × Shape)) → typed_pairs (all (firsts xs)) (seconds xs) ≡ xs
 pairs_back [] = refl
 pairs_back (x ∷ xs) = ap (λ ys. x ∷ ys) (pairs_back xs)
 
@@ -232,7 +232,7 @@ answer_typed : (r : Row) (h : Top) (c : Context) (common : Shape) (ps : List Pie
     AllStand r (length ps) 0 (first_type (seconds xs)) common (seconds xs) → length xs ≡ length ps →
     answer_by r h common xs ≡ Ok x → Typed c x
 answer_typed r h c common ps xs x ruled count typed stands l e =
-    let a = and_then_ok (answered r.answer common xs) _ x e in
+    let a = and_then_ok (answered_type r.answer common xs) _ x e in
     let y : (of h (all (firsts xs)), a.0) ≡ x = cc in
     let many = seconds_length xs ∙ l in
     subst (Typed c) y (
@@ -242,7 +242,7 @@ answer_typed r h c common ps xs x ruled count typed stands l e =
         subst (λ m. takes_count r m ≡ true) (sym many) count,
         common,
         subst (λ m. AllStand r m 0 (first_type (seconds xs)) common (seconds xs)) (sym many) stands,
-        ap (answered r.answer common) (pairs_back xs) ∙ a.1,
+        ap (answered_type r.answer common) (pairs_back xs) ∙ a.1,
       ),
     )
 
@@ -303,7 +303,7 @@ ruled_by takes.NewColumn f c e cs us t h = (ap (λ k. head_by k f) e, h)
 -- the law for functions and operators, and for forms
 pub function_typed : (Inv : List Piece → List Shape → Type 0) (f : Fun) (c : Context) (sc : List Piece → Context) (ps : List Piece) (x : Term × Shape) →
     Agrees Inv (row_of f) c (length ps) sc → ((common : Shape) → Goes Inv (row_of f) (length ps) common) → Inv [] [] →
-    PartsTyped sc [] ps → made f ps ≡ Ok x → Typed c x
+    PartsTyped sc [] ps → node_made f ps ≡ Ok x → Typed c x
 function_typed Inv f c sc ps x agree goes inv t e =
     made_typed Inv (row_of f) (head_of f) c sc ps x (ruled_by (row_of f).first f c refl) (follows_by (row_of f).first f (length ps)) agree goes inv t e
 

@@ -7,12 +7,12 @@ use Rattle.fx_core.specs.Term.{Term, of, all, Top}
 use Rattle.fx_typing.specs.Local.{value, label, coerced, by_way, firsts}
 use Rattle.fx_typing.specs.Meaning.{Place, Scope}
 use Rattle.fx_typing.specs.Ways.{Way, same, changed, refused, way}
-use Rattle.fx_typing.specs.WellTyped.{Context, Standing, plain, standing_at, context_for, IsRuled, IsTyped, AreTyped, parts_count}
+use Rattle.fx_typing.specs.WellTyped.{Context, PartScope, plain, standing_at, context_for, IsRuled, IsTyped, AreTyped, parts_count}
 use Rattle.fx_typing.proofs.Rules.{Typed, coercion_ruled}
 use Rattle.fx_typing.proofs.Same.{way_same}
 use Rattle.fx_typing.specs.Builds.{types_of}
-use Rattle.fx_typing.specs.Parts.{Part, piece, meant, target, assigned, Setting, put_value, values, lowest}
-use Rattle.fx_typing.specs.Plans.{Plan, scopes_for, is_catching, setting_by, plan_at}
+use Rattle.fx_typing.specs.Parts.{JudgedPart, piece, meant, target, assigned, Setting, put_value, values, lowest}
+use Rattle.fx_typing.specs.Plans.{ArgumentRule, scopes_for, is_catching, setting_by, plan_at}
 use Rattle.fx_typing.specs.Typing.{context_of}
 use Rattle.fx_typing.proofs.Frame.{AllTyped, PartTyped, PartsTypedAt}
 use Rattle.fx_typing.proofs.RelatedSteps.{ok_is}
@@ -47,27 +47,27 @@ came c k u to x e h = by_cases (way u to) refl e
     by_cases refused i j = absurd cc
 
 -- parts that all stand in one place
-abbrev pub EachTyped : Context → List Part → Type 0
+abbrev pub EachTyped : Context → List JudgedPart → Type 0
 EachTyped c [] = Unit {0}
 EachTyped c (q ∷ qs) = PartTyped c q × EachTyped c qs
 
-abbrev pub place_at : Place → Setting → Standing → List Part → Context
+abbrev pub place_at : Place → Setting → PartScope → List JudgedPart → Context
 place_at p s st done = record (context_of p s) { rows = map (λ (r : Scope). r.row_type) (scopes_for p.names st s.scopes done); caught = s.catches || is_catching st }
 
 -- a part that stands plainly stands where the whole does
-pub plain_place : (p : Place) (s : Setting) (pl : Plan) (done : List Part) → pl.standing ≡ plain → context_of p (setting_by p.names s pl done) ≡ context_of p s
+pub plain_place : (p : Place) (s : Setting) (pl : ArgumentRule) (done : List JudgedPart) → pl.standing ≡ plain → context_of p (setting_by p.names s pl done) ≡ context_of p s
 plain_place p s pl done e =
     let first : place_at p s pl.standing done ≡ place_at p s plain done = ap (λ st. place_at p s st done) e in
     let second : place_at p s plain done ≡ context_of p s = ap (λ b. record (context_of p s) { caught = b }) (or-false s.catches) in
     first ∙ second
 
-pub each_plain : (p : Place) (s : Setting) (h : Head) (n : ℕ) (done qs : List Part) → ((d : List Part) → (plan_at p.names s.grant h n d).standing ≡ plain) →
+pub each_plain : (p : Place) (s : Setting) (h : Head) (n : ℕ) (done qs : List JudgedPart) → ((d : List JudgedPart) → (plan_at p.names s.grant h n d).standing ≡ plain) →
     PartsTypedAt p s h n done qs → EachTyped (context_of p s) qs
 each_plain p s h n done [] f t = tt
 each_plain p s h n done (q ∷ qs) f t =
     (subst (λ c. PartTyped c q) (plain_place p s (plan_at p.names s.grant h n done) done (f done)) t.0, each_plain p s h n (done ++ q ∷ []) qs f t.1)
 
-pub values_typed : (c : Context) (qs : List Part) (xs : List (Term × Shape)) → values qs ≡ Ok xs → EachTyped c qs → AllTyped c xs
+pub values_typed : (c : Context) (qs : List JudgedPart) (xs : List (Term × Shape)) → values qs ≡ Ok xs → EachTyped c qs → AllTyped c xs
 values_typed c [] xs e h = let k : [] ≡ xs = cc in subst (AllTyped c) k tt
 values_typed c (piece (value a m t) ∷ qs) xs e h =
     let b = put_value_ok (m, t) (values qs) xs e in

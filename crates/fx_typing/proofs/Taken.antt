@@ -16,24 +16,24 @@ use Rattle.fx_core.specs.declared.rows.Takes.TheVariants as takes
 use Rattle.fx_core.specs.Rows.{row_of, takes_at, takes_count}
 use Rattle.fx_core.specs.SourceTypes.{put_column, item_columns}
 use Rattle.fx_core.specs.Term.{Term}
-use Rattle.fx_typing.specs.Columns.{label_of, by_label, added, renamed}
-use Rattle.fx_core.specs.ColumnLists.{field_in, without, is_one_of, if_there, if_free, and_then, with_new, with_renamed}
+use Rattle.fx_typing.specs.Columns.{label_of, by_label, added, columns_renamed}
+use Rattle.fx_core.specs.ColumnLists.{field_in, columns_without, is_one_of, if_there, if_free, and_then, with_new, with_renamed}
 use Rattle.fx_typing.specs.Local.{Piece, value, label, stand}
-use Rattle.fx_typing.specs.Breaks.{column_names, names_in, taken_or, taken_added, taken_renamed, taken_by, taken_at}
-use Rattle.fx_typing.specs.Parts.{Part, piece, meant, target, assigned, piece_of, pieces}
+use Rattle.fx_typing.specs.Breaks.{names_of_columns, names_in, name_taken_or, taken_added, taken_renamed, taken_by, taken_at}
+use Rattle.fx_typing.specs.Parts.{JudgedPart, piece, meant, target, assigned, piece_of, pieces}
 use Rattle.fx_typing.specs.Functions
-use Rattle.fx_typing.specs.Functions.{StandsAs, StandFrom, none_stand, one_stands, first_and_others, Answers, Calls, by_row}
+use Rattle.fx_typing.specs.Functions.{StandsAs, StandFrom, none_stand, one_stands, first_and_others, AnswerType, Calls, by_row}
 use Rattle.fx_typing.proofs.RelatedFunctions.{stands_goes, adds_go, renames_go, free_ok}
 use Rattle.fx_typing.proofs.RelatedSteps.{ok_is}
 use Rattle.fx_typing.proofs.Operators.{then_ok}
 use Rattle.fx_typing.proofs.RelatedActing.{never_first}
 
 -- parts that are values or names of columns
-abbrev pub IsPiece : Part → Type 0
+abbrev pub IsPiece : JudgedPart → Type 0
 IsPiece (piece k) = Unit {0}
 IsPiece q = ⊥
 
-abbrev pub ArePieces : List Part → Type 0
+abbrev pub ArePieces : List JudgedPart → Type 0
 ArePieces [] = Unit {0}
 ArePieces (q ∷ qs) = IsPiece q × ArePieces qs
 
@@ -101,7 +101,7 @@ put_keeps x m u (column n t cs) e = by_order (λ f. put_keeps x m u cs f) (slice
     by_order k Equal = by_name (bytes_eq n x) t u (field_in x cs) (field_in x cs) e (λ f. f)
     by_order k Greater = by_name (bytes_eq n x) t t (field_in x cs) (field_in x (put_column m u cs)) e k
 
-without_keeps : (k x : List ℕ) (cs : ColumnList) → bytes_eq k x ≡ false → is_some (field_in k cs) ≡ true → is_some (field_in k (without x cs)) ≡ true
+without_keeps : (k x : List ℕ) (cs : ColumnList) → bytes_eq k x ≡ false → is_some (field_in k cs) ≡ true → is_some (field_in k (columns_without x cs)) ≡ true
 without_keeps k x no_columns i e = absurd cc
 without_keeps k x (column y t cs) i e = by_names (λ f. without_keeps k x cs i f) (bytes_eq y x) refl (bytes_eq y k) refl e
   where
@@ -110,8 +110,8 @@ without_keeps k x (column y t cs) i e = by_names (λ f. without_keeps k x cs i f
         let l : bytes_eq k x ≡ true = subst (λ z. bytes_eq z x ≡ true) (same_name y k b) a in
         let m : true ≡ false = sym l ∙ i in absurd cc
 
-    by_names : (is_some (field_in k cs) ≡ true → is_some (field_in k (without x cs)) ≡ true) → (a : Bool) → bytes_eq y x ≡ a → (b : Bool) → bytes_eq y k ≡ b → is_some (if b then Some t else field_in k cs) ≡ true →
-        is_some (field_in k (if a then cs else column y t (without x cs))) ≡ true
+    by_names : (is_some (field_in k cs) ≡ true → is_some (field_in k (columns_without x cs)) ≡ true) → (a : Bool) → bytes_eq y x ≡ a → (b : Bool) → bytes_eq y k ≡ b → is_some (if b then Some t else field_in k cs) ≡ true →
+        is_some (field_in k (if a then cs else column y t (columns_without x cs))) ≡ true
     by_names g true p true q f = absurd (differs p q)
     by_names g true p false q f = f
     by_names g false p true q f = some_if (bytes_eq y k) t _ q
@@ -126,22 +126,22 @@ all_one n [] cs h e = (e, tt)
 all_one n (k ∷ ns) cs h e = (h.0, all_one n ns cs h.1 e)
 
 all_renamed : (x y : List ℕ) (u : Shape) (ns : List (List ℕ)) (cs : ColumnList) → HasAll ns cs →
-    HasAll (map (λ n. if bytes_eq n x then y else n) ns) (put_column y u (without x cs))
+    HasAll (map (λ n. if bytes_eq n x then y else n) ns) (put_column y u (columns_without x cs))
 all_renamed x y u [] cs h = tt
 all_renamed x y u (n ∷ ns) cs h = (by_test (bytes_eq n x) refl, all_renamed x y u ns cs h.1)
   where
-    by_test : (b : Bool) → bytes_eq n x ≡ b → is_some (field_in (if b then y else n) (put_column y u (without x cs))) ≡ true
-    by_test true i = put_has y u (without x cs)
-    by_test false i = put_keeps n y u (without x cs) (without_keeps n x cs i h.0)
+    by_test : (b : Bool) → bytes_eq n x ≡ b → is_some (field_in (if b then y else n) (put_column y u (columns_without x cs))) ≡ true
+    by_test true i = put_has y u (columns_without x cs)
+    by_test false i = put_keeps n y u (columns_without x cs) (without_keeps n x cs i h.0)
 
 -- columns have their names
 names_had : (n : List ℕ) (t : Shape) (ns : List (List ℕ)) (cs : ColumnList) → HasAll ns cs → HasAll ns (column n t cs)
 names_had n t [] cs h = tt
 names_had n t (k ∷ ns) cs h = (some_or (bytes_eq n k) t (field_in k cs) h.0, names_had n t ns cs h.1)
 
-names_all : (cs : ColumnList) → HasAll (column_names cs) cs
+names_all : (cs : ColumnList) → HasAll (names_of_columns cs) cs
 names_all no_columns = tt
-names_all (column n t cs) = (some_if (bytes_eq n n) t (field_in n cs) (own_name n), names_had n t (column_names cs) cs (names_all cs))
+names_all (column n t cs) = (some_if (bytes_eq n n) t (field_in n cs) (own_name n), names_had n t (names_of_columns cs) cs (names_all cs))
 
 -- ---- steps of the functions of columns
 label_ok : {A : Type 0} (o : Option (List ℕ)) (go : List ℕ → Result A ℕ) (a : A) → by_label o go ≡ Ok a → (x : List ℕ) × (o ≡ Some x) × (go x ≡ Ok a)
@@ -153,11 +153,11 @@ labelled takes.Column first common l x e = ap (λ (z : Term × Shape). label_of 
 labelled takes.NewColumn first common l x e = ap (λ (z : Term × Shape). label_of z.0) (sym (ok_is _ x e))
 labelled k first common l x e = absurd cc
 
-not_taken : (x : List ℕ) (ns : List (List ℕ)) (later : Option (List ℕ)) → is_one_of x ns ≡ false → later ≡ None → taken_or (Some x) ns later ≡ None
+not_taken : (x : List ℕ) (ns : List (List ℕ)) (later : Option (List ℕ)) → is_one_of x ns ≡ false → later ≡ None → name_taken_or (Some x) ns later ≡ None
 not_taken x ns later e f = ap (λ b. if b then Some x else later) e ∙ f
 
 -- ---- new columns
-added_free : (r : Row) (n i : ℕ) (first common : Shape) (qs : List Part) (ps : List Piece) (xs : List (Term × Shape)) (ns : List (List ℕ)) (cs ds : ColumnList) →
+added_free : (r : Row) (n i : ℕ) (first common : Shape) (qs : List JudgedPart) (ps : List Piece) (xs : List (Term × Shape)) (ns : List (List ℕ)) (cs ds : ColumnList) →
     pieces qs ≡ ps → ArePieces qs → StandFrom r n first common i ps xs → HasAll ns cs → added xs cs ≡ Ok ds → taken_added qs ns ≡ None
 added_free r n i first common [] ps xs ns cs ds p a f h e = refl
 added_free r n i first common (q ∷ []) ps xs ns cs ds p a f h e = refl
@@ -213,8 +213,8 @@ no_value k first common a c t x o e = absurd cc
 stood_at : (k : Takes) (first common : Shape) (p q : Piece) (x : Term × Shape) → p ≡ q → StandsAs first common k q x → stand k first common p ≡ Ok x
 stood_at k first common p q x e s = ap (stand k first common) e ∙ stands_goes first common k q x s
 
-renamed_free : (n i : ℕ) (first common : Shape) (qs : List Part) (ps : List Piece) (xs : List (Term × Shape)) (ns : List (List ℕ)) (cs ds : ColumnList) →
-    pieces qs ≡ ps → ArePieces qs → StandFrom Renaming n first common (suc i) ps xs → HasAll ns cs → renamed xs cs ≡ Ok ds → taken_renamed qs ns ≡ None
+renamed_free : (n i : ℕ) (first common : Shape) (qs : List JudgedPart) (ps : List Piece) (xs : List (Term × Shape)) (ns : List (List ℕ)) (cs ds : ColumnList) →
+    pieces qs ≡ ps → ArePieces qs → StandFrom Renaming n first common (suc i) ps xs → HasAll ns cs → columns_renamed xs cs ≡ Ok ds → taken_renamed qs ns ≡ None
 renamed_free n i first common [] ps xs ns cs ds p a f h e = refl
 renamed_free n i first common (q ∷ []) ps xs ns cs ds p a f h e = refl
 renamed_free n i first common (q ∷ g ∷ qs) ps xs ns cs ds p a none_stand h e = absurd cc
@@ -223,18 +223,18 @@ renamed_free n i first common (piece (label l) ∷ piece (label m) ∷ qs) ps xs
     let first_piece : label l ≡ k = cc in
     let second_piece : label m ≡ j = cc in
     let rest : pieces qs ≡ more = cc in
-    let b = label_ok (label_of x.0) (λ v. by_label (label_of y.0) (λ w. and_then (with_renamed v w cs) (λ es. renamed others es))) ds e in
-    let d = label_ok (label_of y.0) (λ w. and_then (with_renamed b.0 w cs) (λ es. renamed others es)) ds b.2 in
-    let c = then_ok (with_renamed b.0 d.0 cs) (λ es. renamed others es) ds d.2 in
-    let there = then_ok (if_there (field_in b.0 cs)) (λ u. if_free (field_in d.0 cs) (put_column d.0 u (without b.0 cs))) c.0 c.1 in
-    let free = free_ok (field_in d.0 cs) (put_column d.0 there.0 (without b.0 cs)) c.0 there.2 in
+    let b = label_ok (label_of x.0) (λ v. by_label (label_of y.0) (λ w. and_then (with_renamed v w cs) (λ es. columns_renamed others es))) ds e in
+    let d = label_ok (label_of y.0) (λ w. and_then (with_renamed b.0 w cs) (λ es. columns_renamed others es)) ds b.2 in
+    let c = then_ok (with_renamed b.0 d.0 cs) (λ es. columns_renamed others es) ds d.2 in
+    let there = then_ok (if_there (field_in b.0 cs)) (λ u. if_free (field_in d.0 cs) (put_column d.0 u (columns_without b.0 cs))) c.0 c.1 in
+    let free = free_ok (field_in d.0 cs) (put_column d.0 there.0 (columns_without b.0 cs)) c.0 there.2 in
     let old_label : label_of x.0 ≡ Some l = labelled (takes_at Renaming n (suc i)) first common l x (stood_at (takes_at Renaming n (suc i)) first common (label l) k x first_piece s) in
     let new_label : label_of y.0 ≡ Some m =
     labelled (takes_at Renaming n (suc (suc i))) first common m y (stood_at (takes_at Renaming n (suc (suc i))) first common (label m) j y second_piece t) in
     let old : b.0 ≡ l = let z : Some b.0 ≡ Some l = sym b.1 ∙ old_label in cc in
     let new : d.0 ≡ m = let z : Some d.0 ≡ Some m = sym d.1 ∙ new_label in cc in
     let is_free : field_in m cs ≡ None = subst (λ z. field_in z cs ≡ None) new free.0 in
-    let put : put_column m there.0 (without l cs) ≡ c.0 = (λ z. put_column (sym new z) there.0 (without (sym old z) cs)) ∙ free.1 in
+    let put : put_column m there.0 (columns_without l cs) ≡ c.0 = (λ z. put_column (sym new z) there.0 (columns_without (sym old z) cs)) ∙ free.1 in
     let after : HasAll (map (λ v. if bytes_eq v l then m else v) ns) c.0 = subst (HasAll (map (λ v. if bytes_eq v l then m else v) ns)) put (all_renamed l m there.0 ns cs h) in
     not_taken m ns _ (free_one m ns cs h is_free)
     (renamed_free n (suc (suc i)) first common qs more others (map (λ v. if bytes_eq v l then m else v) ns) c.0 ds rest a.1.1 f after c.2)
@@ -252,25 +252,25 @@ renamed_free n i first common (target w m ∷ g ∷ qs) ps xs ns cs ds p a (one_
 renamed_free n i first common (assigned ms vs ∷ g ∷ qs) ps xs ns cs ds p a (one_stands s (one_stands t f)) h e = absurd a.0
 
 -- ---- of a call
-first_names : (common : Shape) (q : Part) (c : Term) (cs : ColumnList) → stand takes.Table blanks common (piece_of q) ≡ Ok (c, tables cs) → HasAll (names_in q) cs
+first_names : (common : Shape) (q : JudgedPart) (c : Term) (cs : ColumnList) → stand takes.Table blanks common (piece_of q) ≡ Ok (c, tables cs) → HasAll (names_in q) cs
 first_names common (piece (value a m (tables ds))) c cs e =
     let k : (m, tables ds) ≡ (c, tables cs) = ok_is (m, tables ds) (c, tables cs) e in
-    subst (HasAll (column_names ds)) (ap (λ (z : Term × Shape). item_columns z.1) k) (names_all ds)
+    subst (HasAll (names_of_columns ds)) (ap (λ (z : Term × Shape). item_columns z.1) k) (names_all ds)
 first_names common q c cs e = tt
 
-added_answer : (common : Shape) (x : Term × Shape) (xs : List (Term × Shape)) (t : Shape) → Answers common answer.Added (x ∷ xs) t →
+added_answer : (common : Shape) (x : Term × Shape) (xs : List (Term × Shape)) (t : Shape) → AnswerType common answer.Added (x ∷ xs) t →
     (c : Term) × (cs : ColumnList) × (ds : ColumnList) × (x ≡ (c, tables cs)) × (added xs cs ≡ Ok ds)
 added_answer common x xs t (Functions.with_columns {c = c} {cs = cs} {ds = ds} e) = (c, cs, ds, refl, adds_go xs cs ds e)
 
-renamed_answer : (common : Shape) (x : Term × Shape) (xs : List (Term × Shape)) (t : Shape) → Answers common answer.Renamed (x ∷ xs) t →
-    (c : Term) × (cs : ColumnList) × (ds : ColumnList) × (x ≡ (c, tables cs)) × (renamed xs cs ≡ Ok ds)
+renamed_answer : (common : Shape) (x : Term × Shape) (xs : List (Term × Shape)) (t : Shape) → AnswerType common answer.Renamed (x ∷ xs) t →
+    (c : Term) × (cs : ColumnList) × (ds : ColumnList) × (x ≡ (c, tables cs)) × (columns_renamed xs cs ≡ Ok ds)
 renamed_answer common x xs t (Functions.columns_anew {c = c} {cs = cs} {ds = ds} e) = (c, cs, ds, refl, renames_go xs cs ds e)
 
 either_none : (b : Bool) (o : Option (List ℕ)) → o ≡ None → (if b then o else None) ≡ None
 either_none true o e = e
 either_none false o e = refl
 
-pub none_taken : (f : Fun) (qs : List Part) (y : Term × Shape) → ArePieces qs → Calls f (pieces qs) y → taken_at f qs ≡ None
+pub none_taken : (f : Fun) (qs : List JudgedPart) (y : Term × Shape) → ArePieces qs → Calls f (pieces qs) y → taken_at f qs ≡ None
 none_taken fun.AddColumns (q ∷ qs) y a (by_row {common = u} {t = t} count join (first_and_others {x = x} {xs = xs} s f) answers) =
     let b = added_answer u x xs t answers in
     let table : stand takes.Table blanks u (piece_of q) ≡ Ok (b.0, tables b.1) = stands_goes blanks u takes.Table (piece_of q) x s ∙ ap Ok b.3 in

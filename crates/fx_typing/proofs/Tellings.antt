@@ -3,7 +3,7 @@ use Rattle.std.proofs.Common.{◌≡◌, ℕ, List, Option, Some, None, Bool, tr
 use Rattle.std.specs.Prelude.{◌&&◌, unwrap_or}
 use Rattle.std.specs.Str.{chars}
 use Rattle.fx_types.specs.Types.{Shape, ColumnList, texts}
-use Rattle.fx_typing.specs.Columns.{is_told, is_told_or_missing, tells_error}
+use Rattle.fx_typing.specs.Columns.{has_text_coercion, is_told_or_missing, tells_error}
 use Rattle.fx_core.specs.ColumnLists.{field_in}
 use Rattle.fx_typing.specs.Local.{without_kind}
 use Rattle.fx_typing.specs.Ways.{way, is_open}
@@ -12,7 +12,7 @@ use Rattle.fx_typing.specs.Ways.{way, is_open}
 abbrev pub told : Bool → Option Shape → Bool
 told b o = unwrap_or (option_map (λ t. is_open (way t texts)) o) b
 
-told_kind : (o : Option Shape) → told false o ≡ is_told o
+told_kind : (o : Option Shape) → told false o ≡ has_text_coercion o
 told_kind None = refl
 told_kind (Some t) = refl
 

@@ -10,8 +10,8 @@ use Rattle.fx_typing.specs.Ways.{Way, same, changed, refused, way}
 use Rattle.fx_typing.specs.WellTyped.{Context, IsTyped}
 use Rattle.fx_typing.proofs.Rules.{Typed}
 use Rattle.fx_typing.specs.Laws.{AdmittedIsTyped, IsWanted, AdmittedIsWanted}
-use Rattle.fx_typing.specs.Parts.{Part, piece, Setting}
-use Rattle.fx_typing.specs.Typing.{context_of, at_node, judge, outermost, to_wanted, whole_of, position}
+use Rattle.fx_typing.specs.Parts.{JudgedPart, piece, Setting}
+use Rattle.fx_typing.specs.Typing.{context_of, at_node, judge, outermost_setting, to_wanted, whole_argument, position}
 use Rattle.fx_typing.proofs.Acting.{acting_typed}
 use Rattle.fx_typing.proofs.Calls.{call_typed}
 use Rattle.fx_typing.proofs.Frame.{PartTyped, IsSoundLocally, onward_ok, at_node_ok, judged_typed}
@@ -21,7 +21,7 @@ use Rattle.fx_typing.proofs.Steps.{came}
 use Rattle.fx_typing.proofs.RelatedSteps.{ok_is}
 
 -- a typed tree is sound
-tree_sound : (p : Place) (s : Setting) (q : Part) → AsTree (context_of p s) q → IsSound p s q
+tree_sound : (p : Place) (s : Setting) (q : JudgedPart) → AsTree (context_of p s) q → IsSound p s q
 tree_sound p s q t = subst (IsSound p s) t.1 (t.2, tt)
 
 -- the local rule
@@ -53,15 +53,15 @@ wanted_typed c None k t x h e = subst (Typed c) (ok_is (k, t) x e) h
 wanted_typed c (Some (tables no_columns)) k (tables cs) x h e = subst (Typed c) (ok_is (k, tables cs) x e) h
 wanted_typed c (Some u) k t x h e = (came c k t u x e h).0
 
-part_typed : (c : Context) (w : Option Shape) (q : Part) (x : Term × Shape) → PartTyped c q → whole_of w q ≡ Ok x → Typed c x
+part_typed : (c : Context) (w : Option Shape) (q : JudgedPart) (x : Term × Shape) → PartTyped c q → whole_argument w q ≡ Ok x → Typed c x
 part_typed c w (piece (value a k t)) x h e = wanted_typed c w k t x h e
 part_typed c w q x h e = absurd cc
 
 pub admitted_typed : AdmittedIsTyped
 admitted_typed p b w e x law h =
-    let a = onward_ok (judge p (outermost b) e) (λ q. at_node (position e) (whole_of w q)) x h in
-    part_typed (context_of p (outermost b)) w a.0 x (judged_typed p (sound_locally p law) (outermost b) e a.0 a.1).0
-    (at_node_ok (position e) (whole_of w a.0) x a.2)
+    let a = onward_ok (judge p (outermost_setting b) e) (λ q. at_node (position e) (whole_argument w q)) x h in
+    part_typed (context_of p (outermost_setting b)) w a.0 x (judged_typed p (sound_locally p law) (outermost_setting b) e a.0 a.1).0
+    (at_node_ok (position e) (whole_argument w a.0) x a.2)
 
 came_to : (w : Way) (k : Term) (u : Shape) (x : Term × Shape) → by_way w k u ≡ Ok x → x.1 ≡ u
 came_to same k u x e = ap (λ (z : Term × Shape). z.1) (sym (ok_is (k, u) x e))
@@ -80,11 +80,11 @@ wanted_met (Some booleans) k t x e = came_to (way t booleans) k booleans x e
 wanted_met (Some dates) k t x e = came_to (way t dates) k dates x e
 wanted_met (Some (records cs)) k t x e = came_to (way t (records cs)) k (records cs) x e
 
-part_met : (w : Option Shape) (q : Part) (x : Term × Shape) → whole_of w q ≡ Ok x → IsWanted w x.1
+part_met : (w : Option Shape) (q : JudgedPart) (x : Term × Shape) → whole_argument w q ≡ Ok x → IsWanted w x.1
 part_met w (piece (value a k t)) x e = wanted_met w k t x e
 part_met w q x e = absurd cc
 
 pub admitted_wanted : AdmittedIsWanted
 admitted_wanted p b w e x h =
-    let a = onward_ok (judge p (outermost b) e) (λ q. at_node (position e) (whole_of w q)) x h in
-    part_met w a.0 x (at_node_ok (position e) (whole_of w a.0) x a.2)
+    let a = onward_ok (judge p (outermost_setting b) e) (λ q. at_node (position e) (whole_argument w q)) x h in
+    part_met w a.0 x (at_node_ok (position e) (whole_argument w a.0) x a.2)

@@ -18,73 +18,73 @@ use Rattle.fx_typing.specs.Local.{value, label}
 use Rattle.fx_typing.specs.Meaning.{or_else}
 use Rattle.fx_typing.specs.Ways.{way, is_open}
 use Rattle.fx_typing.specs.Builds.{is_bounded}
-use Rattle.fx_typing.specs.Parts.{Part, piece, target, assigned}
+use Rattle.fx_typing.specs.Parts.{JudgedPart, piece, target, assigned}
 use Rattle.fx_typing.specs.Targets.{global_variable, screen_variable, collection_named}
 
 -- ---- rule 5: the first new name of a column, in turn, that is taken
-abbrev pub name_of : Part → Option (List ℕ)
-name_of (piece (label x)) = Some x
-name_of q = None
+abbrev pub part_name : JudgedPart → Option (List ℕ)
+part_name (piece (label x)) = Some x
+part_name q = None
 
 -- the names of columns; what is no table has none
-abbrev pub column_names : ColumnList → List (List ℕ)
-column_names no_columns = []
-column_names (column n t cs) = n ∷ column_names cs
+abbrev pub names_of_columns : ColumnList → List (List ℕ)
+names_of_columns no_columns = []
+names_of_columns (column n t cs) = n ∷ names_of_columns cs
 
-abbrev pub names_in : Part → List (List ℕ)
-names_in (piece (value a c (tables cs))) = column_names cs
+abbrev pub names_in : JudgedPart → List (List ℕ)
+names_in (piece (value a c (tables cs))) = names_of_columns cs
 names_in q = []
 
-abbrev pub taken_or : Option (List ℕ) → List (List ℕ) → Option (List ℕ) → Option (List ℕ)
-taken_or (Some x) ns later = if is_one_of x ns then Some x else later
-taken_or None ns later = later
+abbrev pub name_taken_or : Option (List ℕ) → List (List ℕ) → Option (List ℕ) → Option (List ℕ)
+name_taken_or (Some x) ns later = if is_one_of x ns then Some x else later
+name_taken_or None ns later = later
 
 -- one name more; one in the place of another, if that is there
 abbrev pub with_name : Option (List ℕ) → List (List ℕ) → List (List ℕ)
 with_name (Some x) ns = ns ++ x ∷ []
 with_name None ns = ns
 
-abbrev pub with_renamed : Option (List ℕ) → Option (List ℕ) → List (List ℕ) → List (List ℕ)
-with_renamed (Some x) (Some y) ns = map (λ n. if bytes_eq n x then y else n) ns
-with_renamed x y ns = ns
+abbrev pub names_renamed : Option (List ℕ) → Option (List ℕ) → List (List ℕ) → List (List ℕ)
+names_renamed (Some x) (Some y) ns = map (λ n. if bytes_eq n x then y else n) ns
+names_renamed x y ns = ns
 
-abbrev pub taken_added : List Part → List (List ℕ) → Option (List ℕ)
-taken_added (q ∷ r ∷ qs) ns = taken_or (name_of q) ns (taken_added qs (with_name (name_of q) ns))
+abbrev pub taken_added : List JudgedPart → List (List ℕ) → Option (List ℕ)
+taken_added (q ∷ r ∷ qs) ns = name_taken_or (part_name q) ns (taken_added qs (with_name (part_name q) ns))
 taken_added qs ns = None
 
-abbrev pub taken_renamed : List Part → List (List ℕ) → Option (List ℕ)
-taken_renamed (q ∷ r ∷ qs) ns = taken_or (name_of r) ns (taken_renamed qs (with_renamed (name_of q) (name_of r) ns))
+abbrev pub taken_renamed : List JudgedPart → List (List ℕ) → Option (List ℕ)
+taken_renamed (q ∷ r ∷ qs) ns = name_taken_or (part_name r) ns (taken_renamed qs (names_renamed (part_name q) (part_name r) ns))
 taken_renamed qs ns = None
 
-abbrev pub taken_by : Answer → List Part → Option (List ℕ)
+abbrev pub taken_by : Answer → List JudgedPart → Option (List ℕ)
 taken_by answer.Added (q ∷ qs) = taken_added qs (names_in q)
 taken_by answer.Renamed (q ∷ qs) = taken_renamed qs (names_in q)
 taken_by a qs = None
 
 -- of a call that has as many parts as it takes
-abbrev pub taken_at : Fun → List Part → Option (List ℕ)
+abbrev pub taken_at : Fun → List JudgedPart → Option (List ℕ)
 taken_at f qs = if takes_count (row_of f) (length qs) then taken_by (row_of f).answer qs else None
 
 -- ---- rule 6: an error with a Message that is no text, whatever its Kind
-abbrev pub mistells : Fun → List Part → Bool
+abbrev pub mistells : Fun → List JudgedPart → Bool
 mistells fun.Error (piece (value a c (records cs)) ∷ []) = not (is_told_or_missing (field_in (codes "Message") cs))
 mistells f qs = false
 
 -- ---- rule 6: what is no row, no change or no condition, whatever an acting call changes
-abbrev pub could_be_row : Part → Bool
+abbrev pub could_be_row : JudgedPart → Bool
 could_be_row (piece (value a c (records cs))) = true
 could_be_row (piece (value a c blanks)) = true
 could_be_row q = false
 
-abbrev pub could_be_condition : Part → Bool
+abbrev pub could_be_condition : JudgedPart → Bool
 could_be_condition (piece (value a c t)) = is_open (way t booleans)
 could_be_condition q = false
 
-abbrev pub all_could : (Part → Bool) → List Part → Bool
+abbrev pub all_could : (JudgedPart → Bool) → List JudgedPart → Bool
 all_could f [] = true
 all_could f (q ∷ qs) = f q && all_could f qs
 
-abbrev pub could_act : Acting → List Part → Bool
+abbrev pub could_act : Acting → List JudgedPart → Bool
 could_act acts.Patch (q ∷ qs) = all_could could_be_row qs
 could_act acts.Remove (q ∷ qs) = all_could could_be_row qs
 could_act acts.RemoveIf (q ∷ qs) = all_could could_be_condition qs
@@ -96,7 +96,7 @@ abbrev pub all_on_screen : Names → Option ℕ → List (List ℕ) → Bool
 all_on_screen n s [] = true
 all_on_screen n s (x ∷ xs) = is_some (screen_variable n s x) && all_on_screen n s xs
 
-abbrev pub gives_variables : Names → Option ℕ → Acting → List Part → Bool
+abbrev pub gives_variables : Names → Option ℕ → Acting → List JudgedPart → Bool
 gives_variables n s acts.UpdateContext (assigned xs ys ∷ qs) = all_on_screen n s xs
 gives_variables n s a qs = true
 
@@ -115,7 +115,7 @@ large_on_screen n s [] = None
 large_on_screen n s (x ∷ xs) = or_else (large_variable (screen_variable n s x)) (large_on_screen n s xs)
 
 -- the first such type
-abbrev pub large_given : Names → Option ℕ → Acting → List Part → Option Shape
+abbrev pub large_given : Names → Option ℕ → Acting → List JudgedPart → Option Shape
 large_given n s acts.Set (target a x ∷ qs) = large_variable (global_variable n x)
 large_given n s acts.UpdateContext (assigned xs ys ∷ qs) = large_on_screen n s xs
 large_given n s acts.Collect (target a x ∷ qs) = large_collection (collection_named n x)

@@ -11,7 +11,7 @@ use Rattle.fx_core.specs.ColumnLists.{and_then, is_one_of, row_columns}
 use Rattle.fx_typing.specs.Local.{coerced, by_way, join_all, firsts, put_first}
 use Rattle.fx_typing.specs.WellTyped.{columns_by}
 use Rattle.fx_typing.specs.Ways.{way}
-use Rattle.fx_typing.specs.Parts.{unless}
+use Rattle.fx_typing.specs.Parts.{unless_rule}
 
 -- how deep records and tables nest
 abbrev mutual
@@ -44,7 +44,7 @@ is_bounded t = nat_le (type_depth t) 8 && is_narrow t
 
 -- a tree whose type keeps to the limits
 abbrev pub bounded_by : Term × Shape → Result (Term × Shape) ℕ
-bounded_by x = unless (not (is_bounded x.1)) rules.limit_passed (Ok x)
+bounded_by x = unless_rule (not (is_bounded x.1)) rules.limit_passed (Ok x)
 
 abbrev pub bounded : Result (Term × Shape) ℕ → Result (Term × Shape) ℕ
 bounded r = and_then r bounded_by
@@ -71,17 +71,17 @@ types_of [] = []
 types_of (x ∷ xs) = x.1 ∷ types_of xs
 
 -- whether no name stands twice
-abbrev pub are_distinct : List (List ℕ) → Bool
-are_distinct [] = true
-are_distinct (n ∷ ns) = not (is_one_of n ns) && are_distinct ns
+abbrev pub are_names_distinct : List (List ℕ) → Bool
+are_names_distinct [] = true
+are_names_distinct (n ∷ ns) = not (is_one_of n ns) && are_names_distinct ns
 
 -- a record: its fields by rising names, each once
 abbrev pub record_by : List (List ℕ × (Term × Shape)) → Term × Shape
 record_by fs =
     (of (term.rec (field_names fs)) (all (firsts (field_parts fs))), records (columns_by (field_names fs) (types_of (field_parts fs))))
 
-abbrev pub record_of : List (List ℕ) → List (Term × Shape) → Result (Term × Shape) ℕ
-record_of ns xs = if are_distinct ns then bounded (Ok (record_by (put_fields ns xs))) else Err rules.name_twice
+abbrev pub typed_record : List (List ℕ) → List (Term × Shape) → Result (Term × Shape) ℕ
+typed_record ns xs = if are_names_distinct ns then bounded (Ok (record_by (put_fields ns xs))) else Err rules.name_twice
 
 -- all rows come to one type
 abbrev pub rows_to : Shape → List (Term × Shape) → Result (List (Term × Shape)) ℕ
@@ -98,13 +98,13 @@ list_as (Some (tables cs)) xs = Err rules.wrong_type
 list_as (Some t) xs = and_then (rows_to t xs) (λ ys. Ok (list_by t ys))
 
 -- `[..]`: of type Blank alone it has values; without rows it has no columns
-abbrev pub list_of : List (Term × Shape) → Result (Term × Shape) ℕ
-list_of [] = bounded (list_as (Some (records no_columns)) [])
-list_of (x ∷ xs) = bounded (list_as (join_all (Some blanks) (x ∷ xs)) (x ∷ xs))
+abbrev pub typed_list : List (Term × Shape) → Result (Term × Shape) ℕ
+typed_list [] = bounded (list_as (Some (records no_columns)) [])
+typed_list (x ∷ xs) = bounded (list_as (join_all (Some blanks) (x ∷ xs)) (x ∷ xs))
 
 -- `Table`: records, where one of type Blank is one without columns. As of every call, its limits are its caller's.
-abbrev pub table_of : List (Term × Shape) → Result (Term × Shape) ℕ
-table_of xs = list_as (join_all (Some (records no_columns)) xs) xs
+abbrev pub typed_table : List (Term × Shape) → Result (Term × Shape) ℕ
+typed_table xs = list_as (join_all (Some (records no_columns)) xs) xs
 
 -- `With`: a record, where one of type Blank is one without fields, and a formula in its scope
 abbrev pub as_record : Term × Shape → Result Term ℕ

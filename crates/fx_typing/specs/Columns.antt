@@ -5,11 +5,11 @@ use Rattle.fx_types.specs.Values.{text}
 use Rattle.fx_core.specs.Term.{Term, of, nil, const}
 use Rattle.fx_core.specs.Rules as rules
 use Rattle.fx_typing.specs.Ways.{way, is_open}
-use Rattle.fx_core.specs.ColumnLists.{field_in, without_all, only, if_there, and_then, with_new, with_renamed}
+use Rattle.fx_core.specs.ColumnLists.{field_in, without_all, columns_only, if_there, and_then, with_new, with_renamed}
 
-abbrev pub field_of : List ℕ → Shape → Option Shape
-field_of x (records cs) = field_in x cs
-field_of x t = None
+abbrev pub field_shape : List ℕ → Shape → Option Shape
+field_shape x (records cs) = field_in x cs
+field_shape x t = None
 
 -- a name of a column stands in a typed tree as a text
 abbrev pub label_of : Term → Option (List ℕ)
@@ -36,22 +36,22 @@ names_there (x ∷ more) cs =
 abbrev pub dropped : List (Term × Shape) → ColumnList → Result ColumnList ℕ
 dropped xs cs = and_then (names_there xs cs) (λ ns. Ok (without_all ns cs))
 
-abbrev pub shown : List (Term × Shape) → ColumnList → Result ColumnList ℕ
-shown xs cs = and_then (names_there xs cs) (λ ns. Ok (only ns cs))
+abbrev pub columns_shown : List (Term × Shape) → ColumnList → Result ColumnList ℕ
+columns_shown xs cs = and_then (names_there xs cs) (λ ns. Ok (columns_only ns cs))
 
-abbrev pub renamed : List (Term × Shape) → ColumnList → Result ColumnList ℕ
-renamed (x ∷ y ∷ more) cs =
-    by_label (label_of x.0) (λ n. by_label (label_of y.0) (λ m. and_then (with_renamed n m cs) (λ ds. renamed more ds)))
-renamed _ cs = Ok cs
+abbrev pub columns_renamed : List (Term × Shape) → ColumnList → Result ColumnList ℕ
+columns_renamed (x ∷ y ∷ more) cs =
+    by_label (label_of x.0) (λ n. by_label (label_of y.0) (λ m. and_then (with_renamed n m cs) (λ ds. columns_renamed more ds)))
+columns_renamed _ cs = Ok cs
 
 -- an error as a record
 abbrev pub fault_type : Shape
 fault_type = records (column (codes "Kind") texts (column (codes "Message") texts no_columns))
 
 -- a field that has a coercion to Text
-abbrev pub is_told : Option Shape → Bool
-is_told (Some t) = is_open (way t texts)
-is_told None = false
+abbrev pub has_text_coercion : Option Shape → Bool
+has_text_coercion (Some t) = is_open (way t texts)
+has_text_coercion None = false
 
 abbrev pub is_told_or_missing : Option Shape → Bool
 is_told_or_missing (Some t) = is_open (way t texts)
@@ -59,4 +59,4 @@ is_told_or_missing None = true
 
 -- whether a record tells an error: by its fields Kind and Message, of which Message may be missing
 abbrev pub tells_error : ColumnList → Bool
-tells_error cs = is_told (field_in (codes "Kind") cs) && is_told_or_missing (field_in (codes "Message") cs)
+tells_error cs = has_text_coercion (field_in (codes "Kind") cs) && is_told_or_missing (field_in (codes "Message") cs)

@@ -28,11 +28,11 @@ use Rattle.fx_typing.specs.Meaning.{Place, or_else}
 use Rattle.fx_typing.specs.Breaks.{taken_at, large_given}
 use Rattle.fx_typing.specs.Builds.{type_depth, columns_count, record_by, put_fields}
 use Rattle.fx_typing.specs.Calls.{called_by}
-use Rattle.fx_typing.specs.Deeds.{joins_to, rows_of, settable}
-use Rattle.fx_typing.specs.Parts.{Part, piece, meant, target, assigned, Setting, values, parts_in}
+use Rattle.fx_typing.specs.Deeds.{joins_to, rows_collected, settable}
+use Rattle.fx_typing.specs.Parts.{JudgedPart, piece, meant, target, assigned, Setting, values, part_count}
 use Rattle.fx_typing.specs.Plans.{called_as, pick, depth_of, setting_at}
 use Rattle.fx_typing.specs.Targets.{global_variable, screen_variable, collection_named, rows_named}
-use Rattle.fx_typing.specs.Typing.{judge, judge_parts, admit, is_too_deep, outermost, whole_of, position}
+use Rattle.fx_typing.specs.Typing.{judge, judge_parts, admit, is_too_deep, outermost_setting, whole_argument, position}
 
 -- ---- texts
 -- a type's name
@@ -46,14 +46,14 @@ type_name (records cs) = codes "Record"
 type_name (tables cs) = codes "Table"
 
 -- texts with a comma and a space between each two
-abbrev pub commas : List (List ℕ) → List ℕ
-commas [] = []
-commas (x ∷ []) = x
-commas (x ∷ y ∷ ys) = x ++ (codes ", " ++ commas (y ∷ ys))
+abbrev pub comma_separated : List (List ℕ) → List ℕ
+comma_separated [] = []
+comma_separated (x ∷ []) = x
+comma_separated (x ∷ y ∷ ys) = x ++ (codes ", " ++ comma_separated (y ∷ ys))
 
 -- a word and a number, a space between them
-abbrev pub counted : List ℕ → ℕ → List ℕ
-counted x n = x ++ (codes " " ++ decimal n)
+abbrev pub word_with_number : List ℕ → ℕ → List ℕ
+word_with_number x n = x ++ (codes " " ++ decimal n)
 
 -- what a node is called: by its name or the name of its call, and a chain by its mark
 abbrev pub head_name : Head → List ℕ
@@ -73,28 +73,28 @@ some_name (Some r) = type_name r.1 ∷ []
 some_name None = []
 
 -- what is no value counts as a record; what changes has a type where it has rows; a column's name has none
-abbrev pub part_names : Names → Part → List (List ℕ)
+abbrev pub part_names : Names → JudgedPart → List (List ℕ)
 part_names n (piece (value a c t)) = type_name t ∷ []
 part_names n (piece (label x)) = []
 part_names n (meant m) = codes "Record" ∷ []
 part_names n (target a x) = some_name (rows_named n x)
 part_names n (assigned ns xs) = codes "Record" ∷ []
 
-abbrev pub all_names : Names → List Part → List (List ℕ)
+abbrev pub all_names : Names → List JudgedPart → List (List ℕ)
 all_names n [] = []
 all_names n (q ∷ qs) = part_names n q ++ all_names n qs
 
-abbrev pub is_table : Shape → Bool
-is_table (tables cs) = true
-is_table blanks = true
-is_table t = false
+abbrev pub is_table_shape : Shape → Bool
+is_table_shape (tables cs) = true
+is_table_shape blanks = true
+is_table_shape t = false
 
 -- whether a call takes a table first
 abbrev pub is_table_place : Takes → Bool
 is_table_place takes.Table = true
 is_table_place k = false
 
-abbrev pub takes_table : Option SigShape → List Part → Bool
+abbrev pub takes_table : Option SigShape → List JudgedPart → Bool
 takes_table (Some (sig.One f)) qs = is_table_place (row_of f).first
 takes_table (Some (sig.Either f g)) qs = is_table_place (row_of (pick f g qs)).first
 takes_table (Some (sig.Literal f)) qs = is_table_place (row_of f).first
@@ -107,21 +107,21 @@ takes_table s qs = false
 
 -- the first part as the rows that a call takes
 abbrev pub is_rows : Option (Target × Shape) → Bool
-is_rows (Some (r, t)) = is_table t
+is_rows (Some (r, t)) = is_table_shape t
 is_rows None = true
 
-abbrev pub stands_as_table : Names → Part → Bool
-stands_as_table n (piece (value a c t)) = is_table t
+abbrev pub stands_as_table : Names → JudgedPart → Bool
+stands_as_table n (piece (value a c t)) = is_table_shape t
 stands_as_table n (target a x) = is_rows (rows_named n x)
 stands_as_table n q = false
 
 -- a wrong table is told alone
-abbrev pub call_names : Names → Bool → List Part → List (List ℕ)
+abbrev pub call_names : Names → Bool → List JudgedPart → List (List ℕ)
 call_names n true (q ∷ qs) = if stands_as_table n q then all_names n (q ∷ qs) else part_names n q
 call_names n b qs = all_names n qs
 
 -- a name by itself that is no value counts as a record, and so does a name for rows where none belongs
-abbrev pub wrong_types : Names → Head → List Part → List (List ℕ)
+abbrev pub wrong_types : Names → Head → List JudgedPart → List (List ℕ)
 wrong_types n (tree.name x) qs = codes "Record" ∷ []
 wrong_types n (tree.global x) qs = codes "Record" ∷ []
 wrong_types n (tree.alias x) qs = codes "Record" ∷ []
@@ -174,36 +174,36 @@ unnamed_at (rows.Gathered k) cs (records ds) = first_more cs ds
 unnamed_at t cs u = None
 
 -- the column that a change can't set: one more, which ID of a table is as well
-abbrev pub unset_at : Target → ColumnList → Shape → Option (List ℕ)
-unset_at t cs (records ds) = first_more (settable t cs) ds
-unset_at t cs u = None
+abbrev pub unsettable_column : Target → ColumnList → Shape → Option (List ℕ)
+unsettable_column t cs (records ds) = first_more (settable t cs) ds
+unsettable_column t cs u = None
 
 -- of several values the first that has one
-abbrev pub first_at : (Shape → Option (List ℕ)) → List (Term × Shape) → Option (List ℕ)
-first_at f [] = None
-first_at f (x ∷ xs) = or_else (f x.1) (first_at f xs)
+abbrev pub first_detail : (Shape → Option (List ℕ)) → List (Term × Shape) → Option (List ℕ)
+first_detail f [] = None
+first_detail f (x ∷ xs) = or_else (f x.1) (first_detail f xs)
 
 -- the column of an acting call on these rows, of its arguments from the left
 abbrev pub acted_at : Acting → Target → ColumnList → List (Term × Shape) → Option (List ℕ)
-acted_at acts.Patch t cs (base ∷ changes) = or_else (unnamed_at t cs base.1) (first_at (unset_at t cs) changes)
-acted_at acts.Remove t cs xs = first_at (unnamed_at t cs) xs
-acted_at a t cs xs = first_at (unset_at t cs) xs
+acted_at acts.Patch t cs (base ∷ changes) = or_else (unnamed_at t cs base.1) (first_detail (unsettable_column t cs) changes)
+acted_at acts.Remove t cs xs = first_detail (unnamed_at t cs) xs
+acted_at a t cs xs = first_detail (unsettable_column t cs) xs
 
-abbrev pub acted_on : Option (Target × Shape) → Acting → List (Term × Shape) → Option (List ℕ)
-acted_on (Some r) a xs = acted_at a r.0 (item_columns r.1) xs
-acted_on None a xs = None
+abbrev pub acting_detail : Option (Target × Shape) → Acting → List (Term × Shape) → Option (List ℕ)
+acting_detail (Some r) a xs = acted_at a r.0 (item_columns r.1) xs
+acting_detail None a xs = None
 
 -- ---- what doesn't join to a variable
-abbrev pub given_names : List ℕ → Shape → Shape → List ℕ
-given_names x t u = commas (x ∷ type_name t ∷ type_name u ∷ [])
+abbrev pub variable_detail : List ℕ → Shape → Shape → List ℕ
+variable_detail x t u = comma_separated (x ∷ type_name t ∷ type_name u ∷ [])
 
 abbrev pub misgiven : List ℕ → Shape → List (Term × Shape) → List ℕ
 misgiven x t [] = []
-misgiven x t (y ∷ ys) = if joins_to t y.1 then misgiven x t ys else given_names x t y.1
+misgiven x t (y ∷ ys) = if joins_to t y.1 then misgiven x t ys else variable_detail x t y.1
 
 abbrev pub misgiven_rows : List ℕ → Shape → List (Term × Shape) → List ℕ
 misgiven_rows x t [] = []
-misgiven_rows x t (y ∷ ys) = if joins_to t (rows_of y).1 then misgiven_rows x t ys else given_names x t (rows_of y).1
+misgiven_rows x t (y ∷ ys) = if joins_to t (rows_collected y).1 then misgiven_rows x t ys else variable_detail x t (rows_collected y).1
 
 abbrev pub misgiven_to : List ℕ → Option (ℕ × Variable) → List (Term × Shape) → List ℕ
 misgiven_to x (Some v) ys = misgiven x (shape v.1.ty) ys
@@ -227,49 +227,49 @@ abbrev pub or_none : Result (List (Term × Shape)) ℕ → List (Term × Shape)
 or_none (Ok xs) = xs
 or_none (Err e) = []
 
-abbrev pub all_pieces : List Part → List Piece
+abbrev pub all_pieces : List JudgedPart → List Piece
 all_pieces [] = []
 all_pieces (piece q ∷ qs) = q ∷ all_pieces qs
 all_pieces (q ∷ qs) = all_pieces qs
 
 -- rule 5 of a call: the first new name that is taken
-abbrev pub taken_in : Option SigShape → List Part → List ℕ
+abbrev pub taken_in : Option SigShape → List JudgedPart → List ℕ
 taken_in (Some (sig.One f)) qs = unwrap_or (taken_at f qs) []
 taken_in s qs = []
 
 -- rule 12 of a call of a pure function: the name at which it is stuck
-abbrev pub stuck_in : Option SigShape → List Part → List ℕ
+abbrev pub stuck_in : Option SigShape → List JudgedPart → List ℕ
 stuck_in (Some (sig.One f)) qs = stuck_by (row_of f).answer (all_pieces qs)
 stuck_in s qs = []
 
-abbrev pub named_twice : Names → Head → List Part → List ℕ
+abbrev pub named_twice : Names → Head → List JudgedPart → List ℕ
 named_twice n (tree.rec ns ps) qs = twice_after [] ns
 named_twice n (tree.call x) qs = taken_in (called_as n x) qs
 named_twice n h qs = []
 
 -- rule 12: a field, a property or a member behind a dot; a column of a call
-abbrev pub column_in : Names → Option SigShape → List Part → List ℕ
-column_in n (Some (sig.Act a)) (target b x ∷ qs) = unwrap_or (acted_on (rows_named n x) a (or_none (values qs))) []
+abbrev pub column_in : Names → Option SigShape → List JudgedPart → List ℕ
+column_in n (Some (sig.Act a)) (target b x ∷ qs) = unwrap_or (acting_detail (rows_named n x) a (or_none (values qs))) []
 column_in n s qs = stuck_in s qs
 
-abbrev pub unknown_column : Names → Head → List Part → List ℕ
-unknown_column n (tree.dot x) qs = x
-unknown_column n (tree.call x) qs = column_in n (called_as n x) qs
-unknown_column n h qs = []
+abbrev pub unknown_column_detail : Names → Head → List JudgedPart → List ℕ
+unknown_column_detail n (tree.dot x) qs = x
+unknown_column_detail n (tree.call x) qs = column_in n (called_as n x) qs
+unknown_column_detail n h qs = []
 
 -- rule 11
-abbrev pub unjoined : Place → Option SigShape → List Part → List ℕ
+abbrev pub unjoined : Place → Option SigShape → List JudgedPart → List ℕ
 unjoined p (Some (sig.Act acts.Set)) (target a x ∷ qs) = misgiven_to x (global_variable p.names x) (or_none (values qs))
 unjoined p (Some (sig.Act acts.UpdateContext)) (assigned ns xs ∷ qs) = misassigned p.names p.screen ns xs
 unjoined p (Some (sig.Act a)) (target b x ∷ qs) = misgiven_to_rows x (collection_named p.names x) (or_none (values qs))
 unjoined p s qs = []
 
-abbrev pub misjoined : Place → Head → List Part → List ℕ
+abbrev pub misjoined : Place → Head → List JudgedPart → List ℕ
 misjoined p (tree.call x) qs = unjoined p (called_as p.names x) qs
 misjoined p h qs = []
 
 -- rule 15: the name that a call can't act on, and else the call's
-abbrev pub no_variable : List ℕ → List Part → List ℕ
+abbrev pub no_variable : List ℕ → List JudgedPart → List ℕ
 no_variable x (target a y ∷ qs) = y
 no_variable x qs = x
 
@@ -285,7 +285,7 @@ abbrev mutual
   most_in (column n t cs) = max (most_fields t) (most_in cs)
 
 abbrev pub type_limit : Shape → List ℕ
-type_limit t = if nat_le (type_depth t) 8 then counted (codes "fields") (most_fields t) else counted (codes "type") (type_depth t)
+type_limit t = if nat_le (type_depth t) 8 then word_with_number (codes "fields") (most_fields t) else word_with_number (codes "type") (type_depth t)
 
 abbrev pub limit_of : Result (Term × Shape) ℕ → List ℕ
 limit_of (Ok x) = type_limit x.1
@@ -296,11 +296,11 @@ abbrev pub limit_or : Option Shape → List ℕ → List ℕ
 limit_or (Some t) own = type_limit t
 limit_or None own = own
 
-abbrev pub large_in : Place → SigShape → List Part → Option Shape
+abbrev pub large_in : Place → SigShape → List JudgedPart → Option Shape
 large_in p (sig.Act a) qs = large_given p.names p.screen a qs
 large_in p f qs = None
 
-abbrev pub call_limit : Place → Setting → Option SigShape → List Part → List ℕ
+abbrev pub call_limit : Place → Setting → Option SigShape → List JudgedPart → List ℕ
 call_limit p s (Some f) qs = limit_or (large_in p f qs) (limit_of (called_by p s f qs))
 call_limit p s None qs = []
 
@@ -308,46 +308,46 @@ abbrev pub list_limit : Option Shape → List ℕ
 list_limit (Some t) = type_limit (tables (row_columns t))
 list_limit None = []
 
-abbrev pub limit_passed : Place → Setting → Head → List Part → List ℕ
-limit_passed p s (tree.call x) qs =
-    if is_too_deep p s (tree.call x) qs then counted (codes "nested") (suc (depth_of s.scopes)) else call_limit p s (called_as p.names x) qs
-limit_passed p s (tree.rec ns ps) qs = type_limit (record_by (put_fields ns (or_none (values qs)))).1
-limit_passed p s h qs = list_limit (join_all (Some blanks) (or_none (values qs)))
+abbrev pub limit_detail : Place → Setting → Head → List JudgedPart → List ℕ
+limit_detail p s (tree.call x) qs =
+    if is_too_deep p s (tree.call x) qs then word_with_number (codes "nested") (suc (depth_of s.scopes)) else call_limit p s (called_as p.names x) qs
+limit_detail p s (tree.rec ns ps) qs = type_limit (record_by (put_fields ns (or_none (values qs)))).1
+limit_detail p s h qs = list_limit (join_all (Some blanks) (or_none (values qs)))
 
 -- what is said of a node of these parts that breaks a rule
-abbrev pub detail_of : Place → Setting → Head → List Part → ℕ → List ℕ
+abbrev pub detail_of : Place → Setting → Head → List JudgedPart → ℕ → List ℕ
 detail_of p s h qs rule =
     if rule == rules.name_twice then named_twice p.names h qs
-    else (if rule == rules.wrong_type then commas (wrong_types p.names h qs)
-    else (if rule == rules.wrong_count then counted (head_name h) (length qs)
+    else (if rule == rules.wrong_type then comma_separated (wrong_types p.names h qs)
+    else (if rule == rules.wrong_count then word_with_number (head_name h) (length qs)
     else (if rule == rules.variable_types then misjoined p h qs
-    else (if rule == rules.unknown_column then unknown_column p.names h qs
-    else (if rule == rules.limit_passed then limit_passed p s h qs
+    else (if rule == rules.unknown_column then unknown_column_detail p.names h qs
+    else (if rule == rules.limit_passed then limit_detail p s h qs
     else (if rule == rules.not_a_variable then no_variable (head_name h) qs
     else head_name h))))))
 
 -- and of a whole formula of a type that isn't what is wanted
-abbrev pub wanted_detail : Names → Part → List ℕ
-wanted_detail n q = commas (part_names n q)
+abbrev pub wanted_detail : Names → JudgedPart → List ℕ
+wanted_detail n q = comma_separated (part_names n q)
 
 abbrev mutual
   -- a node, here or among the parts, whose parts are all admitted and that no rule admits: where it begins,
   -- the rule that it breaks, and what is said besides
   pub IsToldBroken : Place → Setting → Tree → ℕ → ℕ → List ℕ → Type 0
   IsToldBroken p s (node at h ts) w rule said =
-      ((w ≡ at) × (qs : List Part) × (judge_parts p s h (parts_in ts) [] ts ≡ Ok qs) × (admit p s h qs ≡ Err rule)
+      ((w ≡ at) × (qs : List JudgedPart) × (judge_parts p s h (part_count ts) [] ts ≡ Ok qs) × (admit p s h qs ≡ Err rule)
       × (said ≡ detail_of p s h qs rule))
-      ⊎ HasToldBroken p s h (parts_in ts) [] ts w rule said
+      ⊎ HasToldBroken p s h (part_count ts) [] ts w rule said
 
-  pub HasToldBroken : Place → Setting → Head → ℕ → List Part → Forest → ℕ → ℕ → List ℕ → Type 0
+  pub HasToldBroken : Place → Setting → Head → ℕ → List JudgedPart → Forest → ℕ → ℕ → List ℕ → Type 0
   HasToldBroken p s h n done none w rule said = ⊥
   HasToldBroken p s h n done (more k ks) w rule said =
       IsToldBroken p (setting_at p.names s h n done) k w rule said
-      ⊎ ((q : Part) × (judge p (setting_at p.names s h n done) k ≡ Ok q) × HasToldBroken p s h n (done ++ q ∷ []) ks w rule said)
+      ⊎ ((q : JudgedPart) × (judge p (setting_at p.names s h n done) k ≡ Ok q) × HasToldBroken p s h n (done ++ q ∷ []) ks w rule said)
 
 -- a whole formula is broken at a node of it, or at its top by what is wanted of it
 abbrev pub IsToldBrokenWhole : Place → Bool → Option Shape → Tree → ℕ → ℕ → List ℕ → Type 0
 IsToldBrokenWhole p acts wanted e w rule said =
-    IsToldBroken p (outermost acts) e w rule said
-    ⊎ ((w ≡ position e) × (q : Part) × (judge p (outermost acts) e ≡ Ok q) × (whole_of wanted q ≡ Err rule)
+    IsToldBroken p (outermost_setting acts) e w rule said
+    ⊎ ((w ≡ position e) × (q : JudgedPart) × (judge p (outermost_setting acts) e ≡ Ok q) × (whole_argument wanted q ≡ Err rule)
     × (said ≡ wanted_detail p.names q))

@@ -15,7 +15,7 @@ use Rattle.fx_core.specs.Rows.{shape_of, row_of, form_row, takes_at, takes_count
 use Rattle.fx_core.specs.SourceTypes.{put_column}
 use Rattle.fx_core.specs.Term.{Term, of, nil, all, Top, const, form}
 use Rattle.fx_typing.specs.Columns.{tells_error, label_of}
-use Rattle.fx_core.specs.ColumnLists.{value_column, row_columns, field_in, without, only, without_all}
+use Rattle.fx_core.specs.ColumnLists.{value_column, row_columns, field_in, columns_without, columns_only, without_all}
 use Rattle.fx_typing.specs.Local.{Piece, value, label, coerced, exact_way, branch_way, branches, join_all, all_scalar, some_text, some_acts, firsts}
 use Rattle.fx_typing.specs.WellTyped.{head_of, row_type}
 use Rattle.fx_typing.specs.Ways.{Way, same, changed, way, is_scalar, is_comparable}
@@ -26,9 +26,9 @@ pub data Becomes : Way → Term → Shape → Term → Type 0 where
   by_coercion : {c : Term} {t : Shape} → Becomes changed c t (coerced c t)
 
 -- a type that isn't a table's
-abbrev pub IsNoTable : Shape → Type 0
-IsNoTable (tables cs) = ⊥
-IsNoTable t = Unit {0}
+abbrev pub IsNoTableType : Shape → Type 0
+IsNoTableType (tables cs) = ⊥
+IsNoTableType t = Unit {0}
 
 -- what a part is at a place, where the first part and the branches have these types
 pub data StandsAs (first common : Shape) : Takes → Piece → Term × Shape → Type 0 where
@@ -47,7 +47,7 @@ pub data StandsAs (first common : Shape) : Takes → Piece → Term × Shape →
       StandsAs first common takes.Table (value a c blanks) (coerced c (tables no_columns), tables no_columns)
   scalar_formula : {a : Option (List ℕ)} {c : Term} {t : Shape} →
       is_scalar t ≡ true → StandsAs first common takes.ScalarFormula (value a c t) (c, t)
-  row_formula : {a : Option (List ℕ)} {c : Term} {t : Shape} → IsNoTable t → StandsAs first common takes.RowFormula (value a c t) (c, t)
+  row_formula : {a : Option (List ℕ)} {c : Term} {t : Shape} → IsNoTableType t → StandsAs first common takes.RowFormula (value a c t) (c, t)
   choice : {a : Option (List ℕ)} {c d : Term} {t : Shape} →
       Becomes (branch_way t common) c common d → StandsAs first common takes.Choice (value a c t) (d, common)
   branch : {a : Option (List ℕ)} {c d : Term} {t : Shape} →
@@ -67,11 +67,11 @@ pub data StandFrom (r : Row) (n : ℕ) (first common : Shape) : ℕ → List Pie
       StandsAs first common (takes_at r n i) p x → StandFrom r n first common (suc i) ps xs → StandFrom r n first common i (p ∷ ps) (x ∷ xs)
 
 -- all parts: the first one's type, as it stands, is known to the others
-pub data AllStand (r : Row) (common : Shape) : List Piece → List (Term × Shape) → Type 0 where
-  no_parts : AllStand r common [] []
+pub data AllPartsStand (r : Row) (common : Shape) : List Piece → List (Term × Shape) → Type 0 where
+  no_parts : AllPartsStand r common [] []
   first_and_others : {p : Piece} {ps : List Piece} {x : Term × Shape} {xs : List (Term × Shape)} →
       StandsAs blanks common (takes_at r (suc (length ps)) 0) p x → StandFrom r (suc (length ps)) x.1 common 1 ps xs →
-      AllStand r common (p ∷ ps) (x ∷ xs)
+      AllPartsStand r common (p ∷ ps) (x ∷ xs)
 
 -- the common type of branches: their join; else Text where all are scalars and one is Text; else Blank where one acts
 pub data Common (xs : List (Term × Shape)) : Shape → Type 0 where
@@ -92,7 +92,7 @@ pub data Renames : List (Term × Shape) → ColumnList → ColumnList → Type 0
   no_new_name : {x : Term × Shape} {cs : ColumnList} → Renames (x ∷ []) cs cs
   one_renamed : {x y : Term × Shape} {n m : List ℕ} {t : Shape} {xs : List (Term × Shape)} {cs ds : ColumnList} →
       label_of x.0 ≡ Some n → label_of y.0 ≡ Some m → field_in n cs ≡ Some t → field_in m cs ≡ None →
-      Renames xs (put_column m t (without n cs)) ds → Renames (x ∷ y ∷ xs) cs ds
+      Renames xs (put_column m t (columns_without n cs)) ds → Renames (x ∷ y ∷ xs) cs ds
 
 -- names that are all those of columns
 pub data AreColumns (cs : ColumnList) : List (Term × Shape) → List (List ℕ) → Type 0 where
@@ -101,30 +101,30 @@ pub data AreColumns (cs : ColumnList) : List (Term × Shape) → List (List ℕ)
       label_of x.0 ≡ Some n → field_in n cs ≡ Some t → AreColumns cs xs ns → AreColumns cs (x ∷ xs) (n ∷ ns)
 
 -- the type that a call answers, from its parts as they stand and the common type of its branches
-pub data Answers (common : Shape) : Answer → List (Term × Shape) → Shape → Type 0 where
-  this : {s : Scalar} {xs : List (Term × Shape)} → Answers common (answer.Scalar s) xs (shape_of s)
-  the_first : {x : Term × Shape} {xs : List (Term × Shape)} → Answers common answer.Same (x ∷ xs) x.1
-  a_row : {x : Term × Shape} {xs : List (Term × Shape)} → Answers common answer.Row (x ∷ xs) (row_type x.1)
-  a_found_row : {x : Term × Shape} → Answers common answer.Found (x ∷ []) (row_type x.1)
-  a_row_where : {x y : Term × Shape} → Answers common answer.Found (x ∷ y ∷ []) (row_type x.1)
-  of_a_found_row : {x y z : Term × Shape} {xs : List (Term × Shape)} → Answers common answer.Found (x ∷ y ∷ z ∷ xs) z.1
-  a_branch : {xs : List (Term × Shape)} → Answers common answer.Common xs common
+pub data AnswerType (common : Shape) : Answer → List (Term × Shape) → Shape → Type 0 where
+  this : {s : Scalar} {xs : List (Term × Shape)} → AnswerType common (answer.Scalar s) xs (shape_of s)
+  the_first : {x : Term × Shape} {xs : List (Term × Shape)} → AnswerType common answer.Same (x ∷ xs) x.1
+  a_row : {x : Term × Shape} {xs : List (Term × Shape)} → AnswerType common answer.Row (x ∷ xs) (row_type x.1)
+  a_found_row : {x : Term × Shape} → AnswerType common answer.Found (x ∷ []) (row_type x.1)
+  a_row_where : {x y : Term × Shape} → AnswerType common answer.Found (x ∷ y ∷ []) (row_type x.1)
+  of_a_found_row : {x y z : Term × Shape} {xs : List (Term × Shape)} → AnswerType common answer.Found (x ∷ y ∷ z ∷ xs) z.1
+  a_branch : {xs : List (Term × Shape)} → AnswerType common answer.Common xs common
   with_columns : {c : Term} {cs ds : ColumnList} {xs : List (Term × Shape)} →
-      Adds xs cs ds → Answers common answer.Added ((c, tables cs) ∷ xs) (tables ds)
+      Adds xs cs ds → AnswerType common answer.Added ((c, tables cs) ∷ xs) (tables ds)
   without_columns : {c : Term} {cs : ColumnList} {xs : List (Term × Shape)} {ns : List (List ℕ)} →
-      AreColumns cs xs ns → Answers common answer.Dropped ((c, tables cs) ∷ xs) (tables (without_all ns cs))
+      AreColumns cs xs ns → AnswerType common answer.Dropped ((c, tables cs) ∷ xs) (tables (without_all ns cs))
   columns_alone : {c : Term} {cs : ColumnList} {xs : List (Term × Shape)} {ns : List (List ℕ)} →
-      AreColumns cs xs ns → Answers common answer.Shown ((c, tables cs) ∷ xs) (tables (only ns cs))
+      AreColumns cs xs ns → AnswerType common answer.Shown ((c, tables cs) ∷ xs) (tables (columns_only ns cs))
   columns_anew : {c : Term} {cs ds : ColumnList} {xs : List (Term × Shape)} →
-      Renames xs cs ds → Answers common answer.Renamed ((c, tables cs) ∷ xs) (tables ds)
-  values_of : {x y : Term × Shape} {xs : List (Term × Shape)} → Answers common answer.Values (x ∷ y ∷ xs) (tables (value_column y.1))
-  rows_of_each : {x y : Term × Shape} {xs : List (Term × Shape)} → Answers common answer.Each (x ∷ y ∷ xs) (tables (row_columns y.1))
+      Renames xs cs ds → AnswerType common answer.Renamed ((c, tables cs) ∷ xs) (tables ds)
+  values_of : {x y : Term × Shape} {xs : List (Term × Shape)} → AnswerType common answer.Values (x ∷ y ∷ xs) (tables (value_column y.1))
+  rows_of_each : {x y : Term × Shape} {xs : List (Term × Shape)} → AnswerType common answer.Each (x ∷ y ∷ xs) (tables (row_columns y.1))
 
 -- THE rule of a row: as many parts as it takes, each as it stands at its place, and what it answers of them
 pub data Made (r : Row) (h : Top) (ps : List Piece) : Term × Shape → Type 0 where
   by_row : {common t : Shape} {xs : List (Term × Shape)} →
-      takes_count r (length ps) ≡ true → Common (branches r (length ps) 0 ps) common → AllStand r common ps xs →
-      Answers common r.answer xs t → Made r h ps (of h (all (firsts xs)), t)
+      takes_count r (length ps) ≡ true → Common (branches r (length ps) 0 ps) common → AllPartsStand r common ps xs →
+      AnswerType common r.answer xs t → Made r h ps (of h (all (firsts xs)), t)
 
 -- a function or operator, and a form, of these parts
 abbrev pub Calls : Fun → List Piece → Term × Shape → Type 0

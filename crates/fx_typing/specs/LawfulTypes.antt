@@ -4,9 +4,9 @@ use Rattle.fx_types.specs.Rising.{IsBelow}
 use Rattle.fx_types.specs.Types.{Shape, records, tables, ColumnList, no_columns, column}
 
 -- the name is below that of each of these columns
-abbrev pub IsUnder : List ℕ → ColumnList → Type 0
-IsUnder n no_columns = Unit {0}
-IsUnder n (column m t cs) = IsBelow n m × IsUnder n cs
+abbrev pub IsBelowColumns : List ℕ → ColumnList → Type 0
+IsBelowColumns n no_columns = Unit {0}
+IsBelowColumns n (column m t cs) = IsBelow n m × IsBelowColumns n cs
 
 -- a type whose columns have rising names, at every depth
 abbrev mutual
@@ -17,4 +17,4 @@ abbrev mutual
 
   pub AreLawfulColumns : ColumnList → Type 0
   AreLawfulColumns no_columns = Unit {0}
-  AreLawfulColumns (column n t cs) = IsUnder n cs × IsLawfulType t × AreLawfulColumns cs
+  AreLawfulColumns (column n t cs) = IsBelowColumns n cs × IsLawfulType t × AreLawfulColumns cs

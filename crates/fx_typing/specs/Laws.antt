@@ -8,13 +8,13 @@ use Rattle.fx_typing.specs.Acts.{acts}
 use Rattle.fx_typing.specs.Meaning.{Place}
 use Rattle.fx_typing.specs.WellTyped.{IsTyped}
 use Rattle.fx_typing.specs.Details.{IsToldBrokenWhole}
-use Rattle.fx_typing.specs.Typing.{context_of, outermost, judge_whole}
+use Rattle.fx_typing.specs.Typing.{context_of, outermost_setting, judge_whole}
 
 -- what is admitted is well typed, of the type that is told
 abbrev pub AdmittedIsTyped : Type 0
 AdmittedIsTyped =
     (p : Place) (b : Bool) (wanted : Option Shape) (e : Tree) (x : Term × Shape) →
-    IsLawful p.names → judge_whole p b wanted e ≡ Ok x → IsTyped (context_of p (outermost b)) x.0 x.1
+    IsLawful p.names → judge_whole p b wanted e ≡ Ok x → IsTyped (context_of p (outermost_setting b)) x.0 x.1
 
 -- the type is the one that is wanted, and a table where any table is
 abbrev pub IsWanted : Option Shape → Shape → Type 0

@@ -15,7 +15,7 @@ use Rattle.fx_typing.specs.Acts.{acts}
 use Rattle.fx_typing.specs.Columns.{tells_error}
 use Rattle.fx_core.specs.ColumnLists.{and_then, field_in}
 use Rattle.fx_typing.specs.Ways.{Way, same, changed, refused, way, same_shape, is_scalar, is_comparable}
-use Rattle.fx_typing.specs.WellTyped.{answered, head_of}
+use Rattle.fx_typing.specs.WellTyped.{answered_type, head_of}
 
 -- a part as it was judged: the name of its rows if it has one, its tree and its type; or the name of a
 -- column
@@ -52,9 +52,9 @@ abbrev pub branch_way : Shape → Shape → Way
 branch_way s t = way_from t s
 
 -- a part as it is, or a rule
-abbrev pub when : Bool → ℕ → Term → Shape → Result (Term × Shape) ℕ
-when true e c t = Ok (c, t)
-when false e c t = Err e
+abbrev pub part_or_rule : Bool → ℕ → Term → Shape → Result (Term × Shape) ℕ
+part_or_rule true e c t = Ok (c, t)
+part_or_rule false e c t = Err e
 
 -- the rule that a record breaks which tells no error: no Kind, or one of a wrong type
 abbrev pub without_kind : Option Shape → ℕ
@@ -68,17 +68,17 @@ stand (takes.Formula s) first common (value a c t) = by_way (way t (shape_of s))
 stand (takes.Exact s) first common (value a c t) = by_way (exact_way t (shape_of s)) c (shape_of s)
 stand takes.Any first common (value a c t) = Ok (c, t)
 stand takes.AnyFormula first common (value a c t) = Ok (c, t)
-stand takes.ErrorRecord first common (value a c (records cs)) = when (tells_error cs) (without_kind (field_in (codes "Kind") cs)) c (records cs)
+stand takes.ErrorRecord first common (value a c (records cs)) = part_or_rule (tells_error cs) (without_kind (field_in (codes "Kind") cs)) c (records cs)
 stand takes.Table first common (value a c (tables cs)) = Ok (c, tables cs)
 stand takes.Table first common (value a c blanks) = Ok (coerced c (tables no_columns), tables no_columns)
-stand takes.ScalarFormula first common (value a c t) = when (is_scalar t) rules.wrong_type c t
+stand takes.ScalarFormula first common (value a c t) = part_or_rule (is_scalar t) rules.wrong_type c t
 stand takes.RowFormula first common (value a c (tables cs)) = Err rules.wrong_type
 stand takes.RowFormula first common (value a c t) = Ok (c, t)
 stand takes.Choice first common (value a c t) = by_way (branch_way t common) c common
 stand takes.Branch first common (value a c t) = by_way (branch_way t common) c common
 stand takes.Fallback first common (value a c t) = by_way (branch_way t common) c common
-stand takes.Compared first common (value a c t) = when (is_scalar t) rules.wrong_type c t
-stand takes.Match first common (value a c t) = when (is_comparable first t) rules.wrong_type c t
+stand takes.Compared first common (value a c t) = part_or_rule (is_scalar t) rules.wrong_type c t
+stand takes.Match first common (value a c t) = part_or_rule (is_comparable first t) rules.wrong_type c t
 stand takes.Column first common (label x) = Ok (of (const (text x)) nil, texts)
 stand takes.NewColumn first common (label x) = Ok (of (const (text x)) nil, texts)
 stand k first common p = Err rules.wrong_type
@@ -156,7 +156,7 @@ firsts (x ∷ xs) = x.0 ∷ firsts xs
 
 -- the tree of a head and its parts as they stand, with the type that it answers
 abbrev pub answer_by : Row → Top → Shape → List (Term × Shape) → Result (Term × Shape) ℕ
-answer_by r h common xs = and_then (answered r.answer common xs) (λ t. Ok (of h (all (firsts xs)), t))
+answer_by r h common xs = and_then (answered_type r.answer common xs) (λ t. Ok (of h (all (firsts xs)), t))
 
 abbrev pub made_as : Row → Top → List Piece → Option Shape → Result (Term × Shape) ℕ
 made_as r h ps (Some common) = and_then (stand_all r common ps) (answer_by r h common)
@@ -167,8 +167,8 @@ abbrev pub made_by : Row → Top → List Piece → Result (Term × Shape) ℕ
 made_by r h ps = if takes_count r (length ps) then made_as r h ps (common_of (branches r (length ps) 0 ps)) else Err rules.wrong_count
 
 -- a function or operator
-abbrev pub made : Fun → List Piece → Result (Term × Shape) ℕ
-made f ps = made_by (row_of f) (head_of f) ps
+abbrev pub node_made : Fun → List Piece → Result (Term × Shape) ℕ
+node_made f ps = made_by (row_of f) (head_of f) ps
 
 -- a form
 abbrev pub formed : Form → List Piece → Result (Term × Shape) ℕ

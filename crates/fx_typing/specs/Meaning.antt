@@ -19,7 +19,7 @@ use Rattle.fx_core.specs.Controls.{is_items, input_type}
 use Rattle.fx_core.specs.SourceTypes.{columns_of, item_type, property_of}
 use Rattle.fx_core.specs.Term.{Term, of, nil, cons, const, read, row, item, caught, dot}
 use Rattle.fx_core.specs.Rules as rules
-use Rattle.fx_typing.specs.Columns.{field_of, fault_type}
+use Rattle.fx_typing.specs.Columns.{field_shape, fault_type}
 use Rattle.fx_core.specs.ColumnLists.{field_in}
 
 -- a scope of rows or of a record: its type, its alias if it has one, and whether it is a table call's,
@@ -38,51 +38,51 @@ pub record Place : Type 0 where
   pub settled : Bool
 
 -- what a name means: a tree with its type, a control with its number, a screen, or an enumeration
-pub data Meaning : Type 0 where
-  valued : Term → Shape → Meaning
-  controlled : ℕ → ControlName → Meaning
-  screened : Meaning
-  enumerated : Enumeration → Meaning
+pub data NameMeaning : Type 0 where
+  valued : Term → Shape → NameMeaning
+  controlled : ℕ → ControlName → NameMeaning
+  screened : NameMeaning
+  enumerated : Enumeration → NameMeaning
 
 abbrev pub or_else : {A : Type 0} → Option A → Option A → Option A
 or_else (Some a) b = Some a
 or_else None b = b
 
 -- in a scope: with an alias the alias alone, which is the whole row; else a field
-abbrev pub field_at : ℕ → List ℕ → Option Shape → Option Meaning
+abbrev pub field_at : ℕ → List ℕ → Option Shape → Option NameMeaning
 field_at k x (Some t) = Some (valued (of (dot x) (cons (of (row k) nil) nil)) t)
 field_at k x None = None
 
-abbrev pub in_scope_by : Option (List ℕ) → ℕ → List ℕ → Shape → Option Meaning
+abbrev pub in_scope_by : Option (List ℕ) → ℕ → List ℕ → Shape → Option NameMeaning
 in_scope_by (Some a) k x t = if bytes_eq a x then Some (valued (of (row k) nil) t) else None
-in_scope_by None k x t = field_at k x (field_of x t)
+in_scope_by None k x t = field_at k x (field_shape x t)
 
 -- the scopes from the inside out
-abbrev pub in_scopes : ℕ → List ℕ → List Scope → Option Meaning
+abbrev pub in_scopes : ℕ → List ℕ → List Scope → Option NameMeaning
 in_scopes k x [] = None
 in_scopes k x (s ∷ ss) = or_else (in_scopes (suc k) x ss) (in_scope_by s.alias k x s.row_type)
 
 -- ThisRecord: the innermost scope without an alias
-abbrev pub whole_by : Option (List ℕ) → ℕ → Shape → Option Meaning
+abbrev pub whole_by : Option (List ℕ) → ℕ → Shape → Option NameMeaning
 whole_by (Some a) k t = None
 whole_by None k t = Some (valued (of (row k) nil) t)
 
-abbrev pub this_record : ℕ → List Scope → Option Meaning
+abbrev pub this_record : ℕ → List Scope → Option NameMeaning
 this_record k [] = None
 this_record k (s ∷ ss) = or_else (this_record (suc k) ss) (whole_by s.alias k s.row_type)
 
 -- ThisItem: the item of the gallery that the formula sees
-abbrev pub this_item : Names → Option ℕ → Option Meaning
+abbrev pub this_item : Names → Option ℕ → Option NameMeaning
 this_item n (Some g) = option_map (λ (c : ControlName). valued (of item nil) (item_type c)) (slice_get n.controls g)
 this_item n None = None
 
 -- FirstError: where an error is caught around
-abbrev pub first_error : Bool → Option Meaning
+abbrev pub first_error : Bool → Option NameMeaning
 first_error true = Some (valued (of caught nil) fault_type)
 first_error false = None
 
 -- the names that no app declares: each has this meaning or none
-abbrev pub reserved : Place → List Scope → Bool → List ℕ → Option (Option Meaning)
+abbrev pub reserved : Place → List Scope → Bool → List ℕ → Option (Option NameMeaning)
 reserved p scopes catches x =
     if bytes_eq x (codes "ThisRecord") then Some (this_record 0 scopes)
     else (if bytes_eq x (codes "ThisItem") then Some (this_item p.names p.gallery)
@@ -90,9 +90,9 @@ reserved p scopes catches x =
     else option_map (λ e. Some (enumerated e)) (enumeration_of (encode_utf8_all x))))
 
 -- the first thing that a test keeps, with its place
-abbrev pub place_of : {A : Type 0} → (A → Bool) → ℕ → List A → Option (ℕ × A)
-place_of keeps i [] = None
-place_of keeps i (a ∷ more) = if keeps a then Some (i, a) else place_of keeps (suc i) more
+abbrev pub first_match : {A : Type 0} → (A → Bool) → ℕ → List A → Option (ℕ × A)
+first_match keeps i [] = None
+first_match keeps i (a ∷ more) = if keeps a then Some (i, a) else first_match keeps (suc i) more
 
 abbrev pub is_on : Option ℕ → Option ℕ → Bool
 is_on (Some s) (Some r) = nat_eq s r
@@ -103,39 +103,39 @@ is_global None = true
 is_global (Some s) = false
 
 -- the context variables of the formula's screen
-abbrev pub in_context : Place → List ℕ → Option Meaning
+abbrev pub in_context : Place → List ℕ → Option NameMeaning
 in_context p x =
     option_map (λ (v : ℕ × Variable). valued (of (read (source.Context v.0)) nil) (shape v.1.ty))
-    (place_of (λ (v : Variable). is_on p.screen v.screen && bytes_eq v.name x) 0 p.names.variables)
+    (first_match (λ (v : Variable). is_on p.screen v.screen && bytes_eq v.name x) 0 p.names.variables)
 
 -- the global names, which are distinct
-abbrev pub in_globals : Names → List ℕ → Option Meaning
+abbrev pub in_globals : Names → List ℕ → Option NameMeaning
 in_globals n x =
     or_else (option_map (λ (v : ℕ × Variable). valued (of (read (source.Global v.0)) nil) (shape v.1.ty))
-    (place_of (λ (v : Variable). is_global v.screen && bytes_eq v.name x) 0 n.variables))
+    (first_match (λ (v : Variable). is_global v.screen && bytes_eq v.name x) 0 n.variables))
     (or_else (option_map (λ (c : ℕ × Collection). valued (of (read (source.Gathered c.0)) nil) (shape c.1.ty))
-    (place_of (λ (c : Collection). bytes_eq c.name x) 0 n.collections))
+    (first_match (λ (c : Collection). bytes_eq c.name x) 0 n.collections))
     (or_else (option_map (λ (f : ℕ × FormulaName). valued (of (read (source.Cell f.1.cell)) nil) (shape f.1.ty))
-    (place_of (λ (f : FormulaName). bytes_eq f.name x) 0 n.formulas))
+    (first_match (λ (f : FormulaName). bytes_eq f.name x) 0 n.formulas))
     (or_else (option_map (λ (t : ℕ × TableShape). valued (of (read (source.Table t.0)) nil) (tables (columns_of t.1)))
-    (place_of (λ (t : TableShape). bytes_eq t.name x) 0 n.schema.tables))
+    (first_match (λ (t : TableShape). bytes_eq t.name x) 0 n.schema.tables))
     (or_else (option_map (λ (c : ℕ × ControlName). controlled c.0 c.1)
-    (place_of (λ (c : ControlName). bytes_eq c.name x) 0 n.controls))
+    (first_match (λ (c : ControlName). bytes_eq c.name x) 0 n.controls))
     (option_map (λ (s : ℕ × List ℕ). screened)
-    (place_of (λ (s : List ℕ). bytes_eq s x) 0 n.screens))))))
+    (first_match (λ (s : List ℕ). bytes_eq s x) 0 n.screens))))))
 
-abbrev pub behind_scopes : Place → List ℕ → Option (Option Meaning) → Option Meaning
+abbrev pub behind_scopes : Place → List ℕ → Option (Option NameMeaning) → Option NameMeaning
 behind_scopes p x (Some m) = m
 behind_scopes p x None = or_else (in_context p x) (in_globals p.names x)
 
 -- what a name means: in the scopes, as a reserved name, among the screen's context variables, among
 -- the global names
-abbrev pub meaning_of : Place → List Scope → Bool → List ℕ → Option Meaning
+abbrev pub meaning_of : Place → List Scope → Bool → List ℕ → Option NameMeaning
 meaning_of p scopes catches x = or_else (in_scopes 0 x scopes) (behind_scopes p x (reserved p scopes catches x))
 
 -- a name as a formula of its own: rule 4 where it means nothing or an enumeration, and rule 6 where it
 -- is a control or a screen
-abbrev pub named : Option Meaning → Result (Term × Shape) ℕ
+abbrev pub named : Option NameMeaning → Result (Term × Shape) ℕ
 named (Some (valued c t)) = Ok (c, t)
 named (Some (controlled k c)) = Err rules.wrong_type
 named (Some screened) = Err rules.wrong_type
@@ -177,7 +177,7 @@ written_or c x t None = (of (const (default_of c (encode_utf8_all x))) nil, defa
 
 abbrev pub property_read : Names → ℕ → ControlName → List ℕ → Option Shape → Result (Term × Shape) ℕ
 property_read n k c x (Some t) =
-    Ok (written_or c.kind x t (place_of (λ (p : Property). nat_eq p.control k && bytes_eq p.name x) 0 n.properties))
+    Ok (written_or c.kind x t (first_match (λ (p : Property). nat_eq p.control k && bytes_eq p.name x) 0 n.properties))
 property_read n k c x None = Err rules.unknown_column
 
 abbrev pub input_read : ℕ → Option Shape → Result (Term × Shape) ℕ
@@ -207,7 +207,7 @@ field_read c x (records cs) = known_field c x (field_in x cs)
 field_read c x t = Err rules.wrong_type
 
 -- what stands behind a dot, by what stands before it
-abbrev pub dotted : Names → List ℕ → Option Meaning → Result (Term × Shape) ℕ
+abbrev pub dotted : Names → List ℕ → Option NameMeaning → Result (Term × Shape) ℕ
 dotted n x (Some (valued c t)) = field_read c x t
 dotted n x (Some (controlled k c)) = control_read n k c c.gallery x
 dotted n x (Some (enumerated e)) = member_of (has_member e (encode_utf8_all x)) x

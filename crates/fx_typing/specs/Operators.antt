@@ -50,14 +50,14 @@ ordered_by f g (Some as_dates) = Some g
 ordered_by f g c = None
 
 -- beside a Date the other operand of `+` and `-` is a Number or of type Blank
-abbrev pub sum_of : Shape → Shape → Option Fun
-sum_of dates numbers = Some fun.AddDateNumber
-sum_of dates blanks = Some fun.AddDateNumber
-sum_of numbers dates = Some fun.AddNumberDate
-sum_of blanks dates = Some fun.AddNumberDate
-sum_of dates u = None
-sum_of t dates = None
-sum_of t u = Some fun.AddNumbers
+abbrev pub date_sum : Shape → Shape → Option Fun
+date_sum dates numbers = Some fun.AddDateNumber
+date_sum dates blanks = Some fun.AddDateNumber
+date_sum numbers dates = Some fun.AddNumberDate
+date_sum blanks dates = Some fun.AddNumberDate
+date_sum dates u = None
+date_sum t dates = None
+date_sum t u = Some fun.AddNumbers
 
 abbrev pub difference_of : Shape → Shape → Option Fun
 difference_of dates dates = Some fun.SubDates
@@ -69,7 +69,7 @@ difference_of t dates = None
 difference_of t u = Some fun.SubNumbers
 
 abbrev pub function_of : Op → Shape → Shape → Option Fun
-function_of op.Add t u = sum_of t u
+function_of op.Add t u = date_sum t u
 function_of op.Sub t u = difference_of t u
 function_of op.Mul t u = Some fun.MulNumbers
 function_of op.Div t u = Some fun.DivNumbers

@@ -17,17 +17,17 @@ use Rattle.fx_core.specs.Tree.{Head}
 use Rattle.fx_core.specs.Tree as tree
 use Rattle.fx_typing.specs.Local.{value}
 use Rattle.fx_typing.specs.Meaning.{Scope}
-use Rattle.fx_typing.specs.WellTyped.{Standing, plain, inside, bound, catching, standing_of, row_type}
-use Rattle.fx_typing.specs.Parts.{Grant, nothing, acting, an_alias, a_column, a_target, aliased_target, a_meaning, on_screen, Part, piece, target, Setting, may_act}
+use Rattle.fx_typing.specs.WellTyped.{PartScope, plain, inside, bound, catching, standing_of, row_type}
+use Rattle.fx_typing.specs.Parts.{Grant, nothing, acting, an_alias, a_column, a_target, aliased_target, a_meaning, on_screen, JudgedPart, piece, target, Setting, may_act}
 use Rattle.fx_typing.specs.Targets.{target_columns}
 
 -- how a part is judged: what it stands in, and what its place allows
-pub record Plan : Type 0 where
-  pub standing : Standing
+pub record ArgumentRule : Type 0 where
+  pub standing : PartScope
   pub grant : Grant
 
-abbrev pub planned : Standing → Grant → Plan
-planned s g = record { standing = s; grant = g }
+abbrev pub argument_rule : PartScope → Grant → ArgumentRule
+argument_rule s g = record { standing = s; grant = g }
 
 -- a part that acts where the whole may
 abbrev pub if_acting : Bool → Grant
@@ -44,48 +44,48 @@ grant_of b takes.Column = a_column
 grant_of b takes.NewColumn = a_column
 grant_of b k = nothing
 
-abbrev pub plan_of : Bool → Takes → Plan
-plan_of b k = planned (standing_of k) (grant_of b k)
+abbrev pub plan_of : Bool → Takes → ArgumentRule
+plan_of b k = argument_rule (standing_of k) (grant_of b k)
 
-abbrev pub plan_by_row : Bool → Row → ℕ → ℕ → Plan
+abbrev pub plan_by_row : Bool → Row → ℕ → ℕ → ArgumentRule
 plan_by_row b r n i = plan_of b (takes_at r n i)
 
 -- under one name: the function of the rows of a table, where the first part is one or has a name for its
 -- rows; else that of scalars
-abbrev pub pick : Fun → Fun → List Part → Fun
+abbrev pub pick : Fun → Fun → List JudgedPart → Fun
 pick f g (piece (value (Some a) c t) ∷ qs) = g
 pick f g (piece (value None c (tables cs)) ∷ qs) = g
 pick f g qs = f
 
 -- the first part may be a table with a name for its rows
-abbrev pub plan_either : Bool → Fun → Fun → ℕ → List Part → Plan
-plan_either b f g n [] = planned plain an_alias
+abbrev pub plan_either : Bool → Fun → Fun → ℕ → List JudgedPart → ArgumentRule
+plan_either b f g n [] = argument_rule plain an_alias
 plan_either b f g n (q ∷ qs) = plan_by_row b (row_of (pick f g (q ∷ qs))) n (length (q ∷ qs))
 
 -- a literal stands behind all other arguments
-abbrev pub plan_literal : Bool → Fun → ℕ → ℕ → Plan
-plan_literal b f n i = if nat_lt i (row_of f).most then plan_by_row b (row_of f) n i else planned plain nothing
+abbrev pub plan_literal : Bool → Fun → ℕ → ℕ → ArgumentRule
+plan_literal b f n i = if nat_lt i (row_of f).most then plan_by_row b (row_of f) n i else argument_rule plain nothing
 
 -- `With`: the second part stands in the record's scope
-abbrev pub plan_with : Bool → ℕ → Plan
-plan_with b zero = planned plain nothing
-plan_with b (suc i) = planned bound (if_acting b)
+abbrev pub plan_with : Bool → ℕ → ArgumentRule
+plan_with b zero = argument_rule plain nothing
+plan_with b (suc i) = argument_rule bound (if_acting b)
 
 -- an acting call: the first place, and the ones behind it
-abbrev pub first_then : Grant → Standing → Grant → ℕ → Plan
-first_then g s h zero = planned plain g
-first_then g s h (suc i) = planned s h
+abbrev pub first_then : Grant → PartScope → Grant → ℕ → ArgumentRule
+first_then g s h zero = argument_rule plain g
+first_then g s h (suc i) = argument_rule s h
 
-abbrev pub plan_act : Bool → Acting → ℕ → Plan
+abbrev pub plan_act : Bool → Acting → ℕ → ArgumentRule
 plan_act b acts.Set i = first_then a_target plain (if_acting b) i
 plan_act b acts.UpdateContext i = first_then (on_screen b) plain nothing i
 plan_act b acts.Collect i = first_then a_target plain (if_acting b) i
 plan_act b acts.RemoveIf i = first_then aliased_target inside nothing i
 plan_act b acts.UpdateIf i = first_then aliased_target inside nothing i
-plan_act b acts.Notify i = planned plain nothing
+plan_act b acts.Notify i = argument_rule plain nothing
 plan_act b a i = first_then a_target plain nothing i
 
-abbrev pub plan_call : Bool → Option SigShape → ℕ → List Part → Plan
+abbrev pub plan_call : Bool → Option SigShape → ℕ → List JudgedPart → ArgumentRule
 plan_call b (Some (sig.One f)) n done = plan_by_row b (row_of f) n (length done)
 plan_call b (Some (sig.Either f g)) n done = plan_either b f g n done
 plan_call b (Some (sig.Literal f)) n done = plan_literal b f n (length done)
@@ -93,7 +93,7 @@ plan_call b (Some (sig.Form f)) n done = plan_by_row b (form_row f) n (length do
 plan_call b (Some sig.With) n done = plan_with b (length done)
 plan_call b (Some sig.Defaults) n done = first_then a_target plain nothing (length done)
 plan_call b (Some (sig.Act a)) n done = plan_act b a (length done)
-plan_call b s n done = planned plain nothing
+plan_call b s n done = argument_rule plain nothing
 
 abbrev pub shape_in : Option Signature → Option SigShape
 shape_in (Some s) = Some s.shape
@@ -114,19 +114,19 @@ field_grant (on_screen b) = if_acting b
 field_grant g = nothing
 
 -- how the part behind the done ones is judged, of so many parts
-abbrev pub plan_at : Names → Grant → Head → ℕ → List Part → Plan
-plan_at m g (tree.dot x) n done = planned plain (a_meaning (may_act g))
+abbrev pub plan_at : Names → Grant → Head → ℕ → List JudgedPart → ArgumentRule
+plan_at m g (tree.dot x) n done = argument_rule plain (a_meaning (may_act g))
 plan_at m g (tree.call x) n done = plan_call (may_act g) (called_as m x) n done
-plan_at m g tree.chain n done = planned plain (if_acting (may_act g))
-plan_at m g (tree.alias x) n done = planned plain (alias_grant g)
-plan_at m g (tree.rec ns ps) n done = planned plain (field_grant g)
-plan_at m g h n done = planned plain nothing
+plan_at m g tree.chain n done = argument_rule plain (if_acting (may_act g))
+plan_at m g (tree.alias x) n done = argument_rule plain (alias_grant g)
+plan_at m g (tree.rec ns ps) n done = argument_rule plain (field_grant g)
+plan_at m g h n done = argument_rule plain nothing
 
 -- the scope of a row of the first part
 abbrev pub row_scope : Option (List ℕ) → Shape → Scope
 row_scope a t = record { row_type = t; alias = a; counted = true }
 
-abbrev pub first_row : Names → Part → Scope
+abbrev pub first_row : Names → JudgedPart → Scope
 first_row n (piece (value a c t)) = row_scope a (row_type t)
 first_row n (target a x) = row_scope a (records (target_columns n x))
 first_row n q = row_scope None (records no_columns)
@@ -139,26 +139,26 @@ record_type t = records no_columns
 abbrev pub record_scope : Shape → Scope
 record_scope t = record { row_type = record_type t; alias = None; counted = false }
 
-abbrev pub first_record : Part → Scope
+abbrev pub first_record : JudgedPart → Scope
 first_record (piece (value a c t)) = record_scope t
 first_record q = record_scope (records no_columns)
 
 -- the scopes of a part
-abbrev pub scopes_for : Names → Standing → List Scope → List Part → List Scope
+abbrev pub scopes_for : Names → PartScope → List Scope → List JudgedPart → List Scope
 scopes_for n inside ss (q ∷ qs) = ss ++ first_row n q ∷ []
 scopes_for n bound ss (q ∷ qs) = ss ++ first_record q ∷ []
 scopes_for n s ss qs = ss
 
-abbrev pub is_catching : Standing → Bool
+abbrev pub is_catching : PartScope → Bool
 is_catching catching = true
 is_catching s = false
 
 -- where a part stands
-abbrev pub setting_by : Names → Setting → Plan → List Part → Setting
+abbrev pub setting_by : Names → Setting → ArgumentRule → List JudgedPart → Setting
 setting_by n s p done =
     record { scopes = scopes_for n p.standing s.scopes done; catches = s.catches || is_catching p.standing; grant = p.grant }
 
-abbrev pub setting_at : Names → Setting → Head → ℕ → List Part → Setting
+abbrev pub setting_at : Names → Setting → Head → ℕ → List JudgedPart → Setting
 setting_at m s h n done = setting_by m s (plan_at m s.grant h n done) done
 
 -- how many scopes of table calls are around
@@ -166,11 +166,11 @@ abbrev pub depth_of : List Scope → ℕ
 depth_of [] = 0
 depth_of (s ∷ ss) = if s.counted then suc (depth_of ss) else depth_of ss
 
-abbrev pub is_inside : Standing → Bool
+abbrev pub is_inside : PartScope → Bool
 is_inside inside = true
 is_inside s = false
 
 -- whether one of the parts stands in the scope of a row of the first
-abbrev pub opens_rows : Names → Grant → Head → ℕ → List Part → List Part → Bool
+abbrev pub opens_rows : Names → Grant → Head → ℕ → List JudgedPart → List JudgedPart → Bool
 opens_rows m g h n done [] = false
 opens_rows m g h n done (q ∷ qs) = is_inside (plan_at m g h n done).standing || opens_rows m g h n (done ++ q ∷ []) qs

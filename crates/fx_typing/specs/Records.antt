@@ -13,46 +13,46 @@ use Rattle.fx_core.specs.SourceTypes.{item_type, property_of}
 use Rattle.fx_core.specs.Term.{Term, of, nil, cons, const, read, dot}
 use Rattle.fx_core.specs.ColumnLists.{field_in}
 use Rattle.fx_typing.specs.Local.{value, coerced, join_all}
-use Rattle.fx_typing.specs.Meaning.{Meaning, valued, controlled, enumerated, place_of, is_chosen, is_input, default_of, default_type}
+use Rattle.fx_typing.specs.Meaning.{NameMeaning, valued, controlled, enumerated, first_match, is_chosen, is_input, default_of, default_type}
 use Rattle.fx_typing.specs.Ways.{way}
 use Rattle.fx_typing.specs.Builds.{list_by}
-use Rattle.fx_typing.specs.Parts.{Part, piece, meant, plainly}
-use Rattle.fx_typing.specs.Functions.{Becomes, IsNoTable}
+use Rattle.fx_typing.specs.Parts.{JudgedPart, piece, meant, plainly}
+use Rattle.fx_typing.specs.Functions.{Becomes, IsNoTableType}
 
 -- parts that are all values
-pub data Values : List Part → List (Term × Shape) → Type 0 where
-  no_values : Values [] []
-  one_value : {a : Option (List ℕ)} {c : Term} {t : Shape} {qs : List Part} {xs : List (Term × Shape)} →
-      Values qs xs → Values (piece (value a c t) ∷ qs) ((c, t) ∷ xs)
+pub data AreValueParts : List JudgedPart → List (Term × Shape) → Type 0 where
+  no_values : AreValueParts [] []
+  one_value : {a : Option (List ℕ)} {c : Term} {t : Shape} {qs : List JudgedPart} {xs : List (Term × Shape)} →
+      AreValueParts qs xs → AreValueParts (piece (value a c t) ∷ qs) ((c, t) ∷ xs)
 
 -- a name left of a dot: its value, or what it names that is no value
-abbrev pub left_part : Meaning → Part
+abbrev pub left_part : NameMeaning → JudgedPart
 left_part (valued c t) = plainly (c, t)
 left_part m = meant m
 
 -- what stands left of a dot
-abbrev pub left_meaning : Part → Option Meaning
+abbrev pub left_meaning : JudgedPart → Option NameMeaning
 left_meaning (piece (value a c t)) = Some (valued c t)
 left_meaning (meant m) = Some m
 left_meaning q = None
 
 -- the written property of a control with this number
-abbrev pub written : Names → ℕ → List ℕ → Option (ℕ × Property)
-written n k x = place_of (λ (p : Property). nat_eq p.control k && bytes_eq p.name x) 0 n.properties
+abbrev pub written_property : Names → ℕ → List ℕ → Option (ℕ × Property)
+written_property n k x = first_match (λ (p : Property). nat_eq p.control k && bytes_eq p.name x) 0 n.properties
 
 -- what a name behind a dot is: a field of a record; the chosen item of a gallery, what the user gave a
 -- control, a written property, or one's default, of a control that stands in no gallery; a member
-pub data Behind (n : Names) (x : List ℕ) : Meaning → Term × Shape → Type 0 where
+pub data Behind (n : Names) (x : List ℕ) : NameMeaning → Term × Shape → Type 0 where
   field : {c : Term} {t : Shape} {cs : ColumnList} → field_in x cs ≡ Some t → Behind n x (valued c (records cs)) (of (dot x) (cons c nil), t)
   chosen : {k : ℕ} {c : ControlName} → c.gallery ≡ None → is_chosen c.kind (encode_utf8_all x) ≡ true →
       Behind n x (controlled k c) (of (read (source.Chosen k)) nil, item_type c)
   input : {k : ℕ} {c : ControlName} {t : Shape} → c.gallery ≡ None → is_chosen c.kind (encode_utf8_all x) ≡ false →
       is_input c.kind (encode_utf8_all x) ≡ true → input_type c.kind ≡ Some t → Behind n x (controlled k c) (of (read (source.Input k)) nil, t)
   property : {k i : ℕ} {c : ControlName} {t : Shape} {r : Property} → c.gallery ≡ None → is_chosen c.kind (encode_utf8_all x) ≡ false →
-      is_input c.kind (encode_utf8_all x) ≡ false → property_of x c ≡ Some t → written n k x ≡ Some (i, r) →
+      is_input c.kind (encode_utf8_all x) ≡ false → property_of x c ≡ Some t → written_property n k x ≡ Some (i, r) →
       Behind n x (controlled k c) (of (read (source.Cell r.cell)) nil, t)
   unwritten : {k : ℕ} {c : ControlName} {t : Shape} → c.gallery ≡ None → is_chosen c.kind (encode_utf8_all x) ≡ false →
-      is_input c.kind (encode_utf8_all x) ≡ false → property_of x c ≡ Some t → written n k x ≡ None →
+      is_input c.kind (encode_utf8_all x) ≡ false → property_of x c ≡ Some t → written_property n k x ≡ None →
       Behind n x (controlled k c) (of (const (default_of c.kind (encode_utf8_all x))) nil, default_type c.kind (encode_utf8_all x) t)
   member : {e : Enumeration} → has_member e (encode_utf8_all x) ≡ true → Behind n x (enumerated e) (of (const (text x)) nil, texts)
 
@@ -64,7 +64,7 @@ pub data RowsBecome (t : Shape) : List (Term × Shape) → List (Term × Shape) 
 
 -- rows of the join of their types, which is no table, as a table
 pub data Rows (joined : Option Shape) (xs : List (Term × Shape)) : Term × Shape → Type 0 where
-  of_rows : {t : Shape} {ys : List (Term × Shape)} → joined ≡ Some t → IsNoTable t → RowsBecome t xs ys → Rows joined xs (list_by t ys)
+  of_rows : {t : Shape} {ys : List (Term × Shape)} → joined ≡ Some t → IsNoTableType t → RowsBecome t xs ys → Rows joined xs (list_by t ys)
 
 -- the join of the types of `[..]`, where values of type Blank alone are of a scalar; without rows there are no columns
 abbrev pub list_join : List (Term × Shape) → Option Shape

@@ -4,17 +4,17 @@ use Rattle.fx_types.specs.Types.{Shape}
 use Rattle.fx_core.specs.Tree.{Tree}
 use Rattle.fx_core.specs.Term.{Term}
 use Rattle.fx_typing.specs.Meaning.{Place}
-use Rattle.fx_typing.specs.Parts.{Part, Setting}
+use Rattle.fx_typing.specs.Parts.{JudgedPart, Setting}
 use Rattle.fx_typing.specs.Typing.{judge, judge_whole}
 use Rattle.fx_typing.specs.Elaborates.{Elaborates, IsNothing, FormulaElaborates, FormulaIsNothing}
 
 -- what is admitted is related, where the types of variables are settled
 abbrev pub AdmittedElaborates : Type 0
-AdmittedElaborates = (p : Place) (s : Setting) (e : Tree) (q : Part) → p.settled ≡ true → judge p s e ≡ Ok q → Elaborates p s e q
+AdmittedElaborates = (p : Place) (s : Setting) (e : Tree) (q : JudgedPart) → p.settled ≡ true → judge p s e ≡ Ok q → Elaborates p s e q
 
 -- what is related is admitted, with the same tree and type: so a formula is related to one thing at most
 abbrev pub ElaboratedIsAdmitted : Type 0
-ElaboratedIsAdmitted = (p : Place) (s : Setting) (e : Tree) (q : Part) → p.settled ≡ true → Elaborates p s e q → judge p s e ≡ Ok q
+ElaboratedIsAdmitted = (p : Place) (s : Setting) (e : Tree) (q : JudgedPart) → p.settled ≡ true → Elaborates p s e q → judge p s e ≡ Ok q
 
 -- where a formula is called broken, all parts of that node are related, and the node is to nothing
 abbrev pub BrokenIsNothing : Type 0

@@ -10,26 +10,26 @@ use Rattle.fx_core.specs.declared.names.Names.{Names}
 use Rattle.fx_core.specs.declared.names.Variable.{Variable}
 use Rattle.fx_core.specs.declared.schema.TableShape.{TableShape}
 use Rattle.fx_core.specs.SourceTypes.{columns_of, item_columns}
-use Rattle.fx_typing.specs.Meaning.{place_of, or_else, is_on, is_global}
+use Rattle.fx_typing.specs.Meaning.{first_match, or_else, is_on, is_global}
 
 -- a global variable, and one of a screen
 abbrev pub global_variable : Names → List ℕ → Option (ℕ × Variable)
-global_variable n x = place_of (λ (v : Variable). is_global v.screen && bytes_eq v.name x) 0 n.variables
+global_variable n x = first_match (λ (v : Variable). is_global v.screen && bytes_eq v.name x) 0 n.variables
 
 abbrev pub screen_variable : Names → Option ℕ → List ℕ → Option (ℕ × Variable)
-screen_variable n s x = place_of (λ (v : Variable). is_on s v.screen && bytes_eq v.name x) 0 n.variables
+screen_variable n s x = first_match (λ (v : Variable). is_on s v.screen && bytes_eq v.name x) 0 n.variables
 
 abbrev pub collection_named : Names → List ℕ → Option (ℕ × Collection)
-collection_named n x = place_of (λ (c : Collection). bytes_eq c.name x) 0 n.collections
+collection_named n x = first_match (λ (c : Collection). bytes_eq c.name x) 0 n.collections
 
 abbrev pub table_named : Names → List ℕ → Option (ℕ × TableShape)
-table_named n x = place_of (λ (t : TableShape). bytes_eq t.name x) 0 n.schema.tables
+table_named n x = first_match (λ (t : TableShape). bytes_eq t.name x) 0 n.schema.tables
 
 abbrev pub screen_named : Names → List ℕ → Option (ℕ × List ℕ)
-screen_named n x = place_of (λ (s : List ℕ). bytes_eq s x) 0 n.screens
+screen_named n x = first_match (λ (s : List ℕ). bytes_eq s x) 0 n.screens
 
 abbrev pub control_named : Names → List ℕ → Option (ℕ × ControlName)
-control_named n x = place_of (λ (c : ControlName). bytes_eq c.name x) 0 n.controls
+control_named n x = first_match (λ (c : ControlName). bytes_eq c.name x) 0 n.controls
 
 -- rows that change, with their type: a table's or a collection's
 abbrev pub rows_named : Names → List ℕ → Option (Target × Shape)

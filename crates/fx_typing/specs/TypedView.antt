@@ -12,9 +12,9 @@ use Rattle.fx_typing.specs.declared.typed.Typed.{Typed}
 abbrev pub typed : Typed → Term × Shape
 typed t = (t.core, shape t.ty)
 
-abbrev pub piece : Piece → local.Piece
-piece (Value a t) = local.value a t.core (shape t.ty)
-piece (Label x) = local.label x
+abbrev pub piece_view : Piece → local.Piece
+piece_view (Value a t) = local.value a t.core (shape t.ty)
+piece_view (Label x) = local.label x
 
 -- a head over parts that stand, and the type of the whole
 abbrev pub built : Top → List Typed → Ty → Term × Shape

@@ -22,7 +22,7 @@ use Rattle.fx_core.specs.Term.{Term, Terms, of, nil, cons, Top, const, read, row
 use Rattle.fx_core.specs.Rules as rules
 use Rattle.fx_typing.specs.Ways.{way, changed, is_scalar, is_comparable}
 use Rattle.fx_typing.specs.LawfulTypes.{IsLawfulType}
-use Rattle.fx_typing.specs.Columns.{field_of, added, dropped, shown, renamed, fault_type, tells_error}
+use Rattle.fx_typing.specs.Columns.{field_shape, added, dropped, columns_shown, columns_renamed, fault_type, tells_error}
 use Rattle.fx_core.specs.ColumnLists.{field_in, value_column, row_columns}
 
 -- what a tree stands in: the types of the sources, how many screens there are, the types of the scopes
@@ -44,13 +44,13 @@ head_of f = head_by (row_of f).first f
 
 -- what a part stands in: in the scope of a row of the first part, in that of the first part itself,
 -- where an error is caught, or where the whole stands
-pub data Standing : Type 0 where
-  plain : Standing
-  inside : Standing
-  bound : Standing
-  catching : Standing
+pub data PartScope : Type 0 where
+  plain : PartScope
+  inside : PartScope
+  bound : PartScope
+  catching : PartScope
 
-abbrev pub standing_of : Takes → Standing
+abbrev pub standing_of : Takes → PartScope
 standing_of (takes.Formula s) = inside
 standing_of takes.ScalarFormula = inside
 standing_of takes.AnyFormula = inside
@@ -59,11 +59,11 @@ standing_of takes.Fallback = catching
 standing_of k = plain
 
 -- how the part at a place of so many stands
-abbrev pub standing_behind : ℕ → Standing → Standing
+abbrev pub standing_behind : ℕ → PartScope → PartScope
 standing_behind zero s = plain
 standing_behind (suc i) s = s
 
-abbrev pub standing_at : Top → ℕ → ℕ → Standing
+abbrev pub standing_at : Top → ℕ → ℕ → PartScope
 standing_at (call f) n i = standing_of (takes_at (row_of f) n i)
 standing_at (over f) n i = standing_of (takes_at (row_of f) n i)
 standing_at (form f) n i = standing_of (takes_at (form_row f) n i)
@@ -76,7 +76,7 @@ abbrev pub row_type : Shape → Shape
 row_type (tables cs) = records cs
 row_type t = records no_columns
 
-abbrev pub context_for : Standing → Context → List Shape → Context
+abbrev pub context_for : PartScope → Context → List Shape → Context
 context_for inside c (t ∷ ts) = record c { rows = c.rows ++ row_type t ∷ [] }
 context_for bound c (t ∷ ts) = record c { rows = c.rows ++ t ∷ [] }
 context_for catching c ts = record c { caught = true }
@@ -113,9 +113,9 @@ AllStand r n i first common [] = Unit {0}
 AllStand r n i first common (t ∷ ts) = Stands (takes_at r n i) first common t × AllStand r n (suc i) first common ts
 
 -- trees with their types
-abbrev pub paired : Terms → List Shape → List (Term × Shape)
-paired (cons c cs) (t ∷ ts) = (c, t) ∷ paired cs ts
-paired _ _ = []
+abbrev pub typed_pairs : Terms → List Shape → List (Term × Shape)
+typed_pairs (cons c cs) (t ∷ ts) = (c, t) ∷ typed_pairs cs ts
+typed_pairs _ _ = []
 
 abbrev pub as_table : Result ColumnList ℕ → Result Shape ℕ
 as_table (Ok cs) = Ok (tables cs)
@@ -123,26 +123,26 @@ as_table (Err e) = Err e
 
 -- the type that a call answers, from its arguments as they stand, or the rule that is broken; the
 -- common type of branches is settled before
-abbrev pub answered : Answer → Shape → List (Term × Shape) → Result Shape ℕ
-answered (answer.Scalar s) common xs = Ok (shape_of s)
-answered answer.Same common (x ∷ xs) = Ok x.1
-answered answer.Row common (x ∷ xs) = Ok (row_type x.1)
-answered answer.Found common (x ∷ y ∷ z ∷ xs) = Ok z.1
-answered answer.Found common (x ∷ xs) = Ok (row_type x.1)
-answered answer.Common common xs = Ok common
-answered answer.Added common ((c, tables cs) ∷ xs) = as_table (added xs cs)
-answered answer.Dropped common ((c, tables cs) ∷ xs) = as_table (dropped xs cs)
-answered answer.Shown common ((c, tables cs) ∷ xs) = as_table (shown xs cs)
-answered answer.Renamed common ((c, tables cs) ∷ xs) = as_table (renamed xs cs)
-answered answer.Values common (x ∷ y ∷ xs) = Ok (tables (value_column y.1))
-answered answer.Each common (x ∷ y ∷ xs) = Ok (tables (row_columns y.1))
-answered a common xs = Err rules.wrong_type
+abbrev pub answered_type : Answer → Shape → List (Term × Shape) → Result Shape ℕ
+answered_type (answer.Scalar s) common xs = Ok (shape_of s)
+answered_type answer.Same common (x ∷ xs) = Ok x.1
+answered_type answer.Row common (x ∷ xs) = Ok (row_type x.1)
+answered_type answer.Found common (x ∷ y ∷ z ∷ xs) = Ok z.1
+answered_type answer.Found common (x ∷ xs) = Ok (row_type x.1)
+answered_type answer.Common common xs = Ok common
+answered_type answer.Added common ((c, tables cs) ∷ xs) = as_table (added xs cs)
+answered_type answer.Dropped common ((c, tables cs) ∷ xs) = as_table (dropped xs cs)
+answered_type answer.Shown common ((c, tables cs) ∷ xs) = as_table (columns_shown xs cs)
+answered_type answer.Renamed common ((c, tables cs) ∷ xs) = as_table (columns_renamed xs cs)
+answered_type answer.Values common (x ∷ y ∷ xs) = Ok (tables (value_column y.1))
+answered_type answer.Each common (x ∷ y ∷ xs) = Ok (tables (row_columns y.1))
+answered_type a common xs = Err rules.wrong_type
 
 -- a call with this row, of parts of these types, has the type, whatever common type its branches have
 abbrev pub IsByRow : Row → Terms → List Shape → Shape → Type 0
 IsByRow r cs us t =
     (takes_count r (length us) ≡ true)
-    × (common : Shape) × AllStand r (length us) 0 (first_type us) common us × (answered r.answer common (paired cs us) ≡ Ok t)
+    × (common : Shape) × AllStand r (length us) 0 (first_type us) common us × (answered_type r.answer common (typed_pairs cs us) ≡ Ok t)
 
 -- names that rise, so each stands once
 abbrev pub IsBelowNames : List ℕ → List (List ℕ) → Type 0
@@ -158,9 +158,9 @@ abbrev pub columns_by : List (List ℕ) → List Shape → ColumnList
 columns_by (n ∷ ns) (t ∷ ts) = column n t (columns_by ns ts)
 columns_by _ _ = no_columns
 
-abbrev pub AreAll : Shape → List Shape → Type 0
-AreAll t [] = Unit {0}
-AreAll t (u ∷ us) = (u ≡ t) × AreAll t us
+abbrev pub AreAllOfShape : Shape → List Shape → Type 0
+AreAllOfShape t [] = Unit {0}
+AreAllOfShape t (u ∷ us) = (u ≡ t) × AreAllOfShape t us
 
 -- the last of these types
 abbrev pub last_type : List Shape → Option Shape
@@ -211,22 +211,22 @@ abbrev pub HasColumns : Context → Target → ColumnList → Type 0
 HasColumns c t cs = c.sources (target_source t) ≡ Some (tables cs)
 
 -- the rule of an acting part
-abbrev pub IsDone : Context → Deed → Terms → List Shape → Shape → Type 0
-IsDone c (deed.Set k) cs (u ∷ []) t = (c.sources (source.Global k) ≡ Some u) × (t ≡ booleans)
-IsDone c (deed.UpdateContext ss) cs us t = (map c.sources ss ≡ map Some us) × (t ≡ booleans)
-IsDone c (deed.Collect k) cs us t = (ds : ColumnList) × HasColumns c (target.Gathered k) ds × AreAll (tables ds) us × (t ≡ booleans)
-IsDone c (deed.Clear k) cs [] t = (ds : ColumnList) × HasColumns c (target.Gathered k) ds × (t ≡ booleans)
-IsDone c (deed.ClearCollect k) cs us t = (ds : ColumnList) × HasColumns c (target.Gathered k) ds × AreAll (tables ds) us × (t ≡ booleans)
-IsDone c (deed.Patch p) cs (base ∷ us) t =
+abbrev pub DeedHasType : Context → Deed → Terms → List Shape → Shape → Type 0
+DeedHasType c (deed.Set k) cs (u ∷ []) t = (c.sources (source.Global k) ≡ Some u) × (t ≡ booleans)
+DeedHasType c (deed.UpdateContext ss) cs us t = (map c.sources ss ≡ map Some us) × (t ≡ booleans)
+DeedHasType c (deed.Collect k) cs us t = (ds : ColumnList) × HasColumns c (target.Gathered k) ds × AreAllOfShape (tables ds) us × (t ≡ booleans)
+DeedHasType c (deed.Clear k) cs [] t = (ds : ColumnList) × HasColumns c (target.Gathered k) ds × (t ≡ booleans)
+DeedHasType c (deed.ClearCollect k) cs us t = (ds : ColumnList) × HasColumns c (target.Gathered k) ds × AreAllOfShape (tables ds) us × (t ≡ booleans)
+DeedHasType c (deed.Patch p) cs (base ∷ us) t =
     (ds : ColumnList) × HasColumns c p ds × IsNamedRow p ds base × AreChanges p ds us × (t ≡ records ds)
-IsDone c (deed.Remove p) cs us t = (ds : ColumnList) × HasColumns c p ds × AreNamedRows p ds us × (t ≡ booleans)
-IsDone c (deed.RemoveIf p) (cons f nil) us t = IsFilterOf p f × (t ≡ booleans)
-IsDone c (deed.UpdateIf p) (cons f (cons change nil)) (w ∷ u ∷ []) t =
+DeedHasType c (deed.Remove p) cs us t = (ds : ColumnList) × HasColumns c p ds × AreNamedRows p ds us × (t ≡ booleans)
+DeedHasType c (deed.RemoveIf p) (cons f nil) us t = IsFilterOf p f × (t ≡ booleans)
+DeedHasType c (deed.UpdateIf p) (cons f (cons change nil)) (w ∷ u ∷ []) t =
     (ds : ColumnList) × IsFilterOf p f × HasColumns c p ds × IsChange p ds u × (t ≡ booleans)
-IsDone c (deed.Navigate s) cs [] t = (s < c.screens) × (t ≡ booleans)
-IsDone c deed.Notify cs (texts ∷ []) t = t ≡ booleans
-IsDone c (deed.Reset k) cs [] t = IsSome (c.sources (source.Input k)) × (t ≡ booleans)
-IsDone c d cs us t = ⊥
+DeedHasType c (deed.Navigate s) cs [] t = (s < c.screens) × (t ≡ booleans)
+DeedHasType c deed.Notify cs (texts ∷ []) t = t ≡ booleans
+DeedHasType c (deed.Reset k) cs [] t = IsSome (c.sources (source.Input k)) × (t ≡ booleans)
+DeedHasType c d cs us t = ⊥
 
 -- a type of constants: a lawful one, or that of a row of a table or a collection
 abbrev pub IsConstantType : Context → Shape → Type 0
@@ -239,18 +239,18 @@ IsRuled c (read s) cs us t = c.sources s ≡ Some t
 IsRuled c (row k) cs us t = slice_get c.rows k ≡ Some t
 IsRuled c item cs us t = c.item ≡ Some t
 IsRuled c caught cs us t = (c.caught ≡ true) × (t ≡ fault_type)
-IsRuled c (dot x) cs (u ∷ []) t = field_of x u ≡ Some t
+IsRuled c (dot x) cs (u ∷ []) t = field_shape x u ≡ Some t
 IsRuled c (call f) cs us t = (head_of f ≡ call f) × IsByRow (row_of f) cs us t
 IsRuled c (over f) cs us t = (head_of f ≡ over f) × IsByRow (row_of f) cs us t
 IsRuled c (form f) cs us t = IsByRow (form_row f) cs us t
 IsRuled c within cs (records ds ∷ u ∷ []) t = t ≡ u
 IsRuled c (rec ns) cs us t = (length ns ≡ length us) × NamesRise ns × (t ≡ records (columns_by ns us))
 IsRuled c (list (tables ds)) cs us t = ⊥
-IsRuled c (list r) cs us t = AreAll r us × (t ≡ tables (row_columns r))
+IsRuled c (list r) cs us t = AreAllOfShape r us × (t ≡ tables (row_columns r))
 IsRuled c (coerce blanks) cs (u ∷ []) t = t ≡ blanks
 IsRuled c (coerce to) cs (u ∷ []) t = (way u to ≡ changed) × (t ≡ to)
 IsRuled c chain cs us t = last_type us ≡ Some t
-IsRuled c (act d) cs us t = IsDone c d cs us t
+IsRuled c (act d) cs us t = DeedHasType c d cs us t
 IsRuled c h cs us t = ⊥
 
 -- how many parts there are

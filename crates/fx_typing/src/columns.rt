@@ -7,8 +7,8 @@ ghost use Rattle.fx_core.specs.SourceTypes as sources;
 ghost use Rattle.fx_typing.specs.Columns as typing;
 ghost use Rattle.fx_core.specs.ColumnLists as lists;
 ghost use Rattle.fx_typing.specs.Ways.{way, is_open};
-ghost use Rattle.fx_typing.specs.Answers.{Answers};
-ghost use Rattle.fx_typing.specs.ColumnPlaces.{place_of};
+ghost use Rattle.fx_typing.specs.Answers.{IsAnswerOf};
+ghost use Rattle.fx_typing.specs.ColumnPlaces.{column_rank};
 ghost use Rattle.fx_typing.specs.TypedView.{typed};
 
 use crate::typed::Typed;
@@ -31,7 +31,7 @@ pub fn field_in<'a>(name: &Words, columns: &'a Columns) -> Option<&'a Ty>
 
 // How many columns are below a name.
 fn place_of(name: &Words, columns: &[(Words, Ty)]) -> usize
-    ensures { result ≡ place_of name.now (columns_view columns.now) }
+    ensures { result ≡ column_rank name.now (columns_view columns.now) }
 {
     for (place, (other, _)) in columns.iter().enumerate() {
         match name.compare(other) {
@@ -44,7 +44,7 @@ fn place_of(name: &Words, columns: &[(Words, Ty)]) -> usize
 
 /// The columns without the one of this name.
 pub fn without(name: &Words, columns: Columns) -> Columns
-    ensures { column_list result ≡ lists.without name.now (column_list columns) }
+    ensures { column_list result ≡ lists.columns_without name.now (column_list columns) }
 {
     Columns::from_rising(others(name, columns.into_items()))
 }
@@ -70,7 +70,7 @@ pub fn put_column(name: Words, ty: Ty, columns: Columns) -> Result<Columns, Memo
 
 /// A column more, whose name is new.
 pub fn with_new(name: Words, ty: Ty, columns: Columns) -> Result<Columns, Wrong>
-    ensures { Answers column_list (lists.with_new name (shape ty) (column_list columns)) result }
+    ensures { IsAnswerOf column_list (lists.with_new name (shape ty) (column_list columns)) result }
 {
     if field_in(&name, &columns).is_some() {
         return Err(Wrong::Refused(Rule::NameTwice));
@@ -85,7 +85,7 @@ pub fn rename_column(
     to: Words,
     columns: Columns,
 ) -> Result<Columns, Wrong>
-    ensures { Answers column_list (lists.with_renamed from.now to (column_list columns)) result }
+    ensures { IsAnswerOf column_list (lists.with_renamed from.now to (column_list columns)) result }
 {
     let Some(ty) = field_in(from, &columns) else {
         return Err(Wrong::Refused(Rule::UnknownColumn));
@@ -109,7 +109,7 @@ pub fn label_of(core: &Core) -> Option<&Words>
 
 // The name of a column, or the rule `WrongType`.
 fn name_of(alloc: Global, core: &Core) -> Result<Words, Wrong>
-    ensures { Answers (λ w. w) (typing.by_label (typing.label_of core.now) (λ n. Ok n)) result }
+    ensures { IsAnswerOf (λ w. w) (typing.by_label (typing.label_of core.now) (λ n. Ok n)) result }
 {
     match label_of(core) {
         Some(name) => Ok(name.copy(alloc)?),
@@ -119,7 +119,7 @@ fn name_of(alloc: Global, core: &Core) -> Result<Words, Wrong>
 
 /// New columns in turn, each of the name that stands before its formula.
 pub fn add_columns(alloc: Global, parts: &[Typed], columns: Columns) -> Result<Columns, Wrong>
-    ensures { Answers column_list (typing.added (map typed parts.now) (column_list columns)) result }
+    ensures { IsAnswerOf column_list (typing.added (map typed parts.now) (column_list columns)) result }
 {
     let mut columns = columns;
     let mut more = parts;
@@ -133,7 +133,7 @@ pub fn add_columns(alloc: Global, parts: &[Typed], columns: Columns) -> Result<C
 
 /// Columns under new names in turn, each of which stands behind the old one.
 pub fn rename_columns(alloc: Global, parts: &[Typed], columns: Columns) -> Result<Columns, Wrong>
-    ensures { Answers column_list (typing.renamed (map typed parts.now) (column_list columns)) result }
+    ensures { IsAnswerOf column_list (typing.columns_renamed (map typed parts.now) (column_list columns)) result }
 {
     let mut columns = columns;
     let mut more = parts;
@@ -155,7 +155,7 @@ pub fn is_one_of(name: &Words, names: &[Words]) -> bool
 
 // The names of columns that are all there.
 fn names_there(alloc: Global, parts: &[Typed], columns: &Columns) -> Result<Vec<Words>, Wrong>
-    ensures { Answers (λ ns. ns.items) (typing.names_there (map typed parts.now) (column_list columns.now)) result }
+    ensures { IsAnswerOf (λ ns. ns.items) (typing.names_there (map typed parts.now) (column_list columns.now)) result }
 {
     let mut names = Vec::new(alloc);
     for part in parts {
@@ -181,7 +181,7 @@ fn without_all(names: &[Words], columns: Columns) -> Columns
 
 /// The columns without those of these names, which are all there. A name that stands twice counts once.
 pub fn drop_columns(alloc: Global, parts: &[Typed], columns: Columns) -> Result<Columns, Wrong>
-    ensures { Answers column_list (typing.dropped (map typed parts.now) (column_list columns)) result }
+    ensures { IsAnswerOf column_list (typing.dropped (map typed parts.now) (column_list columns)) result }
 {
     let names = names_there(alloc, parts, &columns)?;
     Ok(without_all(names.as_slice(), columns))
@@ -189,7 +189,7 @@ pub fn drop_columns(alloc: Global, parts: &[Typed], columns: Columns) -> Result<
 
 // The columns of these names alone.
 fn only(names: &[Words], columns: Columns) -> Columns
-    ensures { column_list result ≡ lists.only names.now (column_list columns) }
+    ensures { column_list result ≡ lists.columns_only names.now (column_list columns) }
 {
     Columns::from_rising(select_columns(names, columns.into_items()))
 }
@@ -205,7 +205,7 @@ fn select_columns(names: &[Words], columns: Vec<(Words, Ty)>) -> Vec<(Words, Ty)
 
 /// The columns of these names alone, which are all there.
 pub fn show_columns(alloc: Global, parts: &[Typed], columns: Columns) -> Result<Columns, Wrong>
-    ensures { Answers column_list (typing.shown (map typed parts.now) (column_list columns)) result }
+    ensures { IsAnswerOf column_list (typing.columns_shown (map typed parts.now) (column_list columns)) result }
 {
     let names = names_there(alloc, parts, &columns)?;
     Ok(only(names.as_slice(), columns))

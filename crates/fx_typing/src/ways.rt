@@ -4,7 +4,7 @@ ghost use Rattle.fx_types.specs.TypeView.{shape};
 ghost use Rattle.fx_types.specs.Types.{column_list};
 ghost use Rattle.fx_typing.specs.Local as local;
 ghost use Rattle.fx_typing.specs.Ways as ways;
-ghost use Rattle.fx_typing.specs.Answers.{Answers};
+ghost use Rattle.fx_typing.specs.Answers.{IsAnswerOf};
 ghost use Rattle.fx_typing.specs.TypedView.{typed};
 ghost use Rattle.fx_typing.specs.WayView.{way_view};
 
@@ -145,7 +145,7 @@ pub fn coerce(alloc: Global, core: Core, to: &Ty) -> Result<Core, Memory>
 
 /// A value that comes to a type, or the rule `WrongType`.
 pub fn by_way(alloc: Global, way: Way, core: Core, to: &Ty) -> Result<Typed, Wrong>
-    ensures { Answers typed (local.by_way (way_view way) core (shape to.now)) result }
+    ensures { IsAnswerOf typed (local.by_way (way_view way) core (shape to.now)) result }
 {
     let core = match way {
         Way::Same => core,

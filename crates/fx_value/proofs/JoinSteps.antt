@@ -5,7 +5,7 @@ use Rattle.std.specs.Cmp.Lexicographic.{slice_cmp}
 use Rattle.std.specs.declared.cmp.Ordering.TheVariants.{Equal, Greater}
 use Rattle.fx_types.specs.Types.{Shape, ColumnList, column, column_list, columns_size}
 use Rattle.fx_value.specs.Join.{join_of, union}
-use Rattle.fx_types.specs.Rising.{IsBelow, AreRising}
+use Rattle.fx_types.specs.Rising.{IsBelow, AreNamesRising}
 use Rattle.fx_types.specs.TypeView.{shape, columns_view}
 use Rattle.fx_types.specs.declared.types.Ty.{Ty}
 use Rattle.fx_value.proofs.Unions.{under_list, rises_list, list_rises, union_first, union_second, union_of_none, union_both, rises_union, under_further, below}
@@ -18,8 +18,8 @@ prepend (c ∷ cs) es = column c.0 c.1 (prepend cs es)
 -- what is joined so far, and what is left of both
 pub record IsJoined (a b : List (List ℕ × Shape)) (joined xs ys : List (List ℕ × Ty)) : Type 0 where
   pub same : option_map (prepend (columns_view joined)) (union (column_list (columns_view xs)) (column_list (columns_view ys))) ≡ union (column_list a) (column_list b)
-  pub first : AreRising (columns_view xs)
-  pub second : AreRising (columns_view ys)
+  pub first : AreNamesRising (columns_view xs)
+  pub second : AreNamesRising (columns_view ys)
   pub smaller : columns_size (column_list (columns_view xs)) ≤ columns_size (column_list a)
 
 prepend_more : (cs : List (List ℕ × Ty)) (c : List ℕ × Ty) (es : ColumnList) → prepend (columns_view (cs ++ c ∷ [])) es ≡ prepend (columns_view cs) (column c.0 (shape c.1) es)
@@ -107,7 +107,7 @@ module _ {a b : List (List ℕ × Shape)} {joined : List (List ℕ × Ty)} where
       rw e (ap (λ z. Some (column_list (columns_view (z ++ ys)))) (append-nil joined) ∙ ap Some (sym (prepend_all joined ys)) ∙ ap (option_map (prepend (columns_view joined))) (sym (union_of_none (column_list (columns_view ys)) (rises_list _ at.second))) ∙ at.same)
 
 -- what the union is, rises
-pub joined_rises : (a b : List (List ℕ × Shape)) (zs : List (List ℕ × Ty)) → AreRising a → Some (column_list (columns_view zs)) ≡ union (column_list a) (column_list b) → AreRising (columns_view zs)
+pub joined_rises : (a b : List (List ℕ × Shape)) (zs : List (List ℕ × Ty)) → AreNamesRising a → Some (column_list (columns_view zs)) ≡ union (column_list a) (column_list b) → AreNamesRising (columns_view zs)
 joined_rises a b zs h e = list_rises _ (rises_union (column_list a) (column_list b) _ (rises_list a h) (sym e))
 
 -- the rest of either list may be written first, as one of the two is used up

@@ -6,7 +6,7 @@ use Rattle.std.specs.declared.cmp.Ordering.{Ordering}
 use Rattle.std.specs.declared.cmp.Ordering.TheVariants.{Less, Equal, Greater}
 use Rattle.fx_types.specs.Types.{Shape, blanks, numbers, texts, booleans, dates, records, tables, ColumnList, no_columns, column, column_list}
 use Rattle.fx_value.specs.Join.{with_column, join_of, union}
-use Rattle.fx_types.specs.Rising.{IsBelow, IsBelowAll, AreRising}
+use Rattle.fx_types.specs.Rising.{IsBelow, IsNameBelowAll, AreNamesRising}
 
 -- the name is below all of these
 abbrev pub Under : List ℕ → ColumnList → Type 0
@@ -18,19 +18,19 @@ abbrev pub Rises : ColumnList → Type 0
 Rises no_columns = Unit {0}
 Rises (column n t cs) = Under n cs × Rises cs
 
-pub under_list : (n : List ℕ) (cs : List (List ℕ × Shape)) → IsBelowAll n cs → Under n (column_list cs)
+pub under_list : (n : List ℕ) (cs : List (List ℕ × Shape)) → IsNameBelowAll n cs → Under n (column_list cs)
 under_list n [] h = tt
 under_list n (c ∷ cs) h = (h.0, under_list n cs h.1)
 
-pub rises_list : (cs : List (List ℕ × Shape)) → AreRising cs → Rises (column_list cs)
+pub rises_list : (cs : List (List ℕ × Shape)) → AreNamesRising cs → Rises (column_list cs)
 rises_list [] h = tt
 rises_list (c ∷ cs) h = (under_list c.0 cs h.0, rises_list cs h.1)
 
-pub list_under : (n : List ℕ) (cs : List (List ℕ × Shape)) → Under n (column_list cs) → IsBelowAll n cs
+pub list_under : (n : List ℕ) (cs : List (List ℕ × Shape)) → Under n (column_list cs) → IsNameBelowAll n cs
 list_under n [] h = tt
 list_under n (c ∷ cs) h = (h.0, list_under n cs h.1)
 
-pub list_rises : (cs : List (List ℕ × Shape)) → Rises (column_list cs) → AreRising cs
+pub list_rises : (cs : List (List ℕ × Shape)) → Rises (column_list cs) → AreNamesRising cs
 list_rises [] h = tt
 list_rises (c ∷ cs) h = (list_under c.0 cs h.0, list_rises cs h.1)
 

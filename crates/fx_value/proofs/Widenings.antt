@@ -7,7 +7,7 @@ use Rattle.std.specs.declared.cmp.Ordering.{Ordering}
 use Rattle.std.specs.declared.cmp.Ordering.TheVariants.{Less, Equal, Greater}
 use Rattle.std.proofs.lemmas.Map.Text.{is_eq-slice_cmp}
 use Rattle.std.proofs.lemmas.Slice.Eq.{bytes_eq-Decides}
-use Rattle.fx_types.specs.Rising.{IsBelow, IsBelowAll, AreRising}
+use Rattle.fx_types.specs.Rising.{IsBelow, IsNameBelowAll, AreNamesRising}
 use Rattle.fx_types.specs.Types.{Shape, blanks, numbers, texts, booleans, dates, records, tables, ColumnList, no_columns, column, column_list}
 use Rattle.fx_types.specs.TypeView.{shape, columns_view}
 use Rattle.fx_types.specs.Values.{Data, blank, number, text, boolean, date, fault, rec, tab, FieldList, no_fields, field, field_list, RowList, row_list}
@@ -17,7 +17,7 @@ use Rattle.fx_types.specs.declared.types.Ty.TheVariants.{Rec as RecTy, Tab as Ta
 use Rattle.fx_types.specs.declared.values.Value.{Value}
 use Rattle.fx_types.specs.declared.values.Value.TheVariants.{Blank, Number, Text, Boolean, Date, Rec, Tab, Fault}
 use Rattle.fx_types.proofs.Utf8Order.{and_second, and_first}
-use Rattle.fx_value.specs.Coercion.{Widens, same, joined, CanWiden, value_in}
+use Rattle.fx_value.specs.Coercion.{Widens, same, joined, CanWiden, field_or_blank}
 use Rattle.fx_value.specs.Fits.{fits_in, fields_fit, rows_fit}
 use Rattle.fx_value.specs.Join.{join_of, union, with_column}
 use Rattle.fx_value.proofs.Unions.{Under, Rises, under_list, rises_union, under_further, by_then, blanks_join}
@@ -145,22 +145,22 @@ abbrev FitsIf : Data → Option Shape → Type 0
 FitsIf d None = d ≡ blank
 FitsIf d (Some s) = fits_in d s ≡ true
 
-value_fits : (n : List ℕ) (fs : FieldList) (bs : ColumnList) → fields_fit fs bs ≡ true → FitsIf (value_in n fs) (type_in n bs)
+value_fits : (n : List ℕ) (fs : FieldList) (bs : ColumnList) → fields_fit fs bs ≡ true → FitsIf (field_or_blank n fs) (type_in n bs)
 value_fits n no_fields no_columns h = refl
 value_fits n no_fields (column k s bs) h = cc
 value_fits n (field m d fs) no_columns h = cc
 value_fits n (field m d fs) (column k s bs) h =
     let more = and_second (bytes_eq m k) (fits_in d s && fields_fit fs bs) h in
-    let P : List ℕ → Type 0 = λ z. FitsIf (if bytes_eq m n then d else value_in n fs) (if bytes_eq z n then Some s else type_in n bs) in
+    let P : List ℕ → Type 0 = λ z. FitsIf (if bytes_eq m n then d else field_or_blank n fs) (if bytes_eq z n then Some s else type_in n bs) in
     subst P (same_name m k (and_first (bytes_eq m k) (fits_in d s && fields_fit fs bs) h))
     (by (bytes_eq m n) (and_first (fits_in d s) (fields_fit fs bs) more) (value_fits n fs bs (and_second (fits_in d s) (fields_fit fs bs) more)))
   where
-    by : (b : Bool) → fits_in d s ≡ true → FitsIf (value_in n fs) (type_in n bs) → FitsIf (if b then d else value_in n fs) (if b then Some s else type_in n bs)
+    by : (b : Bool) → fits_in d s ≡ true → FitsIf (field_or_blank n fs) (type_in n bs) → FitsIf (if b then d else field_or_blank n fs) (if b then Some s else type_in n bs)
     by true f g = f
     by false f g = g
 
 -- the names of what fits are those of the columns
-fit_under : (n : List ℕ) (xs : List (List ℕ × Data)) (bs : ColumnList) → fields_fit (field_list xs) bs ≡ true → IsBelowAll n xs → Under n bs
+fit_under : (n : List ℕ) (xs : List (List ℕ × Data)) (bs : ColumnList) → fields_fit (field_list xs) bs ≡ true → IsNameBelowAll n xs → Under n bs
 fit_under n [] no_columns h l = tt
 fit_under n [] (column k s bs) h l = cc
 fit_under n (x ∷ xs) no_columns h l = cc
@@ -168,7 +168,7 @@ fit_under n (x ∷ xs) (column k s bs) h l =
     let more = and_second (bytes_eq x.0 k) (fits_in x.1 s && fields_fit (field_list xs) bs) h in
     (subst (IsBelow n) (same_name x.0 k (and_first (bytes_eq x.0 k) (fits_in x.1 s && fields_fit (field_list xs) bs) h)) l.0, fit_under n xs bs (and_second (fits_in x.1 s) (fields_fit (field_list xs) bs) more) l.1)
 
-fit_rises : (xs : List (List ℕ × Data)) (bs : ColumnList) → fields_fit (field_list xs) bs ≡ true → AreRising xs → Rises bs
+fit_rises : (xs : List (List ℕ × Data)) (bs : ColumnList) → fields_fit (field_list xs) bs ≡ true → AreNamesRising xs → Rises bs
 fit_rises [] no_columns h r = tt
 fit_rises [] (column k s bs) h r = cc
 fit_rises (x ∷ xs) no_columns h r = cc
@@ -178,7 +178,7 @@ fit_rises (x ∷ xs) (column k s bs) h r =
     let P : List ℕ → Type 0 = λ z. Under z bs in
     (subst P (same_name x.0 k (and_first (bytes_eq x.0 k) (fits_in x.1 s && fields_fit (field_list xs) bs) h)) (fit_under x.0 xs bs rest r.0), fit_rises xs bs rest r.1)
 
-below_fit : (n : List ℕ) (xs : List (List ℕ × Data)) (cs : List (List ℕ × Shape)) → fields_fit (field_list xs) (column_list cs) ≡ true → IsBelowAll n cs → IsBelowAll n xs
+below_fit : (n : List ℕ) (xs : List (List ℕ × Data)) (cs : List (List ℕ × Shape)) → fields_fit (field_list xs) (column_list cs) ≡ true → IsNameBelowAll n cs → IsNameBelowAll n xs
 below_fit n [] [] h l = tt
 below_fit n [] (c ∷ cs) h l = cc
 below_fit n (x ∷ xs) [] h l = cc
@@ -186,18 +186,18 @@ below_fit n (x ∷ xs) (c ∷ cs) h l =
     let more = and_second (bytes_eq x.0 c.0) (fits_in x.1 c.1 && fields_fit (field_list xs) (column_list cs)) h in
     (subst (IsBelow n) (sym (same_name x.0 c.0 (and_first (bytes_eq x.0 c.0) (fits_in x.1 c.1 && fields_fit (field_list xs) (column_list cs)) h))) l.0, below_fit n xs cs (and_second (fits_in x.1 c.1) (fields_fit (field_list xs) (column_list cs)) more) l.1)
 
-pub rises_by_fit : (xs : List (List ℕ × Data)) (cs : List (List ℕ × Shape)) → fields_fit (field_list xs) (column_list cs) ≡ true → AreRising cs → AreRising xs
+pub rises_by_fit : (xs : List (List ℕ × Data)) (cs : List (List ℕ × Shape)) → fields_fit (field_list xs) (column_list cs) ≡ true → AreNamesRising cs → AreNamesRising xs
 rises_by_fit [] [] h r = tt
 rises_by_fit [] (c ∷ cs) h r = cc
 rises_by_fit (x ∷ xs) [] h r = cc
 rises_by_fit (x ∷ xs) (c ∷ cs) h r =
     let more = and_second (bytes_eq x.0 c.0) (fits_in x.1 c.1 && fields_fit (field_list xs) (column_list cs)) h in
     let rest = and_second (fits_in x.1 c.1) (fields_fit (field_list xs) (column_list cs)) more in
-    let P : List ℕ → Type 0 = λ z. IsBelowAll z xs in
+    let P : List ℕ → Type 0 = λ z. IsNameBelowAll z xs in
     (subst P (sym (same_name x.0 c.0 (and_first (bytes_eq x.0 c.0) (fits_in x.1 c.1 && fields_fit (field_list xs) (column_list cs)) h))) (below_fit c.0 xs cs rest r.0), rises_by_fit xs cs rest r.1)
 
 -- a column among rising ones is found by its name
-column_at : (cs : List (List ℕ × Ty)) (i : ℕ) (c : List ℕ × Ty) → i < length cs → c ≡ get_or cs i c → AreRising (columns_view cs) → type_in c.0 (column_list (columns_view cs)) ≡ Some (shape c.1)
+column_at : (cs : List (List ℕ × Ty)) (i : ℕ) (c : List ℕ × Ty) → i < length cs → c ≡ get_or cs i c → AreNamesRising (columns_view cs) → type_in c.0 (column_list (columns_view cs)) ≡ Some (shape c.1)
 column_at [] i c h e r = absurd (omega arith)
 column_at (d ∷ cs) zero c h e r = let P : List ℕ × Ty → Type 0 = λ z. type_in z.0 (column_list (columns_view (d ∷ cs))) ≡ Some (shape z.1) in subst P (sym e) (rw (own_name d.0) refl)
 column_at (d ∷ cs) (suc i) c h e r =
@@ -205,13 +205,13 @@ column_at (d ∷ cs) (suc i) c h e r =
     rw (under_apart d.0 (column_list (columns_view cs)) (under_list d.0 (columns_view cs) r.0) c.0 (shape c.1) later) later
 
 -- the value under a name widens to the type of the column of that name
-record_can : (xs : List (List ℕ × Data)) (s : Shape) (cs : ColumnList) → fits_in (rec (field_list xs)) s ≡ true → Widens s (records cs) → AreRising xs → (n : List ℕ) (u : Shape) → type_in n cs ≡ Some u → CanWiden (value_in n (field_list xs)) u
+record_can : (xs : List (List ℕ × Data)) (s : Shape) (cs : ColumnList) → fits_in (rec (field_list xs)) s ≡ true → Widens s (records cs) → AreNamesRising xs → (n : List ℕ) (u : Shape) → type_in n cs ≡ Some u → CanWiden (field_or_blank n (field_list xs)) u
 record_can xs (records bs) cs f w r n u h = by (type_in n bs) refl (value_fits n (field_list xs) bs f)
   where
     wide : Wide bs (records cs)
     wide = record_widens bs (records cs) (fit_rises xs bs f r) w
 
-    by : (o : Option Shape) → type_in n bs ≡ o → FitsIf (value_in n (field_list xs)) o → CanWiden (value_in n (field_list xs)) u
+    by : (o : Option Shape) → type_in n bs ≡ o → FitsIf (field_or_blank n (field_list xs)) o → CanWiden (field_or_blank n (field_list xs)) u
     by None j k = record { from = blanks; fitting = rw k refl; widens = joined blanks u u same (blanks_join u) }
     by (Some s) j k =
         let i = wide.1 n s j in
@@ -219,7 +219,7 @@ record_can xs (records bs) cs f w r n u h = by (type_in n bs) refl (value_fits n
         record { from = s; fitting = k; widens = subst (Widens s) q i.2 }
 record_can xs _ cs f w r n u h = cc
 
-pub field_can_widen : (xs : List (List ℕ × Data)) (cs : List (List ℕ × Ty)) → CanWiden (rec (field_list xs)) (records (column_list (columns_view cs))) → AreRising xs → AreRising (columns_view cs) → (i : ℕ) (c : List ℕ × Ty) → i < length cs → c ≡ get_or cs i c → CanWiden (value_in c.0 (field_list xs)) (shape c.1)
+pub field_can_widen : (xs : List (List ℕ × Data)) (cs : List (List ℕ × Ty)) → CanWiden (rec (field_list xs)) (records (column_list (columns_view cs))) → AreNamesRising xs → AreNamesRising (columns_view cs) → (i : ℕ) (c : List ℕ × Ty) → i < length cs → c ≡ get_or cs i c → CanWiden (field_or_blank c.0 (field_list xs)) (shape c.1)
 field_can_widen xs cs can r q i c h e =
     record_can xs can.from (column_list (columns_view cs)) can.fitting can.widens r c.0 (shape c.1) (column_at cs i c h e q)
 

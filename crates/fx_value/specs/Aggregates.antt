@@ -6,13 +6,13 @@ use Rattle.fx_types.specs.Values.{Data, number}
 use Rattle.fx_types.specs.declared.aggregates.Totals.{Totals}
 
 -- the number in a value, if it is one
-abbrev pub number_of : Data → Option ℤ
-number_of (number z) = Some z
-number_of _ = None
+abbrev pub number_if_one : Data → Option ℤ
+number_if_one (number z) = Some z
+number_if_one _ = None
 
 -- the numbers among values, as their ten-thousandths
 abbrev pub numbers_in : List Data → List ℤ
-numbers_in = filter_map number_of
+numbers_in = filter_map number_if_one
 
 -- the sum of whole numbers
 abbrev pub sum_of : List ℤ → ℤ
@@ -34,7 +34,7 @@ pub record SumsUp (zs : List ℤ) (totals : Totals) : Type 0 where
   pub has_greatest : IsGreatest zs totals.greatest
 
 -- the sum of so many numbers is no farther from 0 than so many times the greatest number
-pub record IsWithin (count : ℕ) (sum : ℤ) : Type 0 where
+pub record IsBoundedSum (count : ℕ) (sum : ℤ) : Type 0 where
   pub low : neg_ℤ (pos (count * limit)) ≤ℤ sum
   pub high : sum ≤ℤ pos (count * limit)
 

@@ -13,26 +13,26 @@ use Rattle.fx_value.specs.Fits.{fits_in}
 use Rattle.fx_value.specs.Join.{join_of}
 
 -- the value under a name, and blank where it is missing
-abbrev pub value_in : List ℕ → FieldList → Data
-value_in n no_fields = blank
-value_in n (field m d fs) = if bytes_eq m n then d else value_in n fs
+abbrev pub field_or_blank : List ℕ → FieldList → Data
+field_or_blank n no_fields = blank
+field_or_blank n (field m d fs) = if bytes_eq m n then d else field_or_blank n fs
 
 -- each row of a table as f makes it
-abbrev pub rows_by : (FieldList → FieldList) → RowList → RowList
-rows_by f no_rows = no_rows
-rows_by f (row fs rs) = row (f fs) (rows_by f rs)
+abbrev pub rows_mapped : (FieldList → FieldList) → RowList → RowList
+rows_mapped f no_rows = no_rows
+rows_mapped f (row fs rs) = row (f fs) (rows_mapped f rs)
 
 -- a value as one of a wider type: a record has a field for each column, blank where it is missing, and
 -- so has each row of a table, and each record and table in them
 abbrev mutual
   pub widened : Data → Shape → Data
   widened (rec fs) (records cs) = rec (widened_fields fs cs)
-  widened (tab rs) (tables cs) = tab (rows_by (λ fs. widened_fields fs cs) rs)
+  widened (tab rs) (tables cs) = tab (rows_mapped (λ fs. widened_fields fs cs) rs)
   widened d t = d
 
   pub widened_fields : FieldList → ColumnList → FieldList
   widened_fields fs no_columns = no_fields
-  widened_fields fs (column n t cs) = field n (widened (value_in n fs) t) (widened_fields fs cs)
+  widened_fields fs (column n t cs) = field n (widened (field_or_blank n fs) t) (widened_fields fs cs)
 
 -- the second type is the first one as it is joined with one type after another
 pub data Widens (s : Shape) : Shape → Type 0 where

@@ -4,7 +4,7 @@ ghost use Rattle.fx_types.specs.TypeView.{shape};
 ghost use Rattle.fx_types.specs.Types.{records, tables, column_list};
 ghost use Rattle.fx_types.specs.ValueView.{view, fields_view};
 ghost use Rattle.fx_types.specs.Values.{rec, tab, field_list, row_list};
-ghost use Rattle.fx_value.specs.Coercion.{CanWiden, value_in, widened, widened_fields, rows_by};
+ghost use Rattle.fx_value.specs.Coercion.{CanWiden, field_or_blank, widened, widened_fields, rows_mapped};
 ghost use Rattle.fx_value.specs.Fits.{fits_in, fields_fit, rows_fit};
 
 use fx_base::Memory;
@@ -57,7 +57,7 @@ fn widen_record(alloc: Global, fields: Fields, columns: &Columns) -> Result<Fiel
 fn widen_table(alloc: Global, rows: Rows, columns: &Columns) -> Result<Rows, Memory>
     requires { CanWiden (tab (row_list rows)) (tables (column_list columns.now)) }
     ensures value { IfOk result (λ w. row_list w
-        ≡ rows_by (λ fs. widened_fields fs (column_list columns.now)) (row_list rows)) }
+        ≡ rows_mapped (λ fs. widened_fields fs (column_list columns.now)) (row_list rows)) }
     ensures fits { IfOk result (λ w. rows_fit (row_list w) (column_list columns.now) ≡ true) }
 {
     let items = rows.into_items();
@@ -71,10 +71,10 @@ fn widen_table(alloc: Global, rows: Rows, columns: &Columns) -> Result<Rows, Mem
 // The value under a name, which is taken out, or blank where it is missing. A blank stays in its place, so that nothing
 // is copied and no other field moves.
 fn take_value(items: &mut Vec<(Words, Value)>, name: &Words) -> Value
-    ensures value { view result ≡ value_in name.now (field_list (fields_view items.old.items)) }
+    ensures value { view result ≡ field_or_blank name.now (field_list (fields_view items.old.items)) }
     ensures others { (m : List ℕ) → m ≢ name.now
-        → value_in m (field_list (fields_view items.new.items))
-        ≡ value_in m (field_list (fields_view items.old.items)) }
+        → field_or_blank m (field_list (fields_view items.new.items))
+        ≡ field_or_blank m (field_list (fields_view items.old.items)) }
 {
     for (other, value) in items.iter_mut() {
         if other.is(name) {

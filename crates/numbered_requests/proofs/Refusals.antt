@@ -4,8 +4,8 @@ use Rattle.std.specs.Fmt.{digits}
 use Rattle.serde_json.proofs.OnLiterals.{serde_json_on_literals}
 use Rattle.app_wire.specs.ReplyBytes.{refusal, refusal_body, reply}
 use Rattle.view_text.specs.RefusalText.{refusal_text}
-use Rattle.view_text.specs.Refusals.{status_of}
-use Rattle.numbered_requests.specs.Replies.{is_plain, plain, refusal_reply}
+use Rattle.view_text.specs.Refusals.{refusal_status}
+use Rattle.numbered_requests.specs.Replies.{is_plain_refusal, plain, refusal_reply}
 
 plain_9 : refusal_text (plain 9) ≡ refusal_body 9
 unfolding serde_json_on_literals digits
@@ -67,7 +67,7 @@ either true b C f g e = f refl
 either false b C f g e = g e
 
 -- the body of a refusal without a detail, as JSON
-pub plain_body : (code : ℕ) → is_plain code ≡ true → refusal_text (plain code) ≡ refusal_body code
+pub plain_body : (code : ℕ) → is_plain_refusal code ≡ true → refusal_text (plain code) ≡ refusal_body code
 plain_body code = either ((code == 9) || (code == 10) || (code == 11) || (code == 12) || (code == 14) || (code == 15) || (code == 16) || (code == 17) || (code == 18) || (code == 20) || (code == 21)) (code == 22) C
     (either ((code == 9) || (code == 10) || (code == 11) || (code == 12) || (code == 14) || (code == 15) || (code == 16) || (code == 17) || (code == 18) || (code == 20)) (code == 21) C
     (either ((code == 9) || (code == 10) || (code == 11) || (code == 12) || (code == 14) || (code == 15) || (code == 16) || (code == 17) || (code == 18)) (code == 20) C
@@ -95,6 +95,6 @@ plain_body code = either ((code == 9) || (code == 10) || (code == 11) || (code =
     C : Type 0
     C = refusal_text (plain code) ≡ refusal_body code
 
-pub plain_reply : (code : ℕ) → is_plain code ≡ true → refusal_reply (plain code) ≡ refusal code
+pub plain_reply : (code : ℕ) → is_plain_refusal code ≡ true → refusal_reply (plain code) ≡ refusal code
 unfolding refusal
-plain_reply code e = ap (reply (status_of code)) (plain_body code e)
+plain_reply code e = ap (reply (refusal_status code)) (plain_body code e)

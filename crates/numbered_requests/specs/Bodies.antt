@@ -3,7 +3,7 @@ use Rattle.std.specs.Prelude.{ℕ, ◌==◌, List, codes, Option, None, option_a
 use Rattle.std.specs.Str.{is_utf8}
 use Rattle.serde_json.specs.Data as json
 use Rattle.serde_json.specs.Read.{read}
-use Rattle.numbered_requests.specs.GivenValues.{member_count, number_at, text_at}
+use Rattle.numbered_requests.specs.GivenValues.{member_count, member_number, member_text}
 use Rattle.numbered_requests.specs.declared.edit.Edit.{Edit}
 
 -- the JSON that a body is, where it is one: a text in UTF-8, nested at most 127 deep
@@ -13,5 +13,5 @@ json_of body = if is_utf8 body then read body else None
 -- `{"seq":..,"cell":..,"text":..}`
 abbrev pub edit_in : json.Data → Option Edit
 edit_in d =
-    if member_count d == 3 then option_and_then (λ seq. option_and_then (λ cell. option_map (λ text. record { seq = seq; cell = cell; text = text }) (text_at (codes "text") d)) (text_at (codes "cell") d)) (number_at (codes "seq") d)
+    if member_count d == 3 then option_and_then (λ seq. option_and_then (λ cell. option_map (λ text. record { seq = seq; cell = cell; text = text }) (member_text (codes "text") d)) (member_text (codes "cell") d)) (member_number (codes "seq") d)
     else None

@@ -1,9 +1,9 @@
 -- What the checks of the program say.
 use Rattle.std.specs.Prelude.{◌≡◌, ℕ, ◌≤◌, List, Result, Ok, Err}
 use Rattle.std.specs.List.{AllByRecursion}
-use Rattle.session_state.specs.Once.{Kept}
+use Rattle.session_state.specs.Once.{LastRequest}
 use Rattle.session_state.specs.Sessions.{SessionState}
-use Rattle.numbered_requests.specs.Replies.{IsAccepted, IsReply, said}
+use Rattle.numbered_requests.specs.Replies.{IsAcceptedReply, IsReply, said}
 use Rattle.numbered_requests.specs.declared.checks.Checked.{Checked}
 use Rattle.numbered_requests.specs.declared.checks.Checked.TheVariants.{Acts, Says}
 use Rattle.numbered_requests.specs.declared.directory.Named.{Named}
@@ -14,13 +14,13 @@ IsChecked r (Acts asked) = r ≡ Ok asked
 IsChecked r (Says reply) = r ≡ Err (said reply)
 
 -- what is asked for is so, and a reply is one
-abbrev pub IsSound : {B : Type 0} → (B → Type 0) → Checked B → Type 0
-IsSound sound (Acts asked) = sound asked
-IsSound sound (Says reply) = IsReply reply
+abbrev pub IsSoundCheck : {B : Type 0} → (B → Type 0) → Checked B → Type 0
+IsSoundCheck sound (Acts asked) = sound asked
+IsSoundCheck sound (Says reply) = IsReply reply
 
 -- what is kept of a caller of which a request was accepted is its reply
-abbrev pub KeepsReply : Kept → Type 0
-KeepsReply k = 1 ≤ k.last → IsAccepted k.reply
+abbrev pub KeepsReply : LastRequest → Type 0
+KeepsReply k = 1 ≤ k.last → IsAcceptedReply k.reply
 
 -- so it is with each session
 abbrev pub SessionsKeepReplies : List (Named SessionState) → Type 0

@@ -1,14 +1,14 @@
 -- The checks that a numbered request passes before it acts, in their order. The first that breaks is the reply.
 use Rattle.std.specs.Prelude.{◌≡◌, ℕ, Bool, false, nat_le, if◌then◌else◌, List, length, Option, Some, None, unwrap_or, Result, Ok, Err}
 use Rattle.serde_json.specs.Data as json
-use Rattle.session_state.specs.Once.{Kept, nobody, turn_of}
+use Rattle.session_state.specs.Once.{LastRequest, nobody, turn_of}
 use Rattle.session_state.specs.Sessions.{SessionState}
 use Rattle.session_state.specs.declared.turn.Turn.{Turn}
 use Rattle.session_state.specs.declared.turn.Turn.TheVariants.{New, Again, Reused, OutOfStep}
 use Rattle.view_text.specs.declared.refused.Detail.TheVariants as detail
 use Rattle.view_text.specs.declared.refused.Refusal.{Refusal}
 use Rattle.numbered_requests.specs.Bodies.{json_of}
-use Rattle.numbered_requests.specs.Directory.{find, is_among}
+use Rattle.numbered_requests.specs.Directory.{find, is_in_directory}
 use Rattle.numbered_requests.specs.Replies.{plain, refusal_reply}
 use Rattle.numbered_requests.specs.declared.directory.Named.{Named}
 
@@ -23,7 +23,7 @@ turn_reply Again kept = Some kept
 turn_reply Reused kept = Some (refusal_reply (plain 14))
 turn_reply (OutOfStep last) kept = Some (refusal_reply (out_of_step last))
 
-abbrev pub number_reply : Kept → ℕ → List ℕ → Option (List ℕ)
+abbrev pub number_reply : LastRequest → ℕ → List ℕ → Option (List ℕ)
 number_reply k seq body = turn_reply (turn_of k seq body) k.reply
 
 -- what is asked for, unless there is a reply already
@@ -32,9 +32,9 @@ unless_said None it = Ok it
 unless_said (Some said) it = Err said
 
 -- the caller, which may be none (11) or one too many (12), and the number
-abbrev pub numbered : {T : Type 0} → (T → ℕ) → Result Kept ℕ → List ℕ → T → Result T (List ℕ)
-numbered number (Err code) body it = Err (refusal_reply (plain code))
-numbered number (Ok k) body it = unless_said (number_reply k (number it) body) it
+abbrev pub number_checked : {T : Type 0} → (T → ℕ) → Result LastRequest ℕ → List ℕ → T → Result T (List ℕ)
+number_checked number (Err code) body it = Err (refusal_reply (plain code))
+number_checked number (Ok k) body it = unless_said (number_reply k (number it) body) it
 
 -- what has the shape (10)
 abbrev pub shaped : {T : Type 0} → Option T → Result T (List ℕ)
@@ -47,12 +47,12 @@ worded asked None = Err (refusal_reply (plain 9))
 worded asked (Some d) = shaped (asked d)
 
 -- and then the caller and its number
-abbrev pub then_numbered : {T : Type 0} → (T → ℕ) → Result Kept ℕ → List ℕ → Result T (List ℕ) → Result T (List ℕ)
-then_numbered number caller body (Ok it) = numbered number caller body it
+abbrev pub then_numbered : {T : Type 0} → (T → ℕ) → Result LastRequest ℕ → List ℕ → Result T (List ℕ) → Result T (List ℕ)
+then_numbered number caller body (Ok it) = number_checked number caller body it
 then_numbered number caller body (Err said) = Err said
 
 -- THE checks: JSON (9), its shape (10), the caller (11 or 12), and its number (13, 14, or the kept reply)
-abbrev pub checks : {T : Type 0} → (json.Data → Option T) → (T → ℕ) → Result Kept ℕ → List ℕ → Result T (List ℕ)
+abbrev pub checks : {T : Type 0} → (json.Data → Option T) → (T → ℕ) → Result LastRequest ℕ → List ℕ → Result T (List ℕ)
 checks asked number caller body = then_numbered number caller body (worded asked (json_of body))
 
 -- ---- callers
@@ -62,29 +62,29 @@ abbrev pub most_desks : ℕ
 most_desks = 64
 
 -- a new desk has no room
-abbrev pub is_full : List ℕ → List (Named Kept) → Bool
-is_full name desks = if is_among name desks then false else nat_le most_desks (length desks)
+abbrev pub is_directory_full : List ℕ → List (Named LastRequest) → Bool
+is_directory_full name desks = if is_in_directory name desks then false else nat_le most_desks (length desks)
 
 -- what is kept of a desk; of a new one nothing
-abbrev pub kept_of : List ℕ → List (Named Kept) → Kept
+abbrev pub kept_of : List ℕ → List (Named LastRequest) → LastRequest
 kept_of name desks = unwrap_or (find name desks) nobody
 
 -- what is kept of a desk, where it isn't one too many
-abbrev pub desk_of : List ℕ → List (Named Kept) → Result Kept ℕ
-desk_of name desks = if is_full name desks then Err 12 else Ok (kept_of name desks)
+abbrev pub desk_of : List ℕ → List (Named LastRequest) → Result LastRequest ℕ
+desk_of name desks = if is_directory_full name desks then Err 12 else Ok (kept_of name desks)
 
 -- what is kept of a session, where it is live
-abbrev pub if_live : Option SessionState → Result Kept ℕ
+abbrev pub if_live : Option SessionState → Result LastRequest ℕ
 if_live None = Err 11
 if_live (Some s) = Ok s.kept
 
-abbrev pub session_of : List ℕ → List (Named SessionState) → Result Kept ℕ
+abbrev pub session_of : List ℕ → List (Named SessionState) → Result LastRequest ℕ
 session_of name sessions = if_live (find name sessions)
 
 -- ---- the last request once more
 
 -- what is kept is the body of such a request, under the last number
-pub record IsLastAsked (T : Type 0) (asked : json.Data → Option T) (number : T → ℕ) (k : Kept) : Type 0 where
+pub record IsLastAsked (T : Type 0) (asked : json.Data → Option T) (number : T → ℕ) (k : LastRequest) : Type 0 where
   pub value : json.Data
   pub is_json : json_of k.body ≡ Some value
   pub it : T

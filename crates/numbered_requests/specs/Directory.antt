@@ -6,8 +6,8 @@ use Rattle.numbered_requests.specs.declared.directory.Named.{Named}
 abbrev pub is_named : {T : Type 0} → List ℕ → Named T → Bool
 is_named name n = bytes_eq n.name name
 
-abbrev pub is_among : {T : Type 0} → List ℕ → List (Named T) → Bool
-is_among name list = is_some (position (is_named name) list)
+abbrev pub is_in_directory : {T : Type 0} → List ℕ → List (Named T) → Bool
+is_in_directory name list = is_some (position (is_named name) list)
 
 -- the thing at a place
 abbrev pub it_at : {T : Type 0} → Option ℕ → List (Named T) → Option T
@@ -24,5 +24,5 @@ put_at (Some k) x list = slice_set list k x
 put_at None x list = list ++ x ∷ []
 
 -- with this thing under its name
-abbrev pub put : {T : Type 0} → List ℕ → T → List (Named T) → List (Named T)
-put name it list = put_at (position (is_named name) list) (record { name = name; it = it }) list
+abbrev pub put_named : {T : Type 0} → List ℕ → T → List (Named T) → List (Named T)
+put_named name it list = put_at (position (is_named name) list) (record { name = name; it = it }) list

@@ -15,16 +15,16 @@ use Rattle.fx_types.specs.DateText.{date_text}
 -- ---- values
 
 -- a count of ten-thousandths, where it is one of a number
-abbrev pub in_range : ℤ → Option ℤ
-in_range z = if int_le (neg_ℤ (pos greatest)) z && int_le z (pos greatest) then Some z else None
+abbrev pub units_in_range : ℤ → Option ℤ
+units_in_range z = if int_le (neg_ℤ (pos greatest)) z && int_le z (pos greatest) then Some z else None
 
 -- the number that a JSON number is: a whole one in range
 abbrev pub whole_number : json.Num → Option ℤ
-whole_number n = option_and_then (λ z. in_range (z *ℤ pos 10000)) (as_i64 n)
+whole_number n = option_and_then (λ z. units_in_range (z *ℤ pos 10000)) (as_i64 n)
 
 -- the number that a text spells
 abbrev pub spelled_number : List ℕ → Option ℤ
-spelled_number s = option_and_then in_range (spelled s)
+spelled_number s = option_and_then units_in_range (spelled s)
 
 -- the number that digits are, whatever bytes they are
 abbrev pub digits_of : List ℕ → ℕ
@@ -72,14 +72,14 @@ member_count d = 0
 abbrev pub bytes_at : List ℕ → json.Data → Option (List ℕ)
 bytes_at key d = option_and_then as_str (get key d)
 
-abbrev pub text_at : List ℕ → json.Data → Option (List ℕ)
-text_at key d = option_map scalars_of (bytes_at key d)
+abbrev pub member_text : List ℕ → json.Data → Option (List ℕ)
+member_text key d = option_map scalars_of (bytes_at key d)
 
 abbrev pub if_counted : ℕ → Option ℕ
 if_counted n = if nat_le 1 n && nat_le n 4294967295 then Some n else None
 
-abbrev pub number_at : List ℕ → json.Data → Option ℕ
-number_at key d = option_and_then if_counted (option_and_then as_u64 (option_and_then as_number (get key d)))
+abbrev pub member_number : List ℕ → json.Data → Option ℕ
+member_number key d = option_and_then if_counted (option_and_then as_u64 (option_and_then as_number (get key d)))
 
 abbrev pub items_at : List ℕ → json.Data → Option json.Items
 items_at key d = option_and_then as_array (get key d)

@@ -3,10 +3,10 @@ use Rattle.std.specs.Prelude.{◌≡◌, ℕ, ◌==◌, ◌||◌, Bool, List, Op
 use Rattle.std.specs.List.{AllByRecursion}
 use Rattle.app_wire.specs.ReplyBytes.{is_fixed, refusal, reply}
 use Rattle.view_text.specs.RefusalText.{refusal_text}
-use Rattle.view_text.specs.Refusals.{status_of}
+use Rattle.view_text.specs.Refusals.{refusal_status}
 use Rattle.view_text.specs.declared.refused.Detail.TheVariants as detail
 use Rattle.view_text.specs.declared.refused.Refusal.{Refusal}
-use Rattle.session_state.specs.Once.{Kept}
+use Rattle.session_state.specs.Once.{LastRequest}
 use Rattle.numbered_requests.specs.declared.directory.Named.{Named}
 use Rattle.numbered_requests.specs.declared.reply.Reply.{Reply}
 
@@ -30,18 +30,18 @@ plain code = record { code = code; detail = detail.None }
 
 -- the whole reply of a refusal
 abbrev pub refusal_reply : Refusal → List ℕ
-refusal_reply r = reply (status_of r.code) (refusal_text r)
+refusal_reply r = reply (refusal_status r.code) (refusal_text r)
 
 -- the refusals that have no detail and whose replies take memory
-abbrev pub is_plain : ℕ → Bool
-is_plain code =
+abbrev pub is_plain_refusal : ℕ → Bool
+is_plain_refusal code =
     (code == 9) || (code == 10) || (code == 11) || (code == 12) || (code == 14) || (code == 15) || (code == 16) || (code == 17)
     || (code == 18) || (code == 20) || (code == 21) || (code == 22)
 
 -- the whole reply of an accepted request
-abbrev pub IsAccepted : List ℕ → Type 0
-IsAccepted bytes = (body : List ℕ) × (bytes ≡ reply 200 body)
+abbrev pub IsAcceptedReply : List ℕ → Type 0
+IsAcceptedReply bytes = (body : List ℕ) × (bytes ≡ reply 200 body)
 
 -- what is kept of each desk has such a reply
-abbrev pub KeepReplies : List (Named Kept) → Type 0
-KeepReplies desks = AllByRecursion (λ (n : Named Kept). IsAccepted n.it.reply) desks
+abbrev pub KeepReplies : List (Named LastRequest) → Type 0
+KeepReplies desks = AllByRecursion (λ (n : Named LastRequest). IsAcceptedReply n.it.reply) desks

@@ -2,10 +2,10 @@
 ghost use Rattle.std.specs.Prelude.{◌≡◌, ◌≤◌, Err, IfOk, IfSome, IsTrue, Some, option_map};
 ghost use Rattle.serde_json.specs.View.{view as json_view};
 ghost use Rattle.view_text.specs.RefusalText.{Fits};
-ghost use Rattle.numbered_requests.specs.Checked.{IsChecked, IsSound, KeepsReply, SessionsKeepReplies};
+ghost use Rattle.numbered_requests.specs.Checked.{IsChecked, IsSoundCheck, KeepsReply, SessionsKeepReplies};
 ghost use Rattle.numbered_requests.specs.Bodies.{json_of as json_in_body};
-ghost use Rattle.numbered_requests.specs.Checks.{checks, desk_of, is_full as is_full_of, kept_of, number_reply as number_reply_of, numbered, session_of, shaped, turn_reply as turn_reply_of, unless_said as unless_said_of, worded};
-ghost use Rattle.numbered_requests.specs.Replies.{IsAccepted, IsReply, KeepReplies, is_plain, plain, refusal_reply, said};
+ghost use Rattle.numbered_requests.specs.Checks.{checks, desk_of, is_directory_full as is_full_of, kept_of, number_reply as number_reply_of, number_checked, session_of, shaped, turn_reply as turn_reply_of, unless_said as unless_said_of, worded};
+ghost use Rattle.numbered_requests.specs.Replies.{IsAcceptedReply, IsReply, KeepReplies, is_plain_refusal, plain, refusal_reply, said};
 
 use crate::body::{Body, json_of};
 use crate::directory::{Named, is_among, place_of};
@@ -40,9 +40,9 @@ fn refusal(alloc: Global, code: u8, detail: Detail) -> Result<Reply, Memory>
 
 /// A refusal without a detail, as what the checks say.
 fn refuse<B: Body>(alloc: Global, code: u8) -> Result<Checked<B>, Memory>
-    requires { IsTrue (is_plain code) }
+    requires { IsTrue (is_plain_refusal code) }
     ensures is { IfOk result (IsChecked (Err (refusal_reply (plain code)))) }
-    ensures sound { IfOk result (IsSound B.sound) }
+    ensures sound { IfOk result (IsSoundCheck B.sound) }
 {
     Ok(Checked::Says(refusal(alloc, code, Detail::None)?))
 }
@@ -60,7 +60,7 @@ fn is_full(desks: &[Named<Desk>], name: &Words) -> bool
 
 /// The reply that a number calls for, where it isn't new.
 fn turn_reply(alloc: Global, turn: Turn, kept: &[u8]) -> Result<Option<Reply>, Memory>
-    requires { turn ≡ Turn.Again → IsAccepted kept.now }
+    requires { turn ≡ Turn.Again → IsAcceptedReply kept.now }
     ensures said { IfOk result (λ r. option_map said r ≡ turn_reply_of turn kept.now) }
     ensures whole { IfOk result (λ r. IfSome r IsReply) }
 {
@@ -117,7 +117,7 @@ fn unless_said<B: Body>(reply: Option<Reply>, asked: B) -> Checked<B>
     requires sound { B.sound asked }
     requires whole { IfSome reply IsReply }
     ensures is { IsChecked (unless_said_of (option_map said reply) asked) result }
-    ensures sound { IsSound B.sound result }
+    ensures sound { IsSoundCheck B.sound result }
 {
     match reply {
         Some(reply) => Checked::Says(reply),
@@ -135,8 +135,8 @@ fn check_desk_number<B: Body>(
 ) -> Result<Checked<B>, Memory>
     requires sound { B.sound asked }
     requires kept { KeepReplies desks.now }
-    ensures is { IfOk result (IsChecked (numbered B.number (desk_of name.now desks.now) body.now asked)) }
-    ensures sound { IfOk result (IsSound B.sound) }
+    ensures is { IfOk result (IsChecked (number_checked B.number (desk_of name.now desks.now) body.now asked)) }
+    ensures sound { IfOk result (IsSoundCheck B.sound) }
 {
     if is_full(desks, name) {
         return refuse(alloc, 12);
@@ -155,8 +155,8 @@ fn check_session_number<B: Body>(
 ) -> Result<Checked<B>, Memory>
     requires sound { B.sound asked }
     requires kept { SessionsKeepReplies sessions.now }
-    ensures is { IfOk result (IsChecked (numbered B.number (session_of name.now sessions.now) body.now asked)) }
-    ensures sound { IfOk result (IsSound B.sound) }
+    ensures is { IfOk result (IsChecked (number_checked B.number (session_of name.now sessions.now) body.now asked)) }
+    ensures sound { IfOk result (IsSoundCheck B.sound) }
 {
     match place_of(sessions, name) {
         Some(place) => {
@@ -170,7 +170,7 @@ fn check_session_number<B: Body>(
 /// Checks the shape of JSON.
 fn check_shape<B: Body>(alloc: Global, json: &Json) -> Result<Checked<B>, Memory>
     ensures is { IfOk result (IsChecked (shaped (B.asked (json_view json.now)))) }
-    ensures sound { IfOk result (IsSound B.sound) }
+    ensures sound { IfOk result (IsSoundCheck B.sound) }
 {
     match B::read(alloc, json)? {
         Some(asked) => Ok(Checked::Acts(asked)),
@@ -181,7 +181,7 @@ fn check_shape<B: Body>(alloc: Global, json: &Json) -> Result<Checked<B>, Memory
 /// Checks what a body asks for.
 fn check_body<B: Body>(alloc: Global, body: &[u8]) -> Result<Checked<B>, Memory>
     ensures is { IfOk result (IsChecked (worded B.asked (json_in_body body.now))) }
-    ensures sound { IfOk result (IsSound B.sound) }
+    ensures sound { IfOk result (IsSoundCheck B.sound) }
 {
     match json_of(alloc, body)? {
         Some(json) => check_shape(alloc, &json),
@@ -199,7 +199,7 @@ pub fn check_desk<B: Body>(
 ) -> Result<Checked<B>, Memory>
     requires { KeepReplies desks.now }
     ensures is { IfOk result (IsChecked (checks B.asked B.number (desk_of name.now desks.now) body.now)) }
-    ensures sound { IfOk result (IsSound B.sound) }
+    ensures sound { IfOk result (IsSoundCheck B.sound) }
 {
     match check_body(alloc, body)? {
         Checked::Acts(asked) => check_desk_number(alloc, desks, name, body, asked),
@@ -217,7 +217,7 @@ pub fn check_session<B: Body>(
 ) -> Result<Checked<B>, Memory>
     requires { SessionsKeepReplies sessions.now }
     ensures is { IfOk result (IsChecked (checks B.asked B.number (session_of name.now sessions.now) body.now)) }
-    ensures sound { IfOk result (IsSound B.sound) }
+    ensures sound { IfOk result (IsSoundCheck B.sound) }
 {
     match check_body(alloc, body)? {
         Checked::Acts(asked) => check_session_number(alloc, sessions, name, body, asked),

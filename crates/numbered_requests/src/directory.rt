@@ -1,7 +1,7 @@
 //! Things by their names.
 ghost use Rattle.std.specs.Prelude.{◌≡◌, ◌<◌, IfSome, length, vec_capacity, vec_len};
 ghost use Rattle.std.specs.List.{position};
-ghost use Rattle.numbered_requests.specs.Directory.{is_among as is_among_of, is_named, put as put_into};
+ghost use Rattle.numbered_requests.specs.Directory.{is_in_directory as is_among_of, is_named, put_named as put_into};
 
 use fx_types::Words;
 

@@ -1,8 +1,8 @@
 //! Replies.
 ghost use Rattle.std.specs.Prelude.{◌≡◌, IfOk, IsTrue};
-ghost use Rattle.view_text.specs.Refusals.{status_of};
+ghost use Rattle.view_text.specs.Refusals.{refusal_status};
 ghost use Rattle.app_wire.specs.ReplyBytes.{is_fixed, refusal, reply};
-ghost use Rattle.numbered_requests.specs.Replies.{IsAccepted, IsReply, is_plain, refusal_reply, said};
+ghost use Rattle.numbered_requests.specs.Replies.{IsAcceptedReply, IsReply, is_plain_refusal, refusal_reply, said};
 ghost use Rattle.view_text.specs.RefusalText.{Fits};
 
 use app_wire::reply::{fixed_reply, reply_bytes};
@@ -57,7 +57,7 @@ impl Reply {
     /// A refusal whose reply takes no memory.
     pub fn fixed_refusal(alloc: Global, code: u8, status: u16) -> Reply
         requires fixed { IsTrue (is_fixed code) }
-        requires status { status ≡ status_of code }
+        requires status { status ≡ refusal_status code }
         ensures said { said result ≡ refusal code }
         ensures whole { IsReply result }
     {
@@ -70,7 +70,7 @@ impl Reply {
 
     /// A refusal without a detail whose reply takes memory.
     pub fn refuse_plain(alloc: Global, code: u8) -> Result<Reply, Memory>
-        requires { IsTrue (is_plain code) }
+        requires { IsTrue (is_plain_refusal code) }
         ensures said { IfOk result (λ r. said r ≡ refusal code) }
         ensures whole { IfOk result IsReply }
     {
@@ -96,7 +96,7 @@ impl Reply {
 
     /// The reply of an accepted request once more.
     pub fn repeat(alloc: Global, kept: &[u8]) -> Result<Reply, Memory>
-        requires { IsAccepted kept.now }
+        requires { IsAcceptedReply kept.now }
         ensures said { IfOk result (λ r. said r ≡ kept.now) }
         ensures whole { IfOk result IsReply }
     {

@@ -6,7 +6,7 @@ ghost use Rattle.serde_json.specs.View.{items_view, members_view, view as json_v
 ghost use Rattle.serde_json.specs.declared.number.Number.{Number as JsonNumber};
 ghost use Rattle.serde_json.specs.View.{number_view};
 ghost use Rattle.fx_types.specs.ValueView.{view};
-ghost use Rattle.numbered_requests.specs.GivenValues.{items_at as items_at_key, member_count as member_count_of, member_value as member_value_of, members_at as members_at_key, number_at as number_at_key, spelled_day, spelled_number as spelled_number_of, tagged_value as tagged_value_of, text_at as text_at_key, value_in as value_in_json, whole_number as whole_number_of};
+ghost use Rattle.numbered_requests.specs.GivenValues.{items_at as items_at_key, member_count as member_count_of, member_value as member_value_of, members_at as members_at_key, member_number as number_at_key, spelled_day, spelled_number as spelled_number_of, tagged_value as tagged_value_of, member_text as text_at_key, value_in as value_in_json, whole_number as whole_number_of};
 
 use fx_base::Memory;
 use fx_number::{Num, spelling_laws};

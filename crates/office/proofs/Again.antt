@@ -1,7 +1,7 @@
 -- Posted requests that come again.
 use Rattle.serde_json.specs.Data as json
 use Rattle.std.proofs.Common.{◌≡◌, ◌≢◌, ◌⊎◌, inl, inr, ℕ, List, Option, None, Some, Result, Ok, Err, refl, ap, sym, ◌∙◌, subst}
-use Rattle.fx_base.specs.Silence.{IsLost, Marks}
+use Rattle.fx_base.specs.Silence.{SilenceCause, Marks}
 use Rattle.fx_core.specs.declared.schema.TableShape.{TableShape}
 use Rattle.row_keeper.specs.Tables.{Tables}
 use Rattle.app_wire.specs.Framing.{Asked}
@@ -14,32 +14,32 @@ use Rattle.session_requests.specs.declared.trigger.Trigger.{Trigger}
 use Rattle.session_requests.specs.declared.trigger.Trigger.TheVariants.{OnSelect}
 use Rattle.app_wire.specs.declared.route.Route.{Route}
 use Rattle.app_wire.specs.declared.route.Route.TheVariants.{Begin, End, View, Named as Shown, Items, Event, Input, Rows, Edit, Page, Plan, Graph}
-use Rattle.session_state.specs.Once.{Kept}
+use Rattle.session_state.specs.Once.{LastRequest}
 use Rattle.row_requests.specs.Bodies.{posted_in}
 use Rattle.numbered_requests.specs.Checks.{IsLastAsked, checks, desk_of, if_live, session_of}
 use Rattle.session_state.specs.Sessions.{SessionState}
-use Rattle.session_requests.specs.Acting.{EndsEvent, EndsInput, TakesEffect, answered, input_trigger, item_seen, with_input, with_target}
+use Rattle.session_requests.specs.Acting.{EndsEvent, EndsInput, TakesEffect, session_answered, input_trigger, item_seen, with_input, with_target}
 use Rattle.session_requests.specs.Bodies.{event_in, input_in}
 use Rattle.session_requests.specs.Laws as laws
 use Rattle.session_requests.specs.Posting.{PostsEvent, PostsEventChecked, PostsInput, PostsInputChecked}
-use Rattle.session_requests.specs.Targets.{Given as Value, input_target}
+use Rattle.session_requests.specs.Targets.{InputValue as Value, input_target}
 use Rattle.session_requests.specs.declared.target.Target.{Target}
 use Rattle.session_requests.specs.declared.event.Event.{Event as Sent}
 use Rattle.session_requests.specs.declared.input.Input.{Input as Given}
-use Rattle.office.specs.DeskEdits.{Ends as Edited, Parts, PostsChecked as EditChecked, PostsEdit, accepted_reply as edit_reply, edit_checks}
+use Rattle.office.specs.DeskEdits.{EditEnds as Edited, Parts, EditsChecked as EditChecked, PostsEdit, accepted_edit_reply as edit_reply, edit_checks}
 use Rattle.fx_core.specs.declared.broken.Broken.{Broken}
 use Rattle.numbered_requests.specs.Bodies.{edit_in}
 use Rattle.numbered_requests.specs.declared.edit.Edit.{Edit as Change}
 use Rattle.view_text.specs.declared.refused.Refusal.{Refusal}
-use Rattle.row_requests.specs.DeskRows.{Outcome, PostsChecked, PostsRows, accepted_reply, desk_checks, desks_after, outcome_reply}
+use Rattle.row_requests.specs.DeskRows.{ChangesOutcome, PostsChecked, PostsRows, accepted_rows_reply, desk_checks, desks_after, outcome_reply}
 use Rattle.numbered_requests.specs.Directory.{find}
-use Rattle.row_requests.specs.Laws.{IsLast}
+use Rattle.row_requests.specs.Laws.{IsLastPost}
 use Rattle.row_requests.specs.declared.bodies.Posted.{Posted}
 use Rattle.numbered_requests.specs.declared.directory.Named.{Named}
 use Rattle.office.specs.Answers.{Exchange, Plays}
-use Rattle.office.specs.Isolation.{AreOfOthers, Caller, IsOf, caller_of, desk, kept_of, kept_of_session, session}
-use Rattle.office.specs.State.{State, schema_of}
-use Rattle.office.specs.Step.{Answered, Does, Left, Reaches, parts_of}
+use Rattle.office.specs.Isolation.{AreOfOthers, Caller, IsOf, caller_of, desk, last_request_of, kept_of_session, session}
+use Rattle.office.specs.State.{OfficeState, schema_of}
+use Rattle.office.specs.Step.{AnswersRequest, RouteStep, Left, PassesChecks, office_parts}
 use Rattle.office.proofs.Repeats.{acts_once as edits_again}
 use Rattle.row_requests.proofs.Again.{checks_again}
 use Rattle.numbered_requests.proofs.Again.{Asks, comes_again, passed}
@@ -48,24 +48,24 @@ use Rattle.office.proofs.Isolation.{does_of, plays_keep_session, plays_leave_des
 use Rattle.office.proofs.StepLemmas.{left_all}
 
 -- it is the last of its desk, and what was said is kept
-pub record IsKept (desks : List (Named Kept)) (name body said : List ℕ) : Type 0 where
-  pub kept : Kept
-  pub last : IsLast desks name kept
+pub record IsKept (desks : List (Named LastRequest)) (name body said : List ℕ) : Type 0 where
+  pub kept : LastRequest
+  pub last : IsLastPost desks name kept
   pub body_is : kept.body ≡ body
   pub reply_is : kept.reply ≡ said
 
-pub accepted : (lost : Type 0) (shapes : List TableShape) (name body : List ℕ) (tables tables' : Option Tables) (desks desks' : List (Named Kept)) (said : List ℕ)
+pub accepted : (lost : Type 0) (shapes : List TableShape) (name body : List ℕ) (tables tables' : Option Tables) (desks desks' : List (Named LastRequest)) (said : List ℕ)
     → PostsRows lost shapes name body tables desks said tables' desks' → find name desks' ≢ find name desks → IsKept desks' name body said
 accepted lost shapes name body tables tables' desks desks' said h differ = by (desk_checks desks name body) refl h
   where
-    kept : (p : Posted) → desk_checks desks name body ≡ Ok p → (o : Outcome) → desks' ≡ desks_after name body p.seq o desks → said ≡ outcome_reply p.seq o → IsKept desks' name body said
+    kept : (p : Posted) → desk_checks desks name body ≡ Ok p → (o : ChangesOutcome) → desks' ≡ desks_after name body p.seq o desks → said ≡ outcome_reply p.seq o → IsKept desks' name body said
     kept p e (Err r) are replied = absurd (differ (ap (find name) are))
     kept p e (Ok ids) are replied =
-        let k : Kept = record { last = p.seq; body = body; reply = accepted_reply p.seq ids } in
+        let k : LastRequest = record { last = p.seq; body = body; reply = accepted_rows_reply p.seq ids } in
         let d = passed Posted posted_in (λ (q : Posted). q.seq) (desk_of name desks) body p e in
         record {
           kept = k;
-          last = record { found = ap (find name) are ∙ find_put Kept name k desks; value = d.value; is_json = d.is_json; posted = p; shape = d.shape; number = refl };
+          last = record { found = ap (find name) are ∙ find_put LastRequest name k desks; value = d.value; is_json = d.is_json; posted = p; shape = d.shape; number = refl };
           body_is = refl;
           reply_is = sym replied;
         }
@@ -98,8 +98,8 @@ same_kept name xs ys e = ap (λ (l : List (Named SessionState)). kept_of_session
 effect_kept : (lost : Type 0) (T : Type 0) (asked : json.Data → Option T) (number : T → ℕ) (app : App) (moment : ℕ) (trigger : Trigger) (item : Option Data) (name body said : List ℕ) (it : T) (s : SessionState)
     (told told' : Option Tables) (xs ys : List (Named SessionState)) → Asks T asked body it → TakesEffect lost app moment trigger item name body (number it) s told xs said told' ys → IsKeptOf T asked number ys name body said
 effect_kept lost T asked number app moment trigger item name body said it s told told' xs ys asks h = record {
-  state = answered (number it) body said h.end;
-  found = ap (find name) h.kept ∙ find_put SessionState name (answered (number it) body said h.end) xs;
+  state = session_answered (number it) body said h.end;
+  found = ap (find name) h.kept ∙ find_put SessionState name (session_answered (number it) body said h.end) xs;
   last = record { value = asks.value; is_json = asks.is_json; it = it; shape = asks.shape; last = refl };
   body_is = refl;
   reply_is = refl;
@@ -139,8 +139,8 @@ abbrev edit_number : Change → ℕ
 edit_number e = e.seq
 
 -- the last request that was accepted of a desk is an edit, and what was said is kept
-pub record IsKeptEdit (desks : List (Named Kept)) (name body said : List ℕ) : Type 0 where
-  pub kept : Kept
+pub record IsKeptEdit (desks : List (Named LastRequest)) (name body said : List ℕ) : Type 0 where
+  pub kept : LastRequest
   pub found : find name desks ≡ Some kept
   pub last : IsLastAsked Change edit_in edit_number kept
   pub body_is : kept.body ≡ body
@@ -153,11 +153,11 @@ edit_kept name body said p p' h differ = by (edit_checks p.desks name body) refl
     ended : (it : Change) → edit_checks p.desks name body ≡ Ok it → (v : Result App (List Broken)) → Edited name body it.seq v p said p' → IsKeptEdit p'.desks name body said
     ended it e (Err bs) k = absurd (differ (ap (λ (x : Parts). find name x.desks) k.1))
     ended it e (Ok b) k =
-        let kept : Kept = record { last = it.seq; body = body; reply = edit_reply it.seq } in
+        let kept : LastRequest = record { last = it.seq; body = body; reply = edit_reply it.seq } in
         let asks = passed Change edit_in edit_number (desk_of name p.desks) body it e in
         record {
           kept = kept;
-          found = ap (λ (x : Parts). find name x.desks) k.1 ∙ find_put Kept name kept p.desks;
+          found = ap (λ (x : Parts). find name x.desks) k.1 ∙ find_put LastRequest name kept p.desks;
           last = record { value = asks.value; is_json = asks.is_json; it = it; shape = asks.shape; last = refl };
           body_is = refl;
           reply_is = sym k.0;
@@ -170,34 +170,34 @@ edit_kept name body said p p' h differ = by (edit_checks p.desks name body) refl
 -- ---- the last request of a caller
 
 -- it came by this route, with this body, and this was said
-data IsLastOf : Caller → Route → State → List ℕ → List ℕ → Type 0 where
-  rows : (name body said : List ℕ) (s : State) → IsKept s.desks name body said → IsLastOf (desk name) (Rows name) s body said
-  event : (name body said : List ℕ) (s : State) → IsKeptOf Sent event_in event_number s.sessions name body said → IsLastOf (session name) (Event name) s body said
-  edit : (name body said : List ℕ) (s : State) → IsKeptEdit s.desks name body said → IsLastOf (desk name) (Edit name) s body said
-  input : (name body said : List ℕ) (s : State) → IsKeptOf Given input_in input_number s.sessions name body said → IsLastOf (session name) (Input name) s body said
+data IsLastOf : Caller → Route → OfficeState → List ℕ → List ℕ → Type 0 where
+  rows : (name body said : List ℕ) (s : OfficeState) → IsKept s.desks name body said → IsLastOf (desk name) (Rows name) s body said
+  event : (name body said : List ℕ) (s : OfficeState) → IsKeptOf Sent event_in event_number s.sessions name body said → IsLastOf (session name) (Event name) s body said
+  edit : (name body said : List ℕ) (s : OfficeState) → IsKeptEdit s.desks name body said → IsLastOf (desk name) (Edit name) s body said
+  input : (name body said : List ℕ) (s : OfficeState) → IsKeptOf Given input_in input_number s.sessions name body said → IsLastOf (session name) (Input name) s body said
 
 -- after a posted request that changed what is kept of its caller
-does_keep : (lost : Type 0) (moment : ℕ) (route : Route) (body : List ℕ) (s new : State) (said : List ℕ) (caller : Caller)
-    → caller_of route ≡ Some caller → method_of route ≡ Post → Does lost moment route body s said new → kept_of caller new ≢ kept_of caller s
+does_keep : (lost : Type 0) (moment : ℕ) (route : Route) (body : List ℕ) (s new : OfficeState) (said : List ℕ) (caller : Caller)
+    → caller_of route ≡ Some caller → method_of route ≡ Post → RouteStep lost moment route body s said new → last_request_of caller new ≢ last_request_of caller s
     → IsLastOf caller route new body said
-unfolding Does
+unfolding RouteStep
 does_keep lost moment (Rows n) body s new said caller is posted does differ =
     let named : desk n ≡ caller = cc in
     subst (λ c. IsLastOf c (Rows n) new body said) named
     (rows n body said new (accepted lost (schema_of s.app).tables n body s.tables new.tables s.desks new.desks said does.0
-    (subst (λ c. kept_of c new ≢ kept_of c s) (sym named) differ)))
+    (subst (λ c. last_request_of c new ≢ last_request_of c s) (sym named) differ)))
 does_keep lost moment (Event n) body s new said caller is posted does differ =
     let named : session n ≡ caller = cc in
     subst (λ c. IsLastOf c (Event n) new body said) named
-    (event n body said new (event_kept lost s.app moment n body said s.tables new.tables s.sessions new.sessions does.0 (subst (λ c. kept_of c new ≢ kept_of c s) (sym named) differ)))
+    (event n body said new (event_kept lost s.app moment n body said s.tables new.tables s.sessions new.sessions does.0 (subst (λ c. last_request_of c new ≢ last_request_of c s) (sym named) differ)))
 does_keep lost moment (Input n) body s new said caller is posted does differ =
     let named : session n ≡ caller = cc in
     subst (λ c. IsLastOf c (Input n) new body said) named
-    (input n body said new (input_kept lost s.app moment n body said s.tables new.tables s.sessions new.sessions does.0 (subst (λ c. kept_of c new ≢ kept_of c s) (sym named) differ)))
+    (input n body said new (input_kept lost s.app moment n body said s.tables new.tables s.sessions new.sessions does.0 (subst (λ c. last_request_of c new ≢ last_request_of c s) (sym named) differ)))
 does_keep lost moment (Edit n) body s new said caller is posted does differ =
     let named : desk n ≡ caller = cc in
     subst (λ c. IsLastOf c (Edit n) new body said) named
-    (edit n body said new (edit_kept n body said (parts_of s) (parts_of new) does.0 (subst (λ c. kept_of c new ≢ kept_of c s) (sym named) differ)))
+    (edit n body said new (edit_kept n body said (office_parts s) (office_parts new) does.0 (subst (λ c. last_request_of c new ≢ last_request_of c s) (sym named) differ)))
 does_keep lost moment (Begin n) body s new said caller is posted does differ = absurd (cc)
 does_keep lost moment (End n) body s new said caller is posted does differ = absurd (cc)
 does_keep lost moment (View n) body s new said caller is posted does differ = absurd (cc)
@@ -207,37 +207,37 @@ does_keep lost moment (Page table after) body s new said caller is posted does d
 does_keep lost moment Plan body s new said caller is posted does differ = absurd (cc)
 does_keep lost moment Graph body s new said caller is posted does differ = absurd (cc)
 
-kept_left : (lost : Type 0) (caller : Caller) (s new : State) → Left lost s new → kept_of caller new ≡ kept_of caller s
-kept_left lost (desk name) s new h = ap (λ (x : State). find name x.desks) h.others
-kept_left lost (session name) s new h = ap (λ (x : State). kept_of_session (find name x.sessions)) h.others
+kept_left : (lost : Type 0) (caller : Caller) (s new : OfficeState) → Left lost s new → last_request_of caller new ≡ last_request_of caller s
+kept_left lost (desk name) s new h = ap (λ (x : OfficeState). find name x.desks) h.others
+kept_left lost (session name) s new h = ap (λ (x : OfficeState). kept_of_session (find name x.sessions)) h.others
 
-answered_keeps : IsOneRoute → (s t : State) (k l : Marks) (moment : ℕ) (request : Asked) (said : List ℕ) (caller : Caller) (of : IsOf caller request)
-    → request.method ≡ Post → Answered s k moment request said l t → kept_of caller t ≢ kept_of caller s → IsLastOf caller of.route t request.body said
+answered_keeps : IsOneRoute → (s t : OfficeState) (k l : Marks) (moment : ℕ) (request : Asked) (said : List ℕ) (caller : Caller) (of : IsOf caller request)
+    → request.method ≡ Post → AnswersRequest s k moment request said l t → last_request_of caller t ≢ last_request_of caller s → IsLastOf caller of.route t request.body said
 answered_keeps one s t k l moment request said caller of posted (inl step) differ =
-    does_keep (IsLost k l) moment of.route request.body s t said caller of.caller_is (of.routed.1 ∙ posted) (does_of one (IsLost k l) caller s t moment request said of step) differ
-answered_keeps one s t k l moment request said caller of posted (inr (inl h)) differ = absurd (differ (kept_left (IsLost k l) caller s t h.1))
-answered_keeps one s t k l moment request said caller of posted (inr (inr h)) differ = absurd (differ (kept_left (IsLost k l) caller s t h.3))
+    does_keep (SilenceCause k l) moment of.route request.body s t said caller of.caller_is (of.routed.1 ∙ posted) (does_of one (SilenceCause k l) caller s t moment request said of step) differ
+answered_keeps one s t k l moment request said caller of posted (inr (inl h)) differ = absurd (differ (kept_left (SilenceCause k l) caller s t h.1))
+answered_keeps one s t k l moment request said caller of posted (inr (inr h)) differ = absurd (differ (kept_left (SilenceCause k l) caller s t h.3))
 
 -- ---- that comes again
 
-says_again : laws.ActsOnce → (before now : Marks) (moment : ℕ) (route : Route) (caller : Caller) (s new : State) (body said reply : List ℕ) → IsLastOf caller route s body reply
-    → Does (IsLost before now) moment route body s said new → (said ≡ reply) × (new ≡ s)
-unfolding Does
+says_again : laws.RequestActsOnce → (before now : Marks) (moment : ℕ) (route : Route) (caller : Caller) (s new : OfficeState) (body said reply : List ℕ) → IsLastOf caller route s body reply
+    → RouteStep (SilenceCause before now) moment route body s said new → (said ≡ reply) × (new ≡ s)
+unfolding RouteStep
 says_again once before now moment _ _ s new body said reply (rows name _ _ _ is) does =
-    let h = subst (λ r. PostsChecked (IsLost before now) (schema_of s.app).tables name is.kept.body r s.tables s.desks said new.tables new.desks) (checks_again s.desks name is.kept is.last)
-    (subst (λ b. PostsRows (IsLost before now) (schema_of s.app).tables name b s.tables s.desks said new.tables new.desks) (sym is.body_is) does.0) in
-    (h.0 ∙ is.reply_is, does.1 ∙ ap (λ (t : Option Tables). record s { tables = t; desks = new.desks }) h.1 ∙ ap (λ (d : List (Named Kept)). record s { desks = d }) h.2)
+    let h = subst (λ r. PostsChecked (SilenceCause before now) (schema_of s.app).tables name is.kept.body r s.tables s.desks said new.tables new.desks) (checks_again s.desks name is.kept is.last)
+    (subst (λ b. PostsRows (SilenceCause before now) (schema_of s.app).tables name b s.tables s.desks said new.tables new.desks) (sym is.body_is) does.0) in
+    (h.0 ∙ is.reply_is, does.1 ∙ ap (λ (t : Option Tables). record s { tables = t; desks = new.desks }) h.1 ∙ ap (λ (d : List (Named LastRequest)). record s { desks = d }) h.2)
 says_again once before now moment _ _ s new body said reply (edit name _ _ _ is) does =
-    let h = edits_again name said is.kept (parts_of s) (parts_of new) is.found is.last
-    (subst (λ b. PostsEdit name b (parts_of s) said (parts_of new)) (sym is.body_is) does.0) in
+    let h = edits_again name said is.kept (office_parts s) (office_parts new) is.found is.last
+    (subst (λ b. PostsEdit name b (office_parts s) said (office_parts new)) (sym is.body_is) does.0) in
     (h.0 ∙ is.reply_is, does.1 ∙ ap (λ (p : Parts). record s { app = p.app; sessions = p.sessions; desks = p.desks }) h.1)
 says_again once before now moment _ _ s new body said reply (event name _ _ _ is) does =
     let h = (once before now s.app moment name said is.state s.tables new.tables s.sessions new.sessions is.found).1 is.last
-    (subst (λ b. PostsEvent (IsLost before now) s.app moment name b s.tables s.sessions said new.tables new.sessions) (sym is.body_is) does.0) in
+    (subst (λ b. PostsEvent (SilenceCause before now) s.app moment name b s.tables s.sessions said new.tables new.sessions) (sym is.body_is) does.0) in
     (h.0 ∙ is.reply_is, does.1 ∙ ap (λ (t : Option Tables). record s { tables = t; sessions = new.sessions }) h.2 ∙ ap (λ (x : List (Named SessionState)). record s { sessions = x }) h.1)
 says_again once before now moment _ _ s new body said reply (input name _ _ _ is) does =
     let h = (once before now s.app moment name said is.state s.tables new.tables s.sessions new.sessions is.found).0 is.last
-    (subst (λ b. PostsInput (IsLost before now) s.app moment name b s.tables s.sessions said new.tables new.sessions) (sym is.body_is) does.0) in
+    (subst (λ b. PostsInput (SilenceCause before now) s.app moment name b s.tables s.sessions said new.tables new.sessions) (sym is.body_is) does.0) in
     (h.0 ∙ is.reply_is, does.1 ∙ ap (λ (t : Option Tables). record s { tables = t; sessions = new.sessions }) h.2 ∙ ap (λ (x : List (Named SessionState)). record s { sessions = x }) h.1)
 
 -- the last request of a session doesn't pass the checks again
@@ -250,8 +250,8 @@ not_asked T asked number sessions name body reply is it passes =
     let e : Err is.state.kept.reply ≡ Ok it = sym again ∙ (ap (λ b. checks asked number (session_of name sessions) b) is.body_is ∙ passes) in
     absurd (cc)
 
-never_reached : (route : Route) (caller : Caller) (s : State) (body reply : List ℕ) → IsLastOf caller route s body reply → Reaches route body s → ⊥
-unfolding Reaches
+never_reached : (route : Route) (caller : Caller) (s : OfficeState) (body reply : List ℕ) → IsLastOf caller route s body reply → PassesChecks route body s → ⊥
+unfolding PassesChecks
 never_reached _ _ s body reply (rows name _ _ _ is) reaches =
     let passes = subst (λ b. desk_checks s.desks name b ≡ Ok reaches.0) (sym is.body_is) reaches.1 in
     let e : Err is.kept.reply ≡ Ok reaches.0 = sym (checks_again s.desks name is.kept is.last) ∙ passes in absurd (cc)
@@ -259,19 +259,19 @@ never_reached _ _ s body reply (edit name _ _ _ is) reaches = reaches
 never_reached _ _ s body reply (event name _ _ _ is) reaches = not_asked Sent event_in event_number s.sessions name body reply is reaches.0 reaches.1
 never_reached _ _ s body reply (input name _ _ _ is) reaches = not_asked Given input_in input_number s.sessions name body reply is reaches.0 reaches.1
 
-answered_again : laws.ActsOnce → IsOneRoute → (u v : State) (m n : Marks) (moment : ℕ) (request : Asked) (said reply : List ℕ) (caller : Caller) (of : IsOf caller request)
-    → IsLastOf caller of.route u request.body reply → Answered u m moment request said n v
-    → ((said ≡ reply) ⊎ (said ≡ refusal 26)) × Left (IsLost m n) u v
+answered_again : laws.RequestActsOnce → IsOneRoute → (u v : OfficeState) (m n : Marks) (moment : ℕ) (request : Asked) (said reply : List ℕ) (caller : Caller) (of : IsOf caller request)
+    → IsLastOf caller of.route u request.body reply → AnswersRequest u m moment request said n v
+    → ((said ≡ reply) ⊎ (said ≡ refusal 26)) × Left (SilenceCause m n) u v
 answered_again once one u v m n moment request said reply caller of is (inl step) =
-    let h = says_again once m n moment of.route caller u v request.body said reply is (does_of one (IsLost m n) caller u v moment request said of step) in
-    (inl h.0, left_all (IsLost m n) u v h.1)
+    let h = says_again once m n moment of.route caller u v request.body said reply is (does_of one (SilenceCause m n) caller u v moment request said of step) in
+    (inl h.0, left_all (SilenceCause m n) u v h.1)
 answered_again once one u v m n moment request said reply caller of is (inr (inl h)) = (inr h.0, h.1)
 answered_again once one u v m n moment request said reply caller of is (inr (inr h)) =
     let routed = route_is one caller request of (Ok h.2.route) (λ e. cc) h.2.routed in
     let same : h.2.route ≡ of.route = cc in
-    absurd (never_reached of.route caller u request.body reply is (subst (λ r. Reaches r request.body u) same h.2.reaches))
+    absurd (never_reached of.route caller u request.body reply is (subst (λ r. PassesChecks r request.body u) same h.2.reaches))
 
-desk_still : (t u : State) (name body said : List ℕ) → find name u.desks ≡ find name t.desks → IsKept t.desks name body said → IsKept u.desks name body said
+desk_still : (t u : OfficeState) (name body said : List ℕ) → find name u.desks ≡ find name t.desks → IsKept t.desks name body said → IsKept u.desks name body said
 desk_still t u name body said same is = record {
   kept = is.kept;
   last = record { found = same ∙ is.last.found; value = is.last.value; is_json = is.last.is_json; posted = is.last.posted; shape = is.last.shape; number = is.last.number };
@@ -279,11 +279,11 @@ desk_still t u name body said same is = record {
   reply_is = is.reply_is;
 }
 
-edit_still : (t u : State) (name body said : List ℕ) → find name u.desks ≡ find name t.desks → IsKeptEdit t.desks name body said → IsKeptEdit u.desks name body said
+edit_still : (t u : OfficeState) (name body said : List ℕ) → find name u.desks ≡ find name t.desks → IsKeptEdit t.desks name body said → IsKeptEdit u.desks name body said
 edit_still t u name body said same is = record { kept = is.kept; found = same ∙ is.found; last = is.last; body_is = is.body_is; reply_is = is.reply_is }
 
 -- a session of which the same is kept was asked the same last
-session_still : (T : Type 0) (asked : json.Data → Option T) (number : T → ℕ) (t u : State) (name body said : List ℕ) → kept_of_session (find name u.sessions) ≡ kept_of_session (find name t.sessions)
+session_still : (T : Type 0) (asked : json.Data → Option T) (number : T → ℕ) (t u : OfficeState) (name body said : List ℕ) → kept_of_session (find name u.sessions) ≡ kept_of_session (find name t.sessions)
     → IsKeptOf T asked number t.sessions name body said → IsKeptOf T asked number u.sessions name body said
 session_still T asked number t u name body said same is = by (find name u.sessions) refl (same ∙ ap kept_of_session is.found)
   where
@@ -295,12 +295,12 @@ session_still T asked number t u name body said same is = by (find name u.sessio
           state = s;
           found = found;
           last = subst (IsLastAsked T asked number) (sym kept) is.last;
-          body_is = ap (λ (k : Kept). k.body) kept ∙ is.body_is;
-          reply_is = ap (λ (k : Kept). k.reply) kept ∙ is.reply_is;
+          body_is = ap (λ (k : LastRequest). k.body) kept ∙ is.body_is;
+          reply_is = ap (λ (k : LastRequest). k.reply) kept ∙ is.reply_is;
         }
 
 -- requests of others leave it the last
-still_last : laws.LeavesOthers → (caller : Caller) (route : Route) (t u : State) (l m : Marks) (body said : List ℕ) (between : List Exchange)
+still_last : laws.LeavesOthers → (caller : Caller) (route : Route) (t u : OfficeState) (l m : Marks) (body said : List ℕ) (between : List Exchange)
     → Plays t l between u m → AreOfOthers caller between → IsLastOf caller route t body said → IsLastOf caller route u body said
 still_last leaves _ _ t u l m body said between plays others (rows name _ _ _ is) =
     rows name body said u (desk_still t u name body said (plays_leave_desk t l between u m name plays others) is)
@@ -311,10 +311,10 @@ still_last leaves _ _ t u l m body said between plays others (event name _ _ _ i
 still_last leaves _ _ t u l m body said between plays others (input name _ _ _ is) =
     input name body said u (session_still Given input_in input_number t u name body said (plays_keep_session leaves t l between u m name plays others) is)
 
-pub acts_once : laws.LeavesOthers → laws.ActsOnce → IsOneRoute → (s t u v : State) (k l m n : Marks) (moment moment' : ℕ) (request : Asked) (said said' : List ℕ) (caller : Caller) (between : List Exchange)
-    → IsOf caller request → request.method ≡ Post → Answered s k moment request said l t → kept_of caller t ≢ kept_of caller s
-    → Plays t l between u m → AreOfOthers caller between → Answered u m moment' request said' n v
-    → ((said' ≡ said) ⊎ (said' ≡ refusal 26)) × Left (IsLost m n) u v
+pub acts_once : laws.LeavesOthers → laws.RequestActsOnce → IsOneRoute → (s t u v : OfficeState) (k l m n : Marks) (moment moment' : ℕ) (request : Asked) (said said' : List ℕ) (caller : Caller) (between : List Exchange)
+    → IsOf caller request → request.method ≡ Post → AnswersRequest s k moment request said l t → last_request_of caller t ≢ last_request_of caller s
+    → Plays t l between u m → AreOfOthers caller between → AnswersRequest u m moment' request said' n v
+    → ((said' ≡ said) ⊎ (said' ≡ refusal 26)) × Left (SilenceCause m n) u v
 acts_once leaves once one s t u v k l m n moment moment' request said said' caller between of posted first differ plays others second =
     answered_again once one u v m n moment' request said' said caller of
     (still_last leaves caller of.route t u l m request.body said between plays others (answered_keeps one s t k l moment request said caller of posted first differ)) second

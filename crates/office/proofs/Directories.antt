@@ -3,7 +3,7 @@ use Rattle.std.proofs.Common.{◌≡◌, ◌≢◌, ℕ, zero, suc, Bool, true, 
 use Rattle.std.specs.Prelude.{option_map, slice_set}
 use Rattle.std.proofs.lemmas.Grind.{common_steps}
 use Rattle.numbered_requests.specs.Checked.{KeepsReply, SessionsKeepReplies}
-use Rattle.numbered_requests.specs.Directory.{find, is_named, put, put_at}
+use Rattle.numbered_requests.specs.Directory.{find, is_named, put_named, put_at}
 use Rattle.numbered_requests.specs.declared.directory.Named.{Named}
 use Rattle.numbered_requests.proofs.Directories.{find_here, find_past, same_bytes}
 use Rattle.std.specs.List.{AllByRecursion, position}
@@ -13,25 +13,25 @@ use Rattle.session_state.specs.Carrying.{carried}
 use Rattle.session_state.specs.Changes.{FitsNames}
 use Rattle.session_state.specs.Sessions.{SessionState}
 use Rattle.office.specs.DeskEdits.{all_carried}
-use Rattle.session_views.specs.Shows.{AreFit}
-use Rattle.office.specs.Sessions.{without}
+use Rattle.session_views.specs.Shows.{LiveSessionsFit}
+use Rattle.office.specs.Sessions.{sessions_without}
 
-pub without_here : (T : Type 0) (name : List ℕ) (n : Named T) (ns : List (Named T)) → is_named name n ≡ true → without name (n ∷ ns) ≡ without name ns
+pub without_here : (T : Type 0) (name : List ℕ) (n : Named T) (ns : List (Named T)) → is_named name n ≡ true → sessions_without name (n ∷ ns) ≡ sessions_without name ns
 without_here T name n ns e = grind (arith, common_steps, e)
 
-pub without_past : (T : Type 0) (name : List ℕ) (n : Named T) (ns : List (Named T)) → is_named name n ≡ false → without name (n ∷ ns) ≡ n ∷ without name ns
+pub without_past : (T : Type 0) (name : List ℕ) (n : Named T) (ns : List (Named T)) → is_named name n ≡ false → sessions_without name (n ∷ ns) ≡ n ∷ sessions_without name ns
 without_past T name n ns e = grind (arith, common_steps, e)
 
 -- the others are found as before
-pub find_without : (T : Type 0) (name other : List ℕ) (list : List (Named T)) → name ≢ other → find other (without name list) ≡ find other list
+pub find_without : (T : Type 0) (name other : List ℕ) (list : List (Named T)) → name ≢ other → find other (sessions_without name list) ≡ find other list
 find_without T name other [] differ = refl
 find_without T name other (n ∷ ns) differ = by (is_named name n) refl (is_named other n) refl (find_without T name other ns differ)
   where
-    by : (b : Bool) → is_named name n ≡ b → (d : Bool) → is_named other n ≡ d → find other (without name ns) ≡ find other ns → find other (without name (n ∷ ns)) ≡ find other (n ∷ ns)
+    by : (b : Bool) → is_named name n ≡ b → (d : Bool) → is_named other n ≡ d → find other (sessions_without name ns) ≡ find other ns → find other (sessions_without name (n ∷ ns)) ≡ find other (n ∷ ns)
     by true e true f rest = absurd (differ (sym (same_bytes n.name name e) ∙ same_bytes n.name other f))
     by true e false f rest = ap (λ (l : List (Named T)). find other l) (without_here T name n ns e) ∙ rest ∙ sym (find_past T other n ns f)
-    by false e true f rest = ap (λ (l : List (Named T)). find other l) (without_past T name n ns e) ∙ find_here T other n (without name ns) f ∙ sym (find_here T other n ns f)
-    by false e false f rest = ap (λ (l : List (Named T)). find other l) (without_past T name n ns e) ∙ find_past T other n (without name ns) f ∙ rest ∙ sym (find_past T other n ns f)
+    by false e true f rest = ap (λ (l : List (Named T)). find other l) (without_past T name n ns e) ∙ find_here T other n (sessions_without name ns) f ∙ sym (find_here T other n ns f)
+    by false e false f rest = ap (λ (l : List (Named T)). find other l) (without_past T name n ns e) ∙ find_past T other n (sessions_without name ns) f ∙ rest ∙ sym (find_past T other n ns f)
 
 -- ---- that are carried
 
@@ -60,17 +60,17 @@ holds_of_found T P name (n ∷ ns) it all found = by (is_named name n) refl (λ 
     by true e rest = (n, all.0, let same : Some n.it ≡ Some it = sym (find_here T name n ns e) ∙ found in cc)
     by false e rest = rest (sym (find_past T name n ns e) ∙ found)
 
-pub found_fits : (names : Names) (sessions : List (Named SessionState)) (name : List ℕ) (s : SessionState) → AreFit names sessions → find name sessions ≡ Some s → FitsNames names s
+pub found_fits : (names : Names) (sessions : List (Named SessionState)) (name : List ℕ) (s : SessionState) → LiveSessionsFit names sessions → find name sessions ≡ Some s → FitsNames names s
 found_fits names sessions name s fit found =
     let h = holds_of_found SessionState (λ (n : Named SessionState). FitsNames names n.it) name sessions s fit found in
     subst (λ (x : SessionState). FitsNames names x) h.2 h.1
 
 -- what holds of all holds of those that are left
-pub without_all : (T : Type 0) (P : Named T → Type 0) (name : List ℕ) (list : List (Named T)) → AllByRecursion P list → AllByRecursion P (without name list)
+pub without_all : (T : Type 0) (P : Named T → Type 0) (name : List ℕ) (list : List (Named T)) → AllByRecursion P list → AllByRecursion P (sessions_without name list)
 without_all T P name [] all = all
 without_all T P name (n ∷ ns) all = by (is_named name n) refl (without_all T P name ns all.1)
   where
-    by : (b : Bool) → is_named name n ≡ b → AllByRecursion P (without name ns) → AllByRecursion P (without name (n ∷ ns))
+    by : (b : Bool) → is_named name n ≡ b → AllByRecursion P (sessions_without name ns) → AllByRecursion P (sessions_without name (n ∷ ns))
     by true e rest = subst (λ (l : List (Named T)). AllByRecursion P l) (sym (without_here T name n ns e)) rest
     by false e rest = subst (λ (l : List (Named T)). AllByRecursion P l) (sym (without_past T name n ns e)) (all.0, rest)
 
@@ -88,11 +88,11 @@ all_at : (T : Type 0) (P : Named T → Type 0) (o : Option ℕ) (x : Named T) (x
 all_at T P None x xs h p = all_more T P xs x h p
 all_at T P (Some k) x xs h p = all_set T P xs k x h p
 
-pub put_all : (T : Type 0) (P : Named T → Type 0) (name : List ℕ) (it : T) (list : List (Named T)) → AllByRecursion P list → P (record { name = name; it = it }) → AllByRecursion P (put name it list)
+pub put_all : (T : Type 0) (P : Named T → Type 0) (name : List ℕ) (it : T) (list : List (Named T)) → AllByRecursion P list → P (record { name = name; it = it }) → AllByRecursion P (put_named name it list)
 put_all T P name it list all is = all_at T P (position (is_named name) list) (record { name = name; it = it }) list all is
 
 -- a session that was just opened keeps no reply yet
-pub begun_keep : (name : List ℕ) (s end : SessionState) (xs ys zs : List (Named SessionState)) → s ≡ unasked (quiet end) → SessionsKeepReplies xs → ys ≡ xs → zs ≡ put name s ys → SessionsKeepReplies zs
+pub begun_keep : (name : List ℕ) (s end : SessionState) (xs ys zs : List (Named SessionState)) → s ≡ unasked (quiet end) → SessionsKeepReplies xs → ys ≡ xs → zs ≡ put_named name s ys → SessionsKeepReplies zs
 begun_keep name s end xs ys zs left keep same h =
     let none : s.kept.last ≡ 0 = ap (λ (x : SessionState). x.kept.last) left in
     subst (λ (l : List (Named SessionState)). SessionsKeepReplies l) (sym h)

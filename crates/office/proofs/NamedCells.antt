@@ -6,12 +6,12 @@ use Rattle.app_cells.specs.declared.app.App.{App}
 use Rattle.app_cells.specs.declared.app.CellInfo.{CellInfo}
 use Rattle.app_loader.specs.app_semantics.Needed.{IsFreshAt, is_alone, stands_alone, stands_by}
 use Rattle.app_loader.specs.app_semantics.Present.{Present}
-use Rattle.app_loader.specs.app_semantics.Sound.{IsSound}
+use Rattle.app_loader.specs.app_semantics.Sound.{IsSoundApp}
 use Rattle.session_views.proofs.Needing.{needed_clean}
 use Rattle.fx_types.specs.Values.{Data}
 use Rattle.fx_core.specs.declared.names.FormulaName.{FormulaName}
 use Rattle.office.specs.NamedReply.{AreNamedFresh, AreNamedMade, named_cells}
-use Rattle.recalc.specs.Kept.{IsClean, IsInOrder, Kept}
+use Rattle.recalc.specs.Kept.{IsClean, IsInOrder, CacheState}
 
 -- one of these cells is that of a named formula
 formula_of : (fs : List FormulaName) (k : ℕ) → Contains (map (λ (f : FormulaName). f.cell) fs) k → (i : ℕ) × (f : FormulaName) × (slice_get fs i ≡ Some f) × (f.cell ≡ k)
@@ -25,7 +25,7 @@ cell_in (g ∷ fs) zero f e = let same : g ≡ f = cc in (0, omega arith, ap (λ
 cell_in (g ∷ fs) (suc i) f e = let r = cell_in fs i f e in (suc r.0, (let l = r.1 in omega (arith, l)), r.2)
 
 -- each has a value by itself
-pub named_alone : (a : App) → IsSound a → (k : ℕ) → Contains (named_cells a) k → is_alone a.cells k ≡ true
+pub named_alone : (a : App) → IsSoundApp a → (k : ℕ) → Contains (named_cells a) k → is_alone a.cells k ≡ true
 named_alone a s k h =
     let at = formula_of a.names.formulas k h in
     let cell = s.formulas at.0 at.1 at.2 in
@@ -37,5 +37,5 @@ pub named_fresh : (p : Present) (values : ℕ → Data) → ((k : ℕ) → Conta
 named_fresh p values fresh = λ i f there. fresh f.cell (cell_in p.app.names.formulas i f there)
 
 -- and what they need is clean
-pub named_made : (a : App) (c : Kept) → IsInOrder a c → ((k : ℕ) → Contains (named_cells a) k → IsClean a c k) → AreNamedMade a c
+pub named_made : (a : App) (c : CacheState) → IsInOrder a c → ((k : ℕ) → Contains (named_cells a) k → IsClean a c k) → AreNamedMade a c
 named_made a c order clean = λ r k among need own. needed_clean a c order r k (λ alone. clean r among) need own

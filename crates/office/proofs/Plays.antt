@@ -3,7 +3,7 @@ use Rattle.std.proofs.Common.{◌≡◌, ◌≢◌, ℕ, IsTrue, suc, zero, ◌+
 use Rattle.std.proofs.lemmas.List.{append-nil, drop-append-le, length-append, map-append}
 use Rattle.fx_base.specs.Silence.{IsLater, Marks}
 use Rattle.fx_base.specs.Telling.{Tells}
-use Rattle.app_wire.specs.Doorway.{Doorway, Takes, Talk, Writes, WritesPart, with_last, with_taken, with_written}
+use Rattle.app_wire.specs.Doorway.{Doorway, DoorsTake, Talk, Writes, WritesPart, with_last, with_taken, with_written}
 use Rattle.app_wire.specs.Framing.{Framing, asked, whole}
 use Rattle.app_wire.specs.Moments.{Tick, Ticks}
 use Rattle.app_wire.specs.NextRequest.{FindsNext}
@@ -12,10 +12,10 @@ use Rattle.app_wire.specs.declared.framer.Request.{Request}
 use Rattle.app_wire.specs.declared.next.Found.{Found}
 use Rattle.app_wire.specs.declared.next.Found.TheVariants as next
 use Rattle.app_wire.proofs.Doorways.{last_join, last_same}
-use Rattle.office.specs.State.{State}
+use Rattle.office.specs.State.{OfficeState}
 use Rattle.office.proofs.Taken.{little}
-use Rattle.office.specs.Step.{Answered}
-use Rattle.office.specs.Answers.{Converses, Exchange, Frames, GoesOn, IsCount, IsOver, IsSpent, Plays, Says, Talked, TakesLittle, moments_of, most_read, most_requests, said_in, with_bytes}
+use Rattle.office.specs.Step.{AnswersRequest}
+use Rattle.office.specs.Answers.{Converses, Exchange, Frames, GoesOn, IsAnswerCount, IsConversationOver, IsSpent, Plays, SaysLastWords, Talked, TakesLittle, moments_of, most_read, most_requests, said_in, with_bytes}
 use Rattle.office.specs.declared.converse.ConvEnd.{ConvEnd}
 use Rattle.office.specs.declared.converse.ConvEnd.TheVariants.{Ended, Faulted, Full}
 
@@ -42,12 +42,12 @@ pub record Goes (xs : List Exchange) (held : List ℕ) (a b : Doorway) : Type 0 
   pub talked : Talked taken (said_in xs) a b
 
 -- one exchange more
-pub plays_more : (old : State) (before : Marks) (xs : List Exchange) (mid : State) (between : Marks) → Plays old before xs mid between
-    → (x : Exchange) → IsLater between x.marks → Answered mid between x.moment x.asked x.said x.marks x.state
+pub plays_more : (old : OfficeState) (before : Marks) (xs : List Exchange) (mid : OfficeState) (between : Marks) → Plays old before xs mid between
+    → (x : Exchange) → IsLater between x.marks → AnswersRequest mid between x.moment x.asked x.said x.marks x.state
     → Plays old before (xs ++ x ∷ []) x.state x.marks
 plays_more old before [] mid between h x later answered = (
   subst (λ b. IsLater b x.marks) h.1 later,
-  subst (λ b. Answered old b x.moment x.asked x.said x.marks x.state) h.1 (subst (λ m. Answered m between x.moment x.asked x.said x.marks x.state) h.0 answered),
+  subst (λ b. AnswersRequest old b x.moment x.asked x.said x.marks x.state) h.1 (subst (λ m. AnswersRequest m between x.moment x.asked x.said x.marks x.state) h.0 answered),
   (refl, refl),
 )
 plays_more old before (y ∷ ys) mid between h x later answered = (h.0, h.1, plays_more y.state y.marks ys mid between h.2 x later answered)
@@ -75,7 +75,7 @@ ticks_more old xs mid new x h k =
 read_join : (taken written read : List ℕ) (t : Talk) → with_taken read (with_bytes taken written t) ≡ with_bytes (taken ++ read) written t
 read_join taken written read t = ap (λ (s : List ℕ). record t { taken = s; written = t.written ++ written }) (append_assoc t.taken taken read)
 
-talked_read : (taken written read : List ℕ) (a b c : Doorway) → Talked taken written a b → Takes read b c → Talked (taken ++ read) written a c
+talked_read : (taken written read : List ℕ) (a b c : Doorway) → Talked taken written a b → DoorsTake read b c → Talked (taken ++ read) written a c
 talked_read taken written read a b c t r = record {
   front = t.front ∙ ap (λ u. taken ++ u) r.front ∙ sym (append_assoc taken read c.unread);
   is = r.rest ∙ ap (λ (d : Doorway). record d { unread = c.unread; begun = with_last (with_taken read) d.begun }) t.is
@@ -163,12 +163,12 @@ goes_on_before true [] n e only = tt
 goes_on_before true (x ∷ xs) n e only = let no : true ≡ false = only (omega (arith, e)) in cc
 goes_on_before false xs n e only = tt
 
-spent_over : (one : Bool) (xs : List Exchange) (left unread words : List ℕ) → GoesOn one xs → IsSpent left words → IsOver one xs left unread words
+spent_over : (one : Bool) (xs : List Exchange) (left unread words : List ℕ) → GoesOn one xs → IsSpent left words → IsConversationOver one xs left unread words
 spent_over true [] left unread words on spent = spent
 spent_over true (x ∷ xs) left unread words on spent = absurd on
 spent_over false xs left unread words on spent = spent
 
-over_after_one : (xs : List Exchange) (x : Exchange) (left unread : List ℕ) → TakesLittle left unread → IsOver true (xs ++ x ∷ []) left unread []
+over_after_one : (xs : List Exchange) (x : Exchange) (left unread : List ℕ) → TakesLittle left unread → IsConversationOver true (xs ++ x ∷ []) left unread []
 over_after_one [] x left unread few = (refl, few)
 over_after_one (y ∷ ys) x left unread few = (refl, few)
 
@@ -187,7 +187,7 @@ ends_one one xs x held held' request single same a b c d g f w =
         frames = on.frames;
         ends = (
           [],
-          subst (λ o. IsOver o (xs ++ x ∷ []) (held' ++ d.unread) d.unread []) (sym single) (over_after_one xs x (held' ++ d.unread) d.unread (held', refl, on.few)),
+          subst (λ o. IsConversationOver o (xs ++ x ∷ []) (held' ++ d.unread) d.unread []) (sym single) (over_after_one xs x (held' ++ d.unread) d.unread (held', refl, on.few)),
           sym (append-nil (said_in (xs ++ x ∷ []))),
         );
       };
@@ -196,7 +196,7 @@ ends_one one xs x held held' request single same a b c d g f w =
 
 -- with last words, or a first part of them
 pub ends_saying : (one : Bool) (end : ConvEnd) (xs : List Exchange) (found : Found) (held held' words : List ℕ) → GoesOn one xs → (a b c d : Doorway)
-    → Goes xs held a b → FindsNext found held held' b c → IsSpent (held ++ b.unread) words → Says end words c d → Converses one end xs a d
+    → Goes xs held a b → FindsNext found held held' b c → IsSpent (held ++ b.unread) words → SaysLastWords end words c d → Converses one end xs a d
 ends_saying one Ended xs found held held' words on a b c d g f spent w =
     let talked = talked_more (g.taken ++ f.read) (said_in xs) words a c d (talked_read g.taken (said_in xs) f.read a b c g.talked f.takes) w in
     record {
@@ -284,17 +284,17 @@ none_before one zero only single = refl
 none_before one (suc k) only single = let no : false ≡ true = sym (only (omega arith)) ∙ single in absurd (cc)
 
 -- how many were answered: before the most that may be
-pub count_saying : (end : ConvEnd) (one : Bool) (n : ℕ) {m : ℕ} → m ≡ n → end ≢ Full → n < most_requests → (0 < n → one ≡ false) → IsCount end one m
+pub count_saying : (end : ConvEnd) (one : Bool) (n : ℕ) {m : ℕ} → m ≡ n → end ≢ Full → n < most_requests → (0 < n → one ≡ false) → IsAnswerCount end one m
 count_saying Ended one n e other below only = (omega (arith, below, e), λ single. omega (arith, e, none_before one n only single))
 count_saying Faulted one n e other below only = (omega (arith, below, e), λ single. omega (arith, e, none_before one n only single))
 count_saying Full one n e other below only = absurd (other refl)
 
 -- with a reply that broke off
-pub count_answered : (m : ℕ) (one : Bool) (n : ℕ) → m ≡ n + 1 → n < most_requests → (0 < n → one ≡ false) → IsCount Faulted one m
+pub count_answered : (m : ℕ) (one : Bool) (n : ℕ) → m ≡ n + 1 → n < most_requests → (0 < n → one ≡ false) → IsAnswerCount Faulted one m
 count_answered m one n e below only = (omega (arith, below, e), λ single. omega (arith, e, none_before one n only single))
 
 -- with the one reply
-pub count_one : (m : ℕ) (one : Bool) (n : ℕ) → m ≡ n + 1 → one ≡ true → (0 < n → one ≡ false) → IsCount Ended one m
+pub count_one : (m : ℕ) (one : Bool) (n : ℕ) → m ≡ n + 1 → one ≡ true → (0 < n → one ≡ false) → IsAnswerCount Ended one m
 count_one m one n e single only = let none = none_before one n only single in (omega (arith, e, none), λ _. omega (arith, e, none))
 
 -- the codes of framing are those of replies that take no memory

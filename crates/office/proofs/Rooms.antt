@@ -1,14 +1,14 @@
 -- Room beside sessions.
 use Rattle.std.proofs.Common.{◌≡◌, ℕ, zero, suc, List, [], ◌∷◌, ◌++◌, drop, map, get_or, set, take, refl, ap, sym, arith}
 use Rattle.fx_core.specs.declared.names.Names.{Names}
-use Rattle.session_state.specs.Sessions.{HasRoom, Room, SessionState, room_with}
+use Rattle.session_state.specs.Sessions.{HasSessionRoom, SessionRoom, SessionState, room_with}
 use Rattle.numbered_requests.specs.declared.directory.Named.{Named}
 use Rattle.office.specs.DeskEdits.{all_carried, one_carried}
-use Rattle.session_views.specs.Shows.{AreFit}
+use Rattle.session_views.specs.Shows.{LiveSessionsFit}
 use Rattle.office.specs.Rooms.{HaveNoRoom, HaveRoom, with_room, without_room}
 
 -- there is none beside sessions that fit an app
-pub have_none : (n : Names) (xs : List (Named SessionState)) → AreFit n xs → HaveNoRoom xs
+pub have_none : (n : Names) (xs : List (Named SessionState)) → LiveSessionsFit n xs → HaveNoRoom xs
 have_none n [] fit = refl
 have_none n (x ∷ xs) fit = λ i. record x { it = record x.it { room = none i } } ∷ have_none n xs fit.1 i
   where
@@ -16,7 +16,7 @@ have_none n (x ∷ xs) fit = λ i. record x { it = record x.it { room = none i }
     none = sym fit.0.spare
 
 -- there is as much as the names want once it was made
-enough : (n : Names) (r : Room) → HasRoom n (room_with n r)
+enough : (n : Names) (r : SessionRoom) → HasSessionRoom n (room_with n r)
 enough n r = record { variables = omega arith; collections = omega arith }
 
 pub have_room : (n : Names) (xs : List (Named SessionState)) → HaveRoom n (map (with_room n) xs)

@@ -10,29 +10,29 @@ use Rattle.fx_core.specs.Reads.{IsAmong}
 use Rattle.fx_core.specs.declared.sources.Source.{Source}
 use Rattle.fx_core.specs.declared.sources.Source.TheVariants as source
 use Rattle.recalc.proofs.Leaving.{left_same, left_then, left_wider}
-use Rattle.recalc.specs.Changes.{IsLeftBut, IsTouched}
-use Rattle.recalc.specs.Kept.{HasRoom, IsClean, IsInOrder, IsRight, Kept}
+use Rattle.recalc.specs.Changes.{StaysCleanExcept, IsTouched}
+use Rattle.recalc.specs.Kept.{HasNumbersLeft, IsClean, IsInOrder, IsRight, CacheState}
 use Rattle.recalc.specs.Asking.{ToldRows}
 use Rattle.recalc.specs.app_cells.Reach.{Reaches, is_cell}
 use Rattle.recalc.specs.app_semantics.Present.{present}
 use Rattle.numbered_requests.specs.declared.directory.Named.{Named}
 use Rattle.session_state.specs.Sessions.{SessionState}
 use Rattle.office.proofs.Places.{cases_of, one_at, set_here, set_same, set_there, some_at, there_too}
-use Rattle.office.specs.Caches.{AreEach, AreTouched, is_table, tables_in}
+use Rattle.office.specs.Caches.{EachCacheBecame, CacheTouched, is_table, tables_in}
 
 -- ---- cache after cache
 
 -- those before a place became others so, and the rest are as they were
-pub record IsSoFar (R : ℕ → Kept → Kept → Type 0) (n : ℕ) (old new : List (Named Kept)) : Type 0 where
+pub record IsSoFar (R : ℕ → CacheState → CacheState → Type 0) (n : ℕ) (old new : List (Named CacheState)) : Type 0 where
   pub long : length new ≡ length old
-  pub each : (k : ℕ) (c : Named Kept) → slice_get old k ≡ Some c → (d : Named Kept) × (slice_get new k ≡ Some d) × (d.name ≡ c.name) × (k < n → R k c.it d.it) × (n ≤ k → d ≡ c)
+  pub each : (k : ℕ) (c : Named CacheState) → slice_get old k ≡ Some c → (d : Named CacheState) × (slice_get new k ≡ Some d) × (d.name ≡ c.name) × (k < n → R k c.it d.it) × (n ≤ k → d ≡ c)
 
 -- none yet
-pub so_far_none : (R : ℕ → Kept → Kept → Type 0) (cs : List (Named Kept)) → IsSoFar R 0 cs cs
+pub so_far_none : (R : ℕ → CacheState → CacheState → Type 0) (cs : List (Named CacheState)) → IsSoFar R 0 cs cs
 so_far_none R cs = record { long = refl; each = λ k c at. (c, at, refl, λ below. absurd (omega (arith, below)), λ from. refl) }
 
 -- the next one
-pub so_far_more : (R : ℕ → Kept → Kept → Type 0) (n : ℕ) (old new next : List (Named Kept)) (c d : Named Kept) → IsSoFar R n old new → slice_get new n ≡ Some c → d.name ≡ c.name → R n c.it d.it → next ≡ slice_set new n d
+pub so_far_more : (R : ℕ → CacheState → CacheState → Type 0) (n : ℕ) (old new next : List (Named CacheState)) (c d : Named CacheState) → IsSoFar R n old new → slice_get new n ≡ Some c → d.name ≡ c.name → R n c.it d.it → next ≡ slice_set new n d
     → IsSoFar R (n + 1) old next
 so_far_more R n old new next c d h there named done is = record {
   long = ap length is ∙ length-set new n d ∙ h.long;
@@ -42,8 +42,8 @@ so_far_more R n old new next c d h there named done is = record {
     less : (k : ℕ) → k < n + 1 → (k ≡ n → ⊥) → k < n
     less k below far = omega (arith, below, far)
 
-    by : (k : ℕ) (x : Named Kept) → slice_get old k ≡ Some x → (y : Named Kept) × (slice_get new k ≡ Some y) × (y.name ≡ x.name) × (k < n → R k x.it y.it) × (n ≤ k → y ≡ x) → (k ≡ n) ⊎ (k ≡ n → ⊥)
-        → (y : Named Kept) × (slice_get next k ≡ Some y) × (y.name ≡ x.name) × (k < n + 1 → R k x.it y.it) × (n + 1 ≤ k → y ≡ x)
+    by : (k : ℕ) (x : Named CacheState) → slice_get old k ≡ Some x → (y : Named CacheState) × (slice_get new k ≡ Some y) × (y.name ≡ x.name) × (k < n → R k x.it y.it) × (n ≤ k → y ≡ x) → (k ≡ n) ⊎ (k ≡ n → ⊥)
+        → (y : Named CacheState) × (slice_get next k ≡ Some y) × (y.name ≡ x.name) × (k < n + 1 → R k x.it y.it) × (n + 1 ≤ k → y ≡ x)
     by k x at was (inl e) =
         let here : slice_get new k ≡ Some c = ap (slice_get new) e ∙ there in
         let same = one_at new k was.0 c was.1 here in
@@ -51,8 +51,8 @@ so_far_more R n old new next c d h there named done is = record {
         let whole : c ≡ x = sym same ∙ before in (
           d,
           ap (λ l. slice_get l k) is ∙ subst (λ j. slice_get (slice_set new n d) j ≡ Some d) (sym e) (set_here new n c d there),
-          named ∙ ap (λ (z : Named Kept). z.name) whole,
-          λ below. subst (λ j. R j x.it d.it) (sym e) (subst (λ (z : Named Kept). R n z.it d.it) whole done),
+          named ∙ ap (λ (z : Named CacheState). z.name) whole,
+          λ below. subst (λ j. R j x.it d.it) (sym e) (subst (λ (z : Named CacheState). R n z.it d.it) whole done),
           λ from. absurd (omega (arith, from, e)),
         )
     by k x at was (inr far) = (
@@ -64,15 +64,15 @@ so_far_more R n old new next c d h there named done is = record {
     )
 
 -- a cache that stays counts as well
-pub so_far_same : (R : ℕ → Kept → Kept → Type 0) (n : ℕ) (old new : List (Named Kept)) (c : Named Kept) → IsSoFar R n old new → slice_get new n ≡ Some c → R n c.it c.it → IsSoFar R (n + 1) old new
+pub so_far_same : (R : ℕ → CacheState → CacheState → Type 0) (n : ℕ) (old new : List (Named CacheState)) (c : Named CacheState) → IsSoFar R n old new → slice_get new n ≡ Some c → R n c.it c.it → IsSoFar R (n + 1) old new
 so_far_same R n old new c h there done = so_far_more R n old new new c c h there refl done (sym (set_same new n c there))
 
 -- one is left out, for which there is nothing to do
-pub so_far_skip : (R : ℕ → Kept → Kept → Type 0) (n : ℕ) (old new : List (Named Kept)) → IsSoFar R n old new → n < length new → ((c : Kept) → R n c c) → IsSoFar R (n + 1) old new
+pub so_far_skip : (R : ℕ → CacheState → CacheState → Type 0) (n : ℕ) (old new : List (Named CacheState)) → IsSoFar R n old new → n < length new → ((c : CacheState) → R n c c) → IsSoFar R (n + 1) old new
 so_far_skip R n old new h below done = let it = some_at new n below in so_far_same R n old new it.0 h it.1 (done it.0.it)
 
 -- the next one is as it was
-pub so_far_here : (R : ℕ → Kept → Kept → Type 0) (n : ℕ) (old new : List (Named Kept)) (c : Named Kept) → IsSoFar R n old new → slice_get new n ≡ Some c → slice_get old n ≡ Some c
+pub so_far_here : (R : ℕ → CacheState → CacheState → Type 0) (n : ℕ) (old new : List (Named CacheState)) (c : Named CacheState) → IsSoFar R n old new → slice_get new n ≡ Some c → slice_get old n ≡ Some c
 so_far_here R n old new c h there =
     let was = there_too new old (sym h.long) n c there in
     let it = h.each n was.0 was.1 in
@@ -80,13 +80,13 @@ so_far_here R n old new c h there =
     was.1 ∙ ap Some (sym (it.4 (omega arith)) ∙ same)
 
 -- all of them
-pub so_far_all : (R : ℕ → Kept → Kept → Type 0) (n : ℕ) (old new : List (Named Kept)) → length old ≤ n → IsSoFar R n old new → AreEach R old new
+pub so_far_all : (R : ℕ → CacheState → CacheState → Type 0) (n : ℕ) (old new : List (Named CacheState)) → length old ≤ n → IsSoFar R n old new → EachCacheBecame R old new
 so_far_all R n old new all h = record {
   long = h.long;
   each = λ k c at. let it = h.each k c at in (it.0, it.1, it.2, it.3 (before k c at));
 }
   where
-    before : (k : ℕ) (c : Named Kept) → slice_get old k ≡ Some c → k < n
+    before : (k : ℕ) (c : Named CacheState) → slice_get old k ≡ Some c → k < n
     before k c at = let there = slice_get_within old k c at in omega (arith, there, all)
 
 -- ---- what holds of each
@@ -124,12 +124,12 @@ at_among (x ∷ xs) (suc i) d below = inr (at_among xs i d (omega (arith, below)
 -- ---- source after source
 
 -- of sources these were touched and those not yet
-pub record IsOnTheWay (a : App) (xs ys zs : List Source) (old new : Kept) : Type 0 where
+pub record IsOnTheWay (a : App) (xs ys zs : List Source) (old new : CacheState) : Type 0 where
   pub order : IsInOrder a old → IsInOrder a new
   pub right : (s : SessionState) (tables : ToldRows) (m : ℕ) → IsRight (present a s tables m) xs old → IsRight (present a s tables m) zs new
-  pub last : HasRoom (old.last + length ys) → new.last ≡ old.last + length ys
-  pub left : HasRoom (old.last + length ys) → (k : ℕ) → ((x : Source) → IsAmong x ys → Reaches a k x → ⊥) → IsClean a old k → IsClean a new k
-  pub but : IsLeftBut a ys old new
+  pub last : HasNumbersLeft (old.last + length ys) → new.last ≡ old.last + length ys
+  pub left : HasNumbersLeft (old.last + length ys) → (k : ℕ) → ((x : Source) → IsAmong x ys → Reaches a k x → ⊥) → IsClean a old k → IsClean a new k
+  pub but : StaysCleanExcept a ys old new
   pub day : new.values.day ≡ old.values.day
 
 among_left : (x : Source) (ys : List Source) (s : Source) → IsAmong x ys → IsAmong x (ys ++ s ∷ [])
@@ -141,7 +141,7 @@ among_last : (ys : List Source) (s : Source) → IsAmong s (ys ++ s ∷ [])
 among_last [] s = inl refl
 among_last (y ∷ ys) s = inr (among_last ys s)
 
-pub way_on : (a : App) (xs ys zs : List Source) (s : Source) (old mid new : Kept) → IsOnTheWay a xs ys (s ∷ zs) old mid → IsTouched a s mid new → IsOnTheWay a xs (ys ++ s ∷ []) zs old new
+pub way_on : (a : App) (xs ys zs : List Source) (s : Source) (old mid new : CacheState) → IsOnTheWay a xs ys (s ∷ zs) old mid → IsTouched a s mid new → IsOnTheWay a xs (ys ++ s ∷ []) zs old new
 way_on a xs ys zs s old mid new h t = record {
   order = λ o. t.order (h.order o);
   right = λ r tables m k. t.right r tables m zs (h.right r tables m k);
@@ -161,20 +161,20 @@ way_on a xs ys zs s old mid new h t = record {
     sum : old.last + length ys + 1 ≡ old.last + length (ys ++ s ∷ [])
     sum = omega (arith, more)
 
-    before : HasRoom (old.last + length (ys ++ s ∷ [])) → HasRoom (old.last + length ys)
+    before : HasNumbersLeft (old.last + length (ys ++ s ∷ [])) → HasNumbersLeft (old.last + length ys)
     before room = omega (arith, room, more)
 
-    now : HasRoom (old.last + length (ys ++ s ∷ [])) → HasRoom mid.last
+    now : HasNumbersLeft (old.last + length (ys ++ s ∷ [])) → HasNumbersLeft mid.last
     now room = let is = h.last (before room) in omega (arith, room, more, is)
 
-pub way_ends : (a : App) (xs : List Source) (old new : Kept) → IsOnTheWay a xs xs [] old new → AreTouched a xs old new
+pub way_ends : (a : App) (xs : List Source) (old new : CacheState) → IsOnTheWay a xs xs [] old new → CacheTouched a xs old new
 way_ends a xs old new h = record { order = h.order; right = h.right; left = h.left; but = h.but; day = h.day }
 
 -- the tables among sources, one after another
-abbrev pub IsAt : App → List Source → ℕ → Kept → Kept → Type 0
+abbrev pub IsAt : App → List Source → ℕ → CacheState → CacheState → Type 0
 IsAt a xs i old new = IsOnTheWay a (tables_in xs) (tables_in (take i xs)) (tables_in (drop i xs)) old new
 
-pub at_start : (a : App) (xs : List Source) (c : Kept) → IsAt a xs 0 c c
+pub at_start : (a : App) (xs : List Source) (c : CacheState) → IsAt a xs 0 c c
 at_start a xs c = record {
   order = λ o. o;
   right = λ s tables m r. r;
@@ -201,7 +201,7 @@ no_table s xs e = grind (arith, common_steps, e)
 drop_one : (xs : List Source) (i : ℕ) (d : Source) → i < length xs → drop i xs ≡ get_or xs i d ∷ drop (i + 1) xs
 drop_one xs i d below = drop-cons xs i d below ∙ ap (λ k. get_or xs i d ∷ drop k xs) (sym (add-one i))
 
-pub at_table : (a : App) (xs : List Source) (i : ℕ) (d : Source) (old mid new : Kept) → i < length xs → is_table (get_or xs i d) ≡ true → IsAt a xs i old mid → IsTouched a (get_or xs i d) mid new → IsAt a xs (i + 1) old new
+pub at_table : (a : App) (xs : List Source) (i : ℕ) (d : Source) (old mid new : CacheState) → i < length xs → is_table (get_or xs i d) ≡ true → IsAt a xs i old mid → IsTouched a (get_or xs i d) mid new → IsAt a xs (i + 1) old new
 at_table a xs i d old mid new below table h t =
     let s = get_or xs i d in
     let rest : tables_in (drop i xs) ≡ s ∷ tables_in (drop (i + 1) xs) = ap tables_in (drop_one xs i d below) ∙ one_table s (drop (i + 1) xs) table in
@@ -211,7 +211,7 @@ at_table a xs i d old mid new below table h t =
     (way_on a (tables_in xs) (tables_in (take i xs)) (tables_in (drop (i + 1) xs)) s old mid new
     (subst (λ (l : List Source). IsOnTheWay a (tables_in xs) (tables_in (take i xs)) l old mid) rest h) t)
 
-pub at_other : (a : App) (xs : List Source) (i : ℕ) (d : Source) (old new : Kept) → i < length xs → is_table (get_or xs i d) ≡ false → IsAt a xs i old new → IsAt a xs (i + 1) old new
+pub at_other : (a : App) (xs : List Source) (i : ℕ) (d : Source) (old new : CacheState) → i < length xs → is_table (get_or xs i d) ≡ false → IsAt a xs i old new → IsAt a xs (i + 1) old new
 at_other a xs i d old new below plain h =
     let s = get_or xs i d in
     let rest : tables_in (drop i xs) ≡ tables_in (drop (i + 1) xs) = ap tables_in (drop_one xs i d below) ∙ no_table s (drop (i + 1) xs) plain in
@@ -220,7 +220,7 @@ at_other a xs i d old new below plain h =
     subst (λ (l : List Source). IsOnTheWay a (tables_in xs) l (tables_in (drop (i + 1) xs)) old new) (sym done)
     (subst (λ (l : List Source). IsOnTheWay a (tables_in xs) (tables_in (take i xs)) l old new) rest h)
 
-pub at_end : (a : App) (xs : List Source) (i : ℕ) (old new : Kept) → i ≡ length xs → IsAt a xs i old new → AreTouched a (tables_in xs) old new
+pub at_end : (a : App) (xs : List Source) (i : ℕ) (old new : CacheState) → i ≡ length xs → IsAt a xs i old new → CacheTouched a (tables_in xs) old new
 at_end a xs i old new all h =
     way_ends a (tables_in xs) old new
     (subst (λ (l : List Source). IsOnTheWay a (tables_in xs) (tables_in xs) l old new) (ap tables_in (nothing xs i all))

@@ -2,16 +2,16 @@
 use Rattle.std.proofs.Common.{◌≡◌, ℕ, inl, inr, Bool, true, false, List, [], ◌∷◌, length, refl, ap, ◌∙◌, subst, arith}
 use Rattle.std.proofs.lemmas.List.{length-append}
 use Rattle.fx_base.specs.Silence.{Marks}
-use Rattle.app_wire.specs.Doorway.{IsCutOff}
-use Rattle.app_wire.specs.Framing.{IsBegun, Refuses}
+use Rattle.app_wire.specs.Doorway.{IsProperPrefix}
+use Rattle.app_wire.specs.Framing.{IsRequestBegun, Refuses}
 use Rattle.app_wire.proofs.Blanks.{front_byte}
-use Rattle.office.specs.Answers.{EndsSo, Exchange, Frames, IsOver, IsSpent, IsTalk, Plays}
-use Rattle.office.specs.State.{State}
+use Rattle.office.specs.Answers.{EndsSo, Exchange, Frames, IsConversationOver, IsSpent, IsTalk, Plays}
+use Rattle.office.specs.State.{OfficeState}
 use Rattle.office.specs.declared.converse.ConvEnd.{ConvEnd}
 use Rattle.office.specs.declared.converse.ConvEnd.TheVariants.{Ended, Faulted, Full}
 
 -- no request of no bytes
-unbegun : IsBegun [] → ⊥
+unbegun : IsRequestBegun [] → ⊥
 unbegun (inl h) = omega (arith, h.some)
 unbegun (inr h) = omega (arith, front_byte [] h.head.start h.head.front)
 
@@ -35,12 +35,12 @@ unsaid words (inl h) = h.1
 unsaid words (inr (inl h)) = absurd (unrefused h.0 h.1)
 unsaid words (inr (inr h)) = absurd (omega (arith, h.0))
 
-no_last : (one : Bool) (unread words : List ℕ) → IsOver one [] [] unread words → words ≡ []
+no_last : (one : Bool) (unread words : List ℕ) → IsConversationOver one [] [] unread words → words ≡ []
 no_last true unread words h = unsaid words h
 no_last false unread words h = unsaid words h
 
 -- nothing breaks off there
-uncut : (part : List ℕ) → IsCutOff part [] → ⊥
+uncut : (part : List ℕ) → IsProperPrefix part [] → ⊥
 uncut part h = omega (arith, h.short, ap length h.is, length-append part h.rest)
 
 ends_silent : (end : ConvEnd) (one : Bool) (unread written : List ℕ) → EndsSo end one [] [] unread written → written ≡ []
@@ -48,12 +48,12 @@ ends_silent Ended one unread written h = h.2 ∙ no_last one unread h.0 h.1
 ends_silent Full one unread written h = h.0
 ends_silent Faulted one unread written (inl h) = h.written_is
 ends_silent Faulted one unread written (inr (inl h)) = absurd (omega (arith, ap length h.xs_are, length-append h.front (h.last ∷ [])))
-ends_silent Faulted one unread written (inr (inr h)) = absurd (uncut h.part (subst (IsCutOff h.part) (unsaid h.words h.spent) h.cut))
+ends_silent Faulted one unread written (inr (inr h)) = absurd (uncut h.part (subst (IsProperPrefix h.part) (unsaid h.words h.spent) h.cut))
 
-plays_none : (old new : State) (before now : Marks) (xs : List Exchange) → xs ≡ [] → Plays old before xs new now → (new ≡ old) × (now ≡ before)
+plays_none : (old new : OfficeState) (before now : Marks) (xs : List Exchange) → xs ≡ [] → Plays old before xs new now → (new ≡ old) × (now ≡ before)
 plays_none old new before now xs none plays = subst (λ ys. Plays old before ys new now) none plays
 
-pub silent : (one : Bool) (end : ConvEnd) (old new : State) (before now : Marks) (xs : List Exchange) (taken written : List ℕ)
+pub silent : (one : Bool) (end : ConvEnd) (old new : OfficeState) (before now : Marks) (xs : List Exchange) (taken written : List ℕ)
     → Plays old before xs new now → IsTalk one end xs [] taken written → (written ≡ []) × (xs ≡ []) × (new ≡ old) × (now ≡ before)
 silent one end old new before now xs taken written plays talk =
     let none = unanswered xs talk.left talk.frames in

@@ -1,7 +1,7 @@
 -- The steps of the office.
 use Rattle.std.proofs.Common.{◌≡◌, ℕ, Bool, List, Option, None, Some, Result, Ok, Err, refl, ap, sym, ◌∙◌, subst}
 use Rattle.std.specs.Prelude.{OnErr}
-use Rattle.fx_base.specs.Silence.{Goes, IsLost, Marks}
+use Rattle.fx_base.specs.Silence.{MayFallSilent, SilenceCause, Marks}
 use Rattle.fx_base.specs.Telling.{Stays}
 use Rattle.row_keeper.specs.Tables.{Tables}
 use Rattle.row_keeper.specs.declared.keeper.KeeperEnd.{KeeperEnd}
@@ -20,119 +20,119 @@ use Rattle.numbered_requests.specs.declared.directory.Named.{Named as Caller}
 use Rattle.numbered_requests.specs.declared.reply.Reply.{Reply}
 use Rattle.row_requests.specs.Page.{ReachesPage}
 use Rattle.row_requests.proofs.Soundness.{sound_stays}
-use Rattle.recalc.specs.Kept.{Kept as Values}
-use Rattle.session_state.specs.Once.{Kept}
+use Rattle.recalc.specs.Kept.{CacheState as Values}
+use Rattle.session_state.specs.Once.{LastRequest}
 use Rattle.session_state.specs.Sessions.{SessionState}
 use Rattle.session_requests.specs.Posting.{PostsEvent, PostsInput, ReachesEvent, ReachesInput}
 use Rattle.office.specs.Caches.{AreKept}
-use Rattle.office.specs.Ready.{IsReady}
+use Rattle.office.specs.Ready.{OfficeInvariant}
 use Rattle.office.specs.Sessions.{ReachesNamed}
-use Rattle.office.specs.State.{Seen, State, schema_of}
-use Rattle.office.specs.Step.{Does, DoesAt, Left, Reaches, Step}
+use Rattle.office.specs.State.{OfficeView, OfficeState, schema_of}
+use Rattle.office.specs.Step.{RouteStep, RoutedStep, Left, PassesChecks, Step}
 
 -- a route was taken
-pub routed : (lost : Type 0) (old new : State) (moment : ℕ) (request : Asked) (route : Route) (said : List ℕ)
-    → Routing request.method request.path (Ok route) → Does lost moment route request.body old said new → Step lost old moment request said new
-unfolding DoesAt
+pub routed : (lost : Type 0) (old new : OfficeState) (moment : ℕ) (request : Asked) (route : Route) (said : List ℕ)
+    → Routing request.method request.path (Ok route) → RouteStep lost moment route request.body old said new → Step lost old moment request said new
+unfolding RoutedStep
 routed lost old new moment request route said is does = record { route = Ok route; routed = is; does = does }
 
 -- it was taken by an office that went over to the moment
-pub routed_then : (k l n : Marks) (s t new : State) (m moment : ℕ) (request : Asked) (route : Route) (said : List ℕ)
-    → Routing request.method request.path (Ok route) → t ≡ s → l ≡ k → m ≡ moment → Does (IsLost l n) m route request.body t said new → Step (IsLost k n) s moment request said new
+pub routed_then : (k l n : Marks) (s t new : OfficeState) (m moment : ℕ) (request : Asked) (route : Route) (said : List ℕ)
+    → Routing request.method request.path (Ok route) → t ≡ s → l ≡ k → m ≡ moment → RouteStep (SilenceCause l n) m route request.body t said new → Step (SilenceCause k n) s moment request said new
 routed_then k l n s t new m moment request route said is state marks at does =
-    routed (IsLost k n) s new moment request route said is
-    (subst (λ (x : ℕ). Does (IsLost k n) x route request.body s said new) at
-    (subst (λ (x : Marks). Does (IsLost x n) m route request.body s said new) marks
-    (subst (λ (x : State). Does (IsLost l n) m route request.body x said new) state does)))
+    routed (SilenceCause k n) s new moment request route said is
+    (subst (λ (x : ℕ). RouteStep (SilenceCause k n) x route request.body s said new) at
+    (subst (λ (x : Marks). RouteStep (SilenceCause x n) m route request.body s said new) marks
+    (subst (λ (x : OfficeState). RouteStep (SilenceCause l n) m route request.body x said new) state does)))
 
 -- there is none
-pub unrouted : (lost : Type 0) (old new : State) (moment : ℕ) (request : Asked) (said : List ℕ)
+pub unrouted : (lost : Type 0) (old new : OfficeState) (moment : ℕ) (request : Asked) (said : List ℕ)
     → Routing request.method request.path (Err NoRoute) → said ≡ refusal 7 → new ≡ old → Step lost old moment request said new
-unfolding DoesAt
+unfolding RoutedStep
 unrouted lost old new moment request said is replied same = record { route = Err NoRoute; routed = is; does = (replied, same) }
 
-pub wrong_method : (lost : Type 0) (old new : State) (moment : ℕ) (request : Asked) (said : List ℕ)
+pub wrong_method : (lost : Type 0) (old new : OfficeState) (moment : ℕ) (request : Asked) (said : List ℕ)
     → Routing request.method request.path (Err WrongMethod) → said ≡ refusal 8 → new ≡ old → Step lost old moment request said new
-unfolding DoesAt
+unfolding RoutedStep
 wrong_method lost old new moment request said is replied same = record { route = Err WrongMethod; routed = is; does = (replied, same) }
 
 -- a keeper that is left stays as it is
-pub still : (lost : Type 0) (x y : Option Tables) → y ≡ x → Goes lost Stays x y
+pub still : (lost : Type 0) (x y : Option Tables) → y ≡ x → MayFallSilent lost Stays x y
 still lost None y e = e
 still lost (Some t) None e = cc
 still lost (Some t) (Some u) e = cc
 
 -- where all is as before, it is left
-pub left_all : (lost : Type 0) (s new : State) → new ≡ s → Left lost s new
+pub left_all : (lost : Type 0) (s new : OfficeState) → new ≡ s → Left lost s new
 left_all lost s new e = record {
-  tables = still lost s.tables new.tables (ap (λ (x : State). x.tables) e);
-  others = e ∙ sym (ap (λ (t : Option Tables). record s { tables = t }) (ap (λ (x : State). x.tables) e));
+  tables = still lost s.tables new.tables (ap (λ (x : OfficeState). x.tables) e);
+  others = e ∙ sym (ap (λ (t : Option Tables). record s { tables = t }) (ap (λ (x : OfficeState). x.tables) e));
 }
 
 -- rows of a table are asked of the keeper
-pub reaches_page : (s : State) (app : App) (body : List ℕ) (route : Route) (table : List ℕ) (after : ℕ) (schema : Schema)
-    → route ≡ Page table after → schema ≡ schema_of app → s.app ≡ app → ReachesPage schema.tables table → Reaches route body s
-unfolding Reaches
+pub reaches_page : (s : OfficeState) (app : App) (body : List ℕ) (route : Route) (table : List ℕ) (after : ℕ) (schema : Schema)
+    → route ≡ Page table after → schema ≡ schema_of app → s.app ≡ app → ReachesPage schema.tables table → PassesChecks route body s
+unfolding PassesChecks
 reaches_page s app body route table after schema is same of reaches =
-    subst (λ r. Reaches r body s) (sym is) (subst (λ (a : App). ReachesPage (schema_of a).tables table) (sym of) (subst (λ (x : Schema). ReachesPage x.tables table) same reaches))
+    subst (λ r. PassesChecks r body s) (sym is) (subst (λ (a : App). ReachesPage (schema_of a).tables table) (sym of) (subst (λ (x : Schema). ReachesPage x.tables table) same reaches))
 
 -- so are those that formulas read
-pub reaches_view : (s : State) (xs : List (Caller SessionState)) (body : List ℕ) (route : Route) (name : List ℕ) → route ≡ View name → s.sessions ≡ xs → ReachesView name xs → Reaches route body s
-unfolding Reaches
-reaches_view s xs body route name is of reaches = subst (λ r. Reaches r body s) (sym is) (subst (λ (l : List (Caller SessionState)). ReachesView name l) (sym of) reaches)
+pub reaches_view : (s : OfficeState) (xs : List (Caller SessionState)) (body : List ℕ) (route : Route) (name : List ℕ) → route ≡ View name → s.sessions ≡ xs → ReachesView name xs → PassesChecks route body s
+unfolding PassesChecks
+reaches_view s xs body route name is of reaches = subst (λ r. PassesChecks r body s) (sym is) (subst (λ (l : List (Caller SessionState)). ReachesView name l) (sym of) reaches)
 
-pub reaches_named : (s : State) (xs : List (Caller SessionState)) (body : List ℕ) (route : Route) (name : List ℕ) → route ≡ Named name → s.sessions ≡ xs → ReachesNamed name xs → Reaches route body s
-unfolding Reaches
-reaches_named s xs body route name is of reaches = subst (λ r. Reaches r body s) (sym is) (subst (λ (l : List (Caller SessionState)). ReachesNamed name l) (sym of) reaches)
+pub reaches_named : (s : OfficeState) (xs : List (Caller SessionState)) (body : List ℕ) (route : Route) (name : List ℕ) → route ≡ Named name → s.sessions ≡ xs → ReachesNamed name xs → PassesChecks route body s
+unfolding PassesChecks
+reaches_named s xs body route name is of reaches = subst (λ r. PassesChecks r body s) (sym is) (subst (λ (l : List (Caller SessionState)). ReachesNamed name l) (sym of) reaches)
 
-pub reaches_items : (s : State) (app : App) (xs : List (Caller SessionState)) (body : List ℕ) (route : Route) (name gallery : List ℕ) (from : ℕ)
-    → route ≡ Items name gallery from → s.app ≡ app → s.sessions ≡ xs → ReachesItems app name gallery xs → Reaches route body s
-unfolding Reaches
+pub reaches_items : (s : OfficeState) (app : App) (xs : List (Caller SessionState)) (body : List ℕ) (route : Route) (name gallery : List ℕ) (from : ℕ)
+    → route ≡ Items name gallery from → s.app ≡ app → s.sessions ≡ xs → ReachesItems app name gallery xs → PassesChecks route body s
+unfolding PassesChecks
 reaches_items s app xs body route name gallery from is served of reaches =
-    subst (λ r. Reaches r body s) (sym is) (subst (λ (a : App). ReachesItems a name gallery s.sessions) (sym served) (subst (λ (l : List (Caller SessionState)). ReachesItems app name gallery l) (sym of) reaches))
+    subst (λ r. PassesChecks r body s) (sym is) (subst (λ (a : App). ReachesItems a name gallery s.sessions) (sym served) (subst (λ (l : List (Caller SessionState)). ReachesItems app name gallery l) (sym of) reaches))
 
-pub reaches_event : (s : State) (xs : List (Caller SessionState)) (body given : List ℕ) (route : Route) (name : List ℕ) → route ≡ Event name → s.sessions ≡ xs → given ≡ body → ReachesEvent name given xs → Reaches route body s
-unfolding Reaches
+pub reaches_event : (s : OfficeState) (xs : List (Caller SessionState)) (body given : List ℕ) (route : Route) (name : List ℕ) → route ≡ Event name → s.sessions ≡ xs → given ≡ body → ReachesEvent name given xs → PassesChecks route body s
+unfolding PassesChecks
 reaches_event s xs body given route name is of same reaches =
-    subst (λ r. Reaches r body s) (sym is) (subst (λ b. ReachesEvent name b s.sessions) same (subst (λ (l : List (Caller SessionState)). ReachesEvent name given l) (sym of) reaches))
+    subst (λ r. PassesChecks r body s) (sym is) (subst (λ b. ReachesEvent name b s.sessions) same (subst (λ (l : List (Caller SessionState)). ReachesEvent name given l) (sym of) reaches))
 
-pub reaches_input : (s : State) (xs : List (Caller SessionState)) (body given : List ℕ) (route : Route) (name : List ℕ) → route ≡ Input name → s.sessions ≡ xs → given ≡ body → ReachesInput name given xs → Reaches route body s
-unfolding Reaches
+pub reaches_input : (s : OfficeState) (xs : List (Caller SessionState)) (body given : List ℕ) (route : Route) (name : List ℕ) → route ≡ Input name → s.sessions ≡ xs → given ≡ body → ReachesInput name given xs → PassesChecks route body s
+unfolding PassesChecks
 reaches_input s xs body given route name is of same reaches =
-    subst (λ r. Reaches r body s) (sym is) (subst (λ b. ReachesInput name b s.sessions) same (subst (λ (l : List (Caller SessionState)). ReachesInput name given l) (sym of) reaches))
+    subst (λ r. PassesChecks r body s) (sym is) (subst (λ b. ReachesInput name b s.sessions) same (subst (λ (l : List (Caller SessionState)). ReachesInput name given l) (sym of) reaches))
 
 -- of the route that was taken
-pub does_event : (route : Route) (name body given : List ℕ) (old made : Seen) (now : Marks) (tables : Option Tables) (sessions : List (Caller SessionState)) (said : List ℕ) → route ≡ Event name → made ≡ old → given ≡ body
-    → PostsEvent (IsLost made.marks now) made.state.app made.moment name given made.state.tables made.state.sessions said tables sessions
-    → Does (IsLost old.marks now) old.moment route body old.state said (record made.state { tables = tables; sessions = sessions })
-unfolding Does
+pub does_event : (route : Route) (name body given : List ℕ) (old made : OfficeView) (now : Marks) (tables : Option Tables) (sessions : List (Caller SessionState)) (said : List ℕ) → route ≡ Event name → made ≡ old → given ≡ body
+    → PostsEvent (SilenceCause made.marks now) made.state.app made.moment name given made.state.tables made.state.sessions said tables sessions
+    → RouteStep (SilenceCause old.marks now) old.moment route body old.state said (record made.state { tables = tables; sessions = sessions })
+unfolding RouteStep
 does_event route name body given old made now tables sessions said is same equal posts =
-    let new : State = record made.state { tables = tables; sessions = sessions } in
-    subst (λ (r : Route). Does (IsLost old.marks now) old.moment r body old.state said new) (sym is)
-    (subst (λ (s : Seen). Does (IsLost s.marks now) s.moment (Event name) body s.state said new) same
-    (subst (λ (b : List ℕ). Does (IsLost made.marks now) made.moment (Event name) b made.state said new) equal (posts, refl)))
+    let new : OfficeState = record made.state { tables = tables; sessions = sessions } in
+    subst (λ (r : Route). RouteStep (SilenceCause old.marks now) old.moment r body old.state said new) (sym is)
+    (subst (λ (s : OfficeView). RouteStep (SilenceCause s.marks now) s.moment (Event name) body s.state said new) same
+    (subst (λ (b : List ℕ). RouteStep (SilenceCause made.marks now) made.moment (Event name) b made.state said new) equal (posts, refl)))
 
-pub does_input : (route : Route) (name body given : List ℕ) (old made : Seen) (now : Marks) (tables : Option Tables) (sessions : List (Caller SessionState)) (said : List ℕ) → route ≡ Input name → made ≡ old → given ≡ body
-    → PostsInput (IsLost made.marks now) made.state.app made.moment name given made.state.tables made.state.sessions said tables sessions
-    → Does (IsLost old.marks now) old.moment route body old.state said (record made.state { tables = tables; sessions = sessions })
-unfolding Does
+pub does_input : (route : Route) (name body given : List ℕ) (old made : OfficeView) (now : Marks) (tables : Option Tables) (sessions : List (Caller SessionState)) (said : List ℕ) → route ≡ Input name → made ≡ old → given ≡ body
+    → PostsInput (SilenceCause made.marks now) made.state.app made.moment name given made.state.tables made.state.sessions said tables sessions
+    → RouteStep (SilenceCause old.marks now) old.moment route body old.state said (record made.state { tables = tables; sessions = sessions })
+unfolding RouteStep
 does_input route name body given old made now tables sessions said is same equal posts =
-    let new : State = record made.state { tables = tables; sessions = sessions } in
-    subst (λ (r : Route). Does (IsLost old.marks now) old.moment r body old.state said new) (sym is)
-    (subst (λ (s : Seen). Does (IsLost s.marks now) s.moment (Input name) body s.state said new) same
-    (subst (λ (b : List ℕ). Does (IsLost made.marks now) made.moment (Input name) b made.state said new) equal (posts, refl)))
+    let new : OfficeState = record made.state { tables = tables; sessions = sessions } in
+    subst (λ (r : Route). RouteStep (SilenceCause old.marks now) old.moment r body old.state said new) (sym is)
+    (subst (λ (s : OfficeView). RouteStep (SilenceCause s.marks now) s.moment (Input name) body s.state said new) same
+    (subst (λ (b : List ℕ). RouteStep (SilenceCause made.marks now) made.moment (Input name) b made.state said new) equal (posts, refl)))
 
 -- where no rows are read, a keeper stays as it is
 pub read_nothing : (a : Keeping) → HasRead a a
 read_nothing a = read_none a
 
 -- what is ready stays so where rows are read, and caches are right over them
-pub still_ready : (app : App) (a b : Keeping) (sessions : List (Caller SessionState)) (desks : List (Caller Kept)) (caches later : List (Caller Values)) (moment : ℕ) → HasRead a b → AreKept app b.told moment sessions later
-    → IsReady app a.in_transaction a.shaped a.told sessions desks caches moment → IsReady app b.in_transaction b.shaped b.told sessions desks later moment
+pub still_ready : (app : App) (a b : Keeping) (sessions : List (Caller SessionState)) (desks : List (Caller LastRequest)) (caches later : List (Caller Values)) (moment : ℕ) → HasRead a b → AreKept app b.told moment sessions later
+    → OfficeInvariant app a.in_transaction a.shaped a.told sessions desks caches moment → OfficeInvariant app b.in_transaction b.shaped b.told sessions desks later moment
 still_ready app a b sessions desks caches later moment read kept ready = record {
   idle = read.mode ∙ ready.idle;
   shaped = read.shaped ∙ ready.shaped;
-  sound = sound_stays (schema_of app) (IsLost a.marks b.marks) a.told b.told ready.sound read.told;
+  sound = sound_stays (schema_of app) (SilenceCause a.marks b.marks) a.told b.told ready.sound read.told;
   kept = ready.kept;
   accepted = ready.accepted;
   loaded = ready.loaded;
@@ -143,8 +143,8 @@ still_ready app a b sessions desks caches later moment read kept ready = record 
 }
 
 -- and with other caches at another moment
-pub ready_then : (app : App) (in_transaction : Bool) (by : Option Schema) (told : Option Tables) (sessions : List (Caller SessionState)) (desks : List (Caller Kept)) (caches later : List (Caller Values)) (m n : ℕ)
-    → IsReady app in_transaction by told sessions desks caches m → AreKept app told n sessions later → IsReady app in_transaction by told sessions desks later n
+pub ready_then : (app : App) (in_transaction : Bool) (by : Option Schema) (told : Option Tables) (sessions : List (Caller SessionState)) (desks : List (Caller LastRequest)) (caches later : List (Caller Values)) (m n : ℕ)
+    → OfficeInvariant app in_transaction by told sessions desks caches m → AreKept app told n sessions later → OfficeInvariant app in_transaction by told sessions desks later n
 ready_then app in_transaction by told sessions desks caches later m n ready kept = record {
   idle = ready.idle;
   shaped = ready.shaped;
@@ -159,11 +159,11 @@ ready_then app in_transaction by told sessions desks caches later m n ready kept
 }
 
 -- a keeper whose rows were read is left, with all beside it but caches
-pub left_read : (a b : Keeping) (app : App) (sessions : List (Caller SessionState)) (desks : List (Caller Kept)) (caches : List (Caller Values)) (moment : ℕ) (old : Seen)
+pub left_read : (a b : Keeping) (app : App) (sessions : List (Caller SessionState)) (desks : List (Caller LastRequest)) (caches : List (Caller Values)) (moment : ℕ) (old : OfficeView)
     → record { state = record { app = app; tables = a.told; sessions = sessions; desks = desks }; marks = a.marks; visited = a.visited; loan = a.loan; caches = caches; moment = moment } ≡ old → HasRead a b
-    → Left (IsLost old.marks b.marks) old.state (record { app = app; tables = b.told; sessions = sessions; desks = desks })
+    → Left (SilenceCause old.marks b.marks) old.state (record { app = app; tables = b.told; sessions = sessions; desks = desks })
 left_read a b app sessions desks caches moment old is read =
-    subst (λ (o : Seen). Left (IsLost o.marks b.marks) o.state (record { app = app; tables = b.told; sessions = sessions; desks = desks })) is (record { tables = read.told; others = refl })
+    subst (λ (o : OfficeView). Left (SilenceCause o.marks b.marks) o.state (record { app = app; tables = b.told; sessions = sessions; desks = desks })) is (record { tables = read.told; others = refl })
 
 -- what holds however a call ends holds where it stops
 pub stopped : (r : Result Reply KeeperEnd) (P : Type 0) → P → OnErr r P

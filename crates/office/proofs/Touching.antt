@@ -3,8 +3,8 @@ use Rattle.std.proofs.Common.{◌≡◌, ◌⊎◌, ℕ, zero, suc, ◌/◌, fal
 use Rattle.std.proofs.Math.Logic.{∥∥₁_map}
 use Rattle.std.specs.Prelude.{slice_get}
 use Rattle.app_cells.specs.declared.app.App.{App}
-use Rattle.app_loader.specs.app_semantics.Sound.{IsSound}
-use Rattle.fx_base.specs.Silence.{Goes}
+use Rattle.app_loader.specs.app_semantics.Sound.{IsSoundApp}
+use Rattle.fx_base.specs.Silence.{MayFallSilent}
 use Rattle.fx_base.specs.Telling.{Stays}
 use Rattle.fx_types.specs.Types.{Shape}
 use Rattle.fx_types.specs.Values.{Data}
@@ -17,43 +17,43 @@ use Rattle.fx_core.specs.declared.sources.Source.TheVariants as source
 use Rattle.recalc.proofs.Agreeing.{changed}
 use Rattle.recalc.proofs.Touching.{day_order, day_right, empty_right}
 use Rattle.recalc.specs.Changes.{AreSameBut}
-use Rattle.recalc.specs.Kept.{IsRight, Kept}
+use Rattle.recalc.specs.Kept.{IsRight, CacheState}
 use Rattle.recalc.specs.Outcomes.{IsRightOver}
 use Rattle.recalc.specs.Asking.{IsHeardOf, ToldRows}
 use Rattle.recalc.specs.app_cells.Reach.{is_cell}
-use Rattle.recalc.specs.app_semantics.Present.{Gives, IsTable, present}
-use Rattle.row_keeper.specs.Tables.{TableState, Tables, rows_of, rows_told, state_at}
-use Rattle.row_queries.specs.TableRows.{rows_at, table_of}
+use Rattle.recalc.specs.app_semantics.Present.{SourceGives, GivesTable, present}
+use Rattle.row_keeper.specs.Tables.{TableState, Tables, rows_of_tables, rows_told, state_at}
+use Rattle.row_queries.specs.TableRows.{rows_at, rows_table}
 use Rattle.row_queries.specs.declared.rows.Row.{Row}
-use Rattle.row_requests.specs.Written.{AreTablesBut}
+use Rattle.row_requests.specs.Written.{SameTablesExcept}
 use Rattle.session_requests.specs.Caching.{IsCached}
 use Rattle.session_state.specs.Sessions.{SessionState}
-use Rattle.office.specs.Caches.{AreTouched, IsNew, IsTurned, tables_in}
+use Rattle.office.specs.Caches.{CacheTouched, IsNew, IsTurned, tables_in}
 
 -- ---- what is heard of tables
 
 -- it was heard before, where tables stay
-heard_back : (lost : Type 0) (x y : Option Tables) (f : ToldRows) → Goes lost Stays x y → IsHeardOf y f → IsHeardOf x f
+heard_back : (lost : Type 0) (x y : Option Tables) (f : ToldRows) → MayFallSilent lost Stays x y → IsHeardOf y f → IsHeardOf x f
 heard_back lost x y None k h = tt
 heard_back lost None y (Some g) k h = subst (λ z. rows_told z ≡ Some g) k h
 heard_back lost (Some a) None (Some g) k h = absurd cc
 heard_back lost (Some a) (Some b) (Some g) k h = subst (λ z. rows_told (Some z) ≡ Some g) k h
 
-rows_are : (ss : List TableState) (k : ℕ) → rows_at (rows_of ss) k ≡ (state_at ss k).rows
+rows_are : (ss : List TableState) (k : ℕ) → rows_at (rows_of_tables ss) k ≡ (state_at ss k).rows
 rows_are [] k = refl
 rows_are (s ∷ ss) zero = refl
 rows_are (s ∷ ss) (suc k) = rows_are ss k
 
 -- sources give the same over other rows, but for tables that were written
-rows_but : (xs : List Source) (t u : Tables) → AreTablesBut xs t u → (shape : Option TableShape) (k : ℕ) (v : Data) → (IsAmong (source.Table k) xs → ⊥) → IsTable shape (Some (rows_of t.states)) k v → IsTable shape (Some (rows_of u.states)) k v
+rows_but : (xs : List Source) (t u : Tables) → SameTablesExcept xs t u → (shape : Option TableShape) (k : ℕ) (v : Data) → (IsAmong (source.Table k) xs → ⊥) → GivesTable shape (Some (rows_of_tables t.states)) k v → GivesTable shape (Some (rows_of_tables u.states)) k v
 rows_but xs t u but None k v far h = h
 rows_but xs t u but (Some shape) k v far h =
-    h ∙ ap (λ (rows : List Row). table_of shape rows) (rows_are t.states k ∙ sym (ap (λ (s : TableState). s.rows) (but k far)) ∙ sym (rows_are u.states k))
+    h ∙ ap (λ (rows : List Row). rows_table shape rows) (rows_are t.states k ∙ sym (ap (λ (s : TableState). s.rows) (but k far)) ∙ sym (rows_are u.states k))
 
-same_but : (a : App) (s : SessionState) (m : ℕ) (xs : List Source) (t u : Tables) → AreTablesBut xs t u → AreSameBut xs (present a s (Some (rows_of t.states)) m) (present a s (Some (rows_of u.states)) m)
-same_but a s m xs t u but = record { told = λ rows told. (rows_of t.states, refl); gives = by }
+same_but : (a : App) (s : SessionState) (m : ℕ) (xs : List Source) (t u : Tables) → SameTablesExcept xs t u → AreSameBut xs (present a s (Some (rows_of_tables t.states)) m) (present a s (Some (rows_of_tables u.states)) m)
+same_but a s m xs t u but = record { told = λ rows told. (rows_of_tables t.states, refl); gives = by }
   where
-    by : (x : Source) (y : Shape) (values : ℕ → Data) (v : Data) → sources a.names x ≡ Some y → (IsAmong x xs → ⊥) → is_cell x ≡ false → Gives (present a s (Some (rows_of t.states)) m) values x v → Gives (present a s (Some (rows_of u.states)) m) values x v
+    by : (x : Source) (y : Shape) (values : ℕ → Data) (v : Data) → sources a.names x ≡ Some y → (IsAmong x xs → ⊥) → is_cell x ≡ false → SourceGives (present a s (Some (rows_of_tables t.states)) m) values x v → SourceGives (present a s (Some (rows_of_tables u.states)) m) values x v
     by (source.Cell k) y values v typed far plain g = g
     by (source.Global k) y values v typed far plain g = g
     by (source.Context k) y values v typed far plain g = g
@@ -91,11 +91,11 @@ among_tables k (x ∷ xs) h = by x h (λ l. among_tables k xs l)
     by source.Today (inl e) rest = absurd cc
     by source.Today (inr l) rest = rest l
 
-fewer_but : (xs : List Source) (t u : Tables) → AreTablesBut xs t u → AreTablesBut (tables_in xs) t u
+fewer_but : (xs : List Source) (t u : Tables) → SameTablesExcept xs t u → SameTablesExcept (tables_in xs) t u
 fewer_but xs t u but k far = but k (λ l. far (among_tables k xs l))
 
 -- what was right over the tables as they were is right over those that they are, where it is still to be told what was written
-pending_over : (a : App) (s : SessionState) (m : ℕ) (lost : Type 0) (xs : List Source) (x y : Option Tables) (c : Kept) → IsSound a → Goes lost (AreTablesBut xs) x y → IsRightOver a s x m c
+pending_over : (a : App) (s : SessionState) (m : ℕ) (lost : Type 0) (xs : List Source) (x y : Option Tables) (c : CacheState) → IsSoundApp a → MayFallSilent lost (SameTablesExcept xs) x y → IsRightOver a s x m c
     → (tables : ToldRows) → IsHeardOf y tables → IsRight (present a s tables m) (tables_in xs) c
 pending_over a s m lost xs x y c sound goes right None heard =
     changed a s s None None m m [] (tables_in xs) c sound (λ z l. absurd l) (untold a s m (tables_in xs)) (right None tt)
@@ -105,12 +105,12 @@ pending_over a s m lost xs None y c sound goes right (Some rows) heard =
     absurd cc
 pending_over a s m lost xs (Some t) None c sound goes right (Some rows) heard = absurd cc
 pending_over a s m lost xs (Some t) (Some u) c sound goes right (Some rows) heard =
-    let is : rows_of u.states ≡ rows = cc in
+    let is : rows_of_tables u.states ≡ rows = cc in
     subst (λ (r : List (List Row)). IsRight (present a s (Some r) m) (tables_in xs) c) is
-    (changed a s s (Some (rows_of t.states)) (Some (rows_of u.states)) m m [] (tables_in xs) c sound (λ z l. absurd l) (same_but a s m (tables_in xs) t u (fewer_but xs t u goes)) (right (Some (rows_of t.states)) refl))
+    (changed a s s (Some (rows_of_tables t.states)) (Some (rows_of_tables u.states)) m m [] (tables_in xs) c sound (λ z l. absurd l) (same_but a s m (tables_in xs) t u (fewer_but xs t u goes)) (right (Some (rows_of_tables t.states)) refl))
 
 -- a cache that was told which tables were written is right over them
-pub told_cached : (a : App) (s : SessionState) (m : ℕ) (lost : Type 0) (xs : List Source) (x y : Option Tables) (c d : Kept) → IsSound a → Goes lost (AreTablesBut xs) x y → AreTouched a (tables_in xs) c d
+pub told_cached : (a : App) (s : SessionState) (m : ℕ) (lost : Type 0) (xs : List Source) (x y : Option Tables) (c d : CacheState) → IsSoundApp a → MayFallSilent lost (SameTablesExcept xs) x y → CacheTouched a (tables_in xs) c d
     → IsCached a s x m c → IsCached a s y m d
 told_cached a s m lost xs x y c d sound goes touched h = record {
   order = touched.order h.order;
@@ -119,7 +119,7 @@ told_cached a s m lost xs x y c d sound goes touched h = record {
 }
 
 -- where tables stay all stays right
-pub still_cached : (a : App) (s : SessionState) (m : ℕ) (lost : Type 0) (x y : Option Tables) (c : Kept) → Goes lost Stays x y → IsCached a s x m c → IsCached a s y m c
+pub still_cached : (a : App) (s : SessionState) (m : ℕ) (lost : Type 0) (x y : Option Tables) (c : CacheState) → MayFallSilent lost Stays x y → IsCached a s x m c → IsCached a s y m c
 still_cached a s m lost x y c goes h = record { order = h.order; right = ∥∥₁_map h.right (λ right tables heard. right tables (heard_back lost x y tables goes heard)); day = h.day }
 
 -- ---- days
@@ -127,7 +127,7 @@ still_cached a s m lost x y c goes h = record { order = h.order; right = ∥∥�
 same_day : (a : App) (s : SessionState) (tables : ToldRows) (m n : ℕ) → m / 86400 ≡ n / 86400 → AreSameBut [] (present a s tables m) (present a s tables n)
 same_day a s tables m n e = record { told = λ rows told. (rows, told); gives = by }
   where
-    by : (x : Source) (y : Shape) (values : ℕ → Data) (v : Data) → sources a.names x ≡ Some y → (IsAmong x [] → ⊥) → is_cell x ≡ false → Gives (present a s tables m) values x v → Gives (present a s tables n) values x v
+    by : (x : Source) (y : Shape) (values : ℕ → Data) (v : Data) → sources a.names x ≡ Some y → (IsAmong x [] → ⊥) → is_cell x ≡ false → SourceGives (present a s tables m) values x v → SourceGives (present a s tables n) values x v
     by (source.Cell k) y values v typed far plain g = g
     by (source.Global k) y values v typed far plain g = g
     by (source.Context k) y values v typed far plain g = g
@@ -138,7 +138,7 @@ same_day a s tables m n e = record { told = λ rows told. (rows, told); gives = 
     by source.Today y values v typed far plain g = rw e at g
 
 -- within a day nothing changes
-pub day_cached : (a : App) (s : SessionState) (x : Option Tables) (m n : ℕ) (c : Kept) → IsSound a → m / 86400 ≡ n / 86400 → IsCached a s x m c → IsCached a s x n c
+pub day_cached : (a : App) (s : SessionState) (x : Option Tables) (m n : ℕ) (c : CacheState) → IsSoundApp a → m / 86400 ≡ n / 86400 → IsCached a s x m c → IsCached a s x n c
 day_cached a s x m n c sound e h = record {
   order = h.order;
   right = ∥∥₁_map h.right (λ right tables heard. changed a s s tables tables m n [] [] c sound (λ z l. l) (same_day a s tables m n e) (right tables heard));
@@ -148,7 +148,7 @@ day_cached a s x m n c sound e h = record {
 other_day : (a : App) (s : SessionState) (tables : ToldRows) (m n : ℕ) → AreSameBut (source.Today ∷ []) (present a s tables m) (present a s tables n)
 other_day a s tables m n = record { told = λ rows told. (rows, told); gives = by }
   where
-    by : (x : Source) (y : Shape) (values : ℕ → Data) (v : Data) → sources a.names x ≡ Some y → (IsAmong x (source.Today ∷ []) → ⊥) → is_cell x ≡ false → Gives (present a s tables m) values x v → Gives (present a s tables n) values x v
+    by : (x : Source) (y : Shape) (values : ℕ → Data) (v : Data) → sources a.names x ≡ Some y → (IsAmong x (source.Today ∷ []) → ⊥) → is_cell x ≡ false → SourceGives (present a s tables m) values x v → SourceGives (present a s tables n) values x v
     by (source.Cell k) y values v typed far plain g = g
     by (source.Global k) y values v typed far plain g = g
     by (source.Context k) y values v typed far plain g = g
@@ -159,9 +159,9 @@ other_day a s tables m n = record { told = λ rows told. (rows, told); gives = b
     by source.Today y values v typed far plain g = absurd (far (inl refl))
 
 -- on another day a cache that was told of it is right
-pub turned_cached : (a : App) (s : SessionState) (x : Option Tables) (m n : ℕ) (c d : Kept) → IsSound a → IsTurned n c d → IsCached a s x m c → IsCached a s x n d
+pub turned_cached : (a : App) (s : SessionState) (x : Option Tables) (m n : ℕ) (c d : CacheState) → IsSoundApp a → IsTurned n c d → IsCached a s x m c → IsCached a s x n d
 turned_cached a s x m n c d sound turned h =
-    subst (λ (k : Kept). IsCached a s x n k) (sym turned.is) (record {
+    subst (λ (k : CacheState). IsCached a s x n k) (sym turned.is) (record {
       order = day_order a turned.told turned.day ((turned.touched a).order h.order);
       right = ∥∥₁_map h.right (λ right tables heard.
           day_right (present a s tables n) [] turned.told turned.day
@@ -172,7 +172,7 @@ turned_cached a s x m n c d sound turned h =
 -- ---- new ones
 
 -- a cache in which nothing is kept is that of any session
-pub new_cached : (a : App) (s : SessionState) (x : Option Tables) (m : ℕ) (c : Kept) → IsNew a m c → IsCached a s x m c
+pub new_cached : (a : App) (s : SessionState) (x : Option Tables) (m : ℕ) (c : CacheState) → IsNew a m c → IsCached a s x m c
 new_cached a s x m c new = record {
   order = new.order;
   right = ∣ (λ tables heard. empty_right (present a s tables m) [] c new.order new.empty.stamps) ∣₁;

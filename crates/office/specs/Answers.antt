@@ -1,11 +1,11 @@
 -- Whole conversations: which bytes are answered, and how the office goes on.
 use Rattle.std.specs.Prelude.{◌≡◌, ◌⊎◌, ℕ, ◌<◌, ◌≤◌, Bool, true, false, List, [], ◌∷◌, ◌++◌, length, drop, map, flat_map}
 use Rattle.fx_base.specs.Silence.{IsLater, Marks}
-use Rattle.app_wire.specs.Doorway.{Doorway, IsCutOff, Talk, Writes, WritesPart, with_last, with_taken, with_written}
-use Rattle.app_wire.specs.Framing.{Asked, Framing, IsOpen, nothing, refused, whole}
+use Rattle.app_wire.specs.Doorway.{Doorway, IsProperPrefix, Talk, Writes, WritesPart, with_last, with_taken, with_written}
+use Rattle.app_wire.specs.Framing.{Asked, Framing, IsStillOpen, nothing, refused, whole}
 use Rattle.app_wire.specs.ReplyBytes.{refusal}
-use Rattle.office.specs.State.{State}
-use Rattle.office.specs.Step.{Answered}
+use Rattle.office.specs.State.{OfficeState}
+use Rattle.office.specs.Step.{AnswersRequest}
 use Rattle.office.specs.declared.converse.ConvEnd.{ConvEnd}
 use Rattle.office.specs.declared.converse.ConvEnd.TheVariants.{Ended, Faulted, Full}
 
@@ -15,7 +15,7 @@ pub record Exchange : Type 0 where
   pub moment : ℕ
   pub said : List ℕ
   pub marks : Marks
-  pub state : State
+  pub state : OfficeState
 
 -- their moments, and all of their replies
 abbrev pub moments_of : List Exchange → List ℕ
@@ -26,10 +26,10 @@ said_in xs = flat_map (λ x. x.said) xs
 
 -- From old the office answers these, one after another, and is new then. The keeper's marks never fall: the first are those at
 -- entry, the last those at exit.
-abbrev pub Plays : State → Marks → List Exchange → State → Marks → Type 0
+abbrev pub Plays : OfficeState → Marks → List Exchange → OfficeState → Marks → Type 0
 Plays old before [] new now = (new ≡ old) × (now ≡ before)
 Plays old before (x ∷ xs) new now =
-    IsLater before x.marks × Answered old before x.moment x.asked x.said x.marks x.state × Plays x.state x.marks xs new now
+    IsLater before x.marks × AnswersRequest old before x.moment x.asked x.said x.marks x.state × Plays x.state x.marks xs new now
 
 -- The bytes begin with the requests of these, one after another, and these bytes are left.
 abbrev pub Frames : List ℕ → List Exchange → List ℕ → Type 0
@@ -41,10 +41,10 @@ abbrev pub most_requests : ℕ
 most_requests = 1000000
 
 -- so many are answered in a conversation that ends so, where doors take one reply, or go on
-abbrev pub IsCount : ConvEnd → Bool → ℕ → Type 0
-IsCount Ended one count = (count < most_requests) × (one ≡ true → count ≤ 1)
-IsCount Faulted one count = (count ≤ most_requests) × (one ≡ true → count ≤ 1)
-IsCount Full one count = (count ≡ most_requests) × (one ≡ false)
+abbrev pub IsAnswerCount : ConvEnd → Bool → ℕ → Type 0
+IsAnswerCount Ended one count = (count < most_requests) × (one ≡ true → count ≤ 1)
+IsAnswerCount Faulted one count = (count ≤ most_requests) × (one ≡ true → count ≤ 1)
+IsAnswerCount Full one count = (count ≡ most_requests) × (one ≡ false)
 
 -- the doors take a request after these: all but those that take one reply, which was given
 abbrev pub GoesOn : Bool → List Exchange → Type 0
@@ -70,17 +70,17 @@ IsSpent left words =
     ⊎ ((0 < length left) × (words ≡ refusal 26))
 
 -- The conversation is over, with these last words. Doors that take one reply take no word after it.
-abbrev pub IsOver : Bool → List Exchange → List ℕ → List ℕ → List ℕ → Type 0
-IsOver true (x ∷ xs) left unread words = (words ≡ []) × TakesLittle left unread
-IsOver true [] left unread words = IsSpent left words
-IsOver false xs left unread words = IsSpent left words
+abbrev pub IsConversationOver : Bool → List Exchange → List ℕ → List ℕ → List ℕ → Type 0
+IsConversationOver true (x ∷ xs) left unread words = (words ≡ []) × TakesLittle left unread
+IsConversationOver true [] left unread words = IsSpent left words
+IsConversationOver false xs left unread words = IsSpent left words
 
 -- Doors failed in a read, with all replies written. What was taken and not answered begins no request, or none that is whole.
 pub record IsCutInRead (one : Bool) (xs : List Exchange) (left unread written : List ℕ) : Type 0 where
   pub on : GoesOn one xs
   pub held : List ℕ
   pub left_is : left ≡ held ++ unread
-  pub begun : IsOpen held
+  pub begun : IsStillOpen held
   pub written_is : written ≡ said_in xs
 
 -- they failed in a reply: all that came before it were written
@@ -89,7 +89,7 @@ pub record IsCutInReply (xs : List Exchange) (left unread written : List ℕ) : 
   pub last : Exchange
   pub xs_are : xs ≡ front ++ last ∷ []
   pub part : List ℕ
-  pub cut : IsCutOff part last.said
+  pub cut : IsProperPrefix part last.said
   pub written_is : written ≡ said_in front ++ part
   pub little : TakesLittle left unread
 
@@ -99,12 +99,12 @@ pub record IsCutInWords (one : Bool) (xs : List Exchange) (left written : List �
   pub words : List ℕ
   pub spent : IsSpent left words
   pub part : List ℕ
-  pub cut : IsCutOff part words
+  pub cut : IsProperPrefix part words
   pub written_is : written ≡ said_in xs ++ part
 
 -- how a conversation ended so, of which this is left behind the requests that were answered
 abbrev pub EndsSo : ConvEnd → Bool → List Exchange → List ℕ → List ℕ → List ℕ → Type 0
-EndsSo Ended one xs left unread written = (words : List ℕ) × IsOver one xs left unread words × (written ≡ said_in xs ++ words)
+EndsSo Ended one xs left unread written = (words : List ℕ) × IsConversationOver one xs left unread words × (written ≡ said_in xs ++ words)
 EndsSo Full one xs left unread written = (written ≡ said_in xs) × TakesLittle left unread
 EndsSo Faulted one xs left unread written =
     IsCutInRead one xs left unread written ⊎ IsCutInReply xs left unread written ⊎ IsCutInWords one xs left written
@@ -134,14 +134,14 @@ pub record Converses (one : Bool) (end : ConvEnd) (xs : List Exchange) (a b : Do
   pub talked : Talked taken written a b
 
 -- the last words were written, or a first part of them where the conversation ended by a fault
-abbrev pub Says : ConvEnd → List ℕ → Doorway → Doorway → Type 0
-Says Ended words a b = Writes words a b
-Says Faulted words a b = WritesPart words a b
-Says Full words a b = ⊥
+abbrev pub SaysLastWords : ConvEnd → List ℕ → Doorway → Doorway → Type 0
+SaysLastWords Ended words a b = Writes words a b
+SaysLastWords Faulted words a b = WritesPart words a b
+SaysLastWords Full words a b = ⊥
 
 -- a conversation of no bytes gets none, and changes nothing, also where the doors fail in it
 abbrev pub IsSilent : Type 0
 IsSilent =
-    (one : Bool) (end : ConvEnd) (old new : State) (before now : Marks) (xs : List Exchange) (taken written : List ℕ)
+    (one : Bool) (end : ConvEnd) (old new : OfficeState) (before now : Marks) (xs : List Exchange) (taken written : List ℕ)
     → Plays old before xs new now → IsTalk one end xs [] taken written
     → (written ≡ []) × (xs ≡ []) × (new ≡ old) × (now ≡ before)

@@ -1,9 +1,9 @@
 -- An app that is edited while it is served.
 use Rattle.std.specs.Prelude.{◌≡◌, ℕ, List, Ok}
 use Rattle.app_cells.specs.declared.app.App.{App}
-use Rattle.app_loader.specs.app_edits.Frames.{frame_of}
+use Rattle.app_loader.specs.app_edits.Frames.{app_frame}
 use Rattle.app_loader.specs.Verdicts.{AreSameBreaks}
-use Rattle.app_loader.specs.app_semantics.Sound.{IsSound}
+use Rattle.app_loader.specs.app_semantics.Sound.{IsSoundApp}
 use Rattle.app_wire.specs.Framing.{Asked}
 use Rattle.app_wire.specs.Routing.{Routing}
 use Rattle.app_wire.specs.declared.route.Route.TheVariants.{Edit}
@@ -14,9 +14,9 @@ use Rattle.session_state.specs.Changes.{HoldsTables}
 
 -- What an edit keeps: the app is sound, an empty table fits each of its collections, and it is the same beside its formulas.
 pub record KeepsApp (a b : App) : Type 0 where
-  pub sound : IsSound b
+  pub sound : IsSoundApp b
   pub tables : HoldsTables b.names
-  pub frame : frame_of b ≡ frame_of a
+  pub frame : app_frame b ≡ app_frame a
 
 -- the request is an edit, by its route
 abbrev pub IsEdit : Asked → Type 0

@@ -1,7 +1,7 @@
 -- What callers have to do with one another, and with requests that come again.
 use Rattle.std.specs.Prelude.{◌≡◌, ◌≢◌, ◌⊎◌, ℕ, List, [], ◌∷◌, Option, Some, None, option_map, Ok}
 use Rattle.app_loader.specs.app_semantics.Fresh.{AreKnown}
-use Rattle.fx_base.specs.Silence.{IsLost, Marks}
+use Rattle.fx_base.specs.Silence.{SilenceCause, Marks}
 use Rattle.row_keeper.specs.Tables.{Tables, rows_told}
 use Rattle.row_requests.specs.Sound.{AreSound}
 use Rattle.app_wire.specs.Framing.{Asked}
@@ -12,13 +12,13 @@ use Rattle.app_wire.specs.declared.route.Route.{Route}
 use Rattle.app_wire.specs.declared.route.Route.TheVariants.{Begin, End, View, Named, Items, Event, Input, Rows, Edit}
 use Rattle.numbered_requests.specs.Directory.{find}
 use Rattle.session_state.specs.Carrying.{carried}
-use Rattle.session_state.specs.Once.{Kept}
+use Rattle.session_state.specs.Once.{LastRequest}
 use Rattle.session_state.specs.Sessions.{SessionState}
 use Rattle.office.specs.Answers.{Exchange, Plays}
 use Rattle.office.specs.Editing.{IsEdit}
-use Rattle.office.specs.Ready.{IsSettled}
-use Rattle.office.specs.State.{State, schema_of}
-use Rattle.office.specs.Step.{Answered, Left, Step}
+use Rattle.office.specs.Ready.{IsSettledOffice}
+use Rattle.office.specs.State.{OfficeState, schema_of}
+use Rattle.office.specs.Step.{AnswersRequest, Left, Step}
 
 -- who sends requests: a session or a desk, of a name
 pub data Caller : Type 0 where
@@ -45,41 +45,41 @@ pub record IsOf (caller : Caller) (request : Asked) : Type 0 where
   pub caller_is : caller_of route ≡ Some caller
 
 -- after an edit: a session goes over to the edited app
-abbrev pub IsCarried : State → State → List ℕ → Type 0
-IsCarried old new name = find name new.sessions ≡ option_map (carried old.app.names new.app.names) (find name old.sessions)
+abbrev pub SessionIsCarried : OfficeState → OfficeState → List ℕ → Type 0
+SessionIsCarried old new name = find name new.sessions ≡ option_map (carried old.app.names new.app.names) (find name old.sessions)
 
 -- Any request but those of a session leaves its record as it was, but that it goes over to an app that a desk edits.
 abbrev pub LeavesSession : Type 0
 LeavesSession =
-    (old new : State) (before now : Marks) (moment : ℕ) (request : Asked) (said name : List ℕ)
-    → Answered old before moment request said now new → (IsOf (session name) request → ⊥)
-    → (find name new.sessions ≡ find name old.sessions) ⊎ (IsEdit request × IsCarried old new name)
+    (old new : OfficeState) (before now : Marks) (moment : ℕ) (request : Asked) (said name : List ℕ)
+    → AnswersRequest old before moment request said now new → (IsOf (session name) request → ⊥)
+    → (find name new.sessions ≡ find name old.sessions) ⊎ (IsEdit request × SessionIsCarried old new name)
 
 -- the same of a desk
 abbrev pub LeavesDesk : Type 0
 LeavesDesk =
-    (old new : State) (before now : Marks) (moment : ℕ) (request : Asked) (said name : List ℕ)
-    → Answered old before moment request said now new → (IsOf (desk name) request → ⊥)
+    (old new : OfficeState) (before now : Marks) (moment : ℕ) (request : Asked) (said name : List ℕ)
+    → AnswersRequest old before moment request said now new → (IsOf (desk name) request → ⊥)
     → find name new.desks ≡ find name old.desks
 
 -- Offices with the same app, with the same tables and with the same record of a session or with none, whose keepers tell their
 -- tables, answer its requests alike at one moment, PUT aside, which counts sessions.
 abbrev pub IsAlone : Type 0
 IsAlone =
-    (k l m n : Marks) (a b new new' : State) (moment : ℕ) (request : Asked) (said said' name : List ℕ) (t u u' : Tables)
+    (k l m n : Marks) (a b new new' : OfficeState) (moment : ℕ) (request : Asked) (said said' name : List ℕ) (t u u' : Tables)
     → IsOf (session name) request → request.method ≢ Put
-    → IsSettled a → AreSound (schema_of a.app) a.tables → a.app ≡ b.app → find name a.sessions ≡ find name b.sessions
+    → IsSettledOffice a → AreSound (schema_of a.app) a.tables → a.app ≡ b.app → find name a.sessions ≡ find name b.sessions
     → a.tables ≡ Some t → b.tables ≡ Some t → new.tables ≡ Some u → new'.tables ≡ Some u'
-    → Step (IsLost k l) a moment request said new → Step (IsLost m n) b moment request said' new' → said ≡ said'
+    → Step (SilenceCause k l) a moment request said new → Step (SilenceCause m n) b moment request said' new' → said ≡ said'
 
 -- So do offices of whose rows the same is told, which is all that the app's formulas read, where a session asks to be shown
 -- something.
 abbrev pub ReadsAlone : Type 0
 ReadsAlone =
-    (k l m n : Marks) (a b new new' : State) (moment : ℕ) (request : Asked) (said said' name : List ℕ)
+    (k l m n : Marks) (a b new new' : OfficeState) (moment : ℕ) (request : Asked) (said said' name : List ℕ)
     → IsOf (session name) request → request.method ≡ Get
-    → IsSettled a → a.app ≡ b.app → find name a.sessions ≡ find name b.sessions → AreKnown a.app (rows_told new.tables) → rows_told new.tables ≡ rows_told new'.tables
-    → Step (IsLost k l) a moment request said new → Step (IsLost m n) b moment request said' new' → said ≡ said'
+    → IsSettledOffice a → a.app ≡ b.app → find name a.sessions ≡ find name b.sessions → AreKnown a.app (rows_told new.tables) → rows_told new.tables ≡ rows_told new'.tables
+    → Step (SilenceCause k l) a moment request said new → Step (SilenceCause m n) b moment request said' new' → said ≡ said'
 
 -- none of these exchanges is one of this caller
 abbrev pub AreOfOthers : Caller → List Exchange → Type 0
@@ -87,12 +87,12 @@ AreOfOthers caller [] = Unit {0}
 AreOfOthers caller (x ∷ xs) = (IsOf caller x.asked → ⊥) × AreOfOthers caller xs
 
 -- what is kept of the requests of a caller
-abbrev pub kept_of_session : Option SessionState → Option Kept
+abbrev pub kept_of_session : Option SessionState → Option LastRequest
 kept_of_session s = option_map (λ (x : SessionState). x.kept) s
 
-abbrev pub kept_of : Caller → State → Option Kept
-kept_of (session name) s = kept_of_session (find name s.sessions)
-kept_of (desk name) s = find name s.desks
+abbrev pub last_request_of : Caller → OfficeState → Option LastRequest
+last_request_of (session name) s = kept_of_session (find name s.sessions)
+last_request_of (desk name) s = find name s.desks
 
 -- a request that is posted
 abbrev pub IsPosted : Asked → Type 0
@@ -102,9 +102,9 @@ IsPosted request = request.method ≡ Post
 -- others: it gets the same reply, or want of memory, and acts no more.
 abbrev pub ActsOnce : Type 0
 ActsOnce =
-    (s t u v : State) (k l m n : Marks) (moment moment' : ℕ) (request : Asked) (said said' : List ℕ) (caller : Caller) (between : List Exchange)
+    (s t u v : OfficeState) (k l m n : Marks) (moment moment' : ℕ) (request : Asked) (said said' : List ℕ) (caller : Caller) (between : List Exchange)
     → IsOf caller request → IsPosted request
-    → Answered s k moment request said l t → kept_of caller t ≢ kept_of caller s
+    → AnswersRequest s k moment request said l t → last_request_of caller t ≢ last_request_of caller s
     → Plays t l between u m → AreOfOthers caller between
-    → Answered u m moment' request said' n v
-    → ((said' ≡ said) ⊎ (said' ≡ refusal 26)) × Left (IsLost m n) u v
+    → AnswersRequest u m moment' request said' n v
+    → ((said' ≡ said) ⊎ (said' ≡ refusal 26)) × Left (SilenceCause m n) u v

@@ -11,7 +11,7 @@ use Rattle.app_loader.specs.app_semantics.Present.{Present}
 use Rattle.fx_types.specs.Values.{Data}
 use Rattle.fx_types.specs.ValueView.{view}
 use Rattle.fx_core.specs.declared.names.FormulaName.{FormulaName}
-use Rattle.recalc.specs.Kept.{IsClean, Kept}
+use Rattle.recalc.specs.Kept.{IsClean, CacheState}
 use Rattle.view_text.specs.JsonText.{tagged, value_data}
 use Rattle.view_text.specs.declared.replies.Named.{Named}
 
@@ -24,11 +24,11 @@ unfoldable pub named_body : List (List ℕ × Data) → List ℕ
 named_body values = compact_text (tagged (codes "named") (array (items_of (map pair_data values))))
 
 -- the named formulas by their names, where cells have these values
-abbrev pub by_name : (ℕ → Data) → FormulaName → List ℕ × Data
-by_name values f = (f.name, values f.cell)
+abbrev pub formulas_by_name : (ℕ → Data) → FormulaName → List ℕ × Data
+formulas_by_name values f = (f.name, values f.cell)
 
 abbrev pub named_values : App → (ℕ → Data) → List (List ℕ × Data)
-named_values a values = map (by_name values) a.names.formulas
+named_values a values = map (formulas_by_name values) a.names.formulas
 
 -- the cells of the named formulas
 abbrev pub named_cells : App → List ℕ
@@ -43,7 +43,7 @@ abbrev pub IsNamedList : Present → List (List ℕ × Data) → Type 0
 IsNamedList p shown = (values : ℕ → Data) × AreNamedFresh p values × (shown ≡ named_values p.app values)
 
 -- each cell that is needed for a named formula is clean
-abbrev pub AreNamedMade : App → Kept → Type 0
+abbrev pub AreNamedMade : App → CacheState → Type 0
 AreNamedMade a c = (r k : ℕ) → Contains (named_cells a) r → Needs a r k → is_alone a.cells k ≡ true → IsClean a c k
 
 -- the body
@@ -51,5 +51,5 @@ abbrev pub IsNamedBody : Present → List ℕ → Type 0
 IsNamedBody p body = (shown : List (List ℕ × Data)) × ∥ IsNamedList p shown ∥₁ × (body ≡ named_body shown)
 
 -- a row of the reply, as its name and its value
-abbrev pub shown : Named → List ℕ × Data
-shown n = (n.name, view n.value)
+abbrev pub reply_row : Named → List ℕ × Data
+reply_row n = (n.name, view n.value)

@@ -2,38 +2,38 @@
 use Rattle.std.specs.Prelude.{◌≡◌, ℕ, Bool, false, List, Option, Some}
 use Rattle.app_cells.specs.declared.app.App.{App}
 use Rattle.app_loader.specs.Edits.{IsLoaded}
-use Rattle.app_loader.specs.app_semantics.Sound.{IsSound}
-use Rattle.session_views.specs.Shows.{AreFit}
+use Rattle.app_loader.specs.app_semantics.Sound.{IsSoundApp}
+use Rattle.session_views.specs.Shows.{LiveSessionsFit}
 use Rattle.fx_core.specs.declared.schema.Schema.{Schema}
-use Rattle.recalc.specs.Kept.{Kept as Values}
+use Rattle.recalc.specs.Kept.{CacheState as Values}
 use Rattle.row_keeper.specs.Tables.{Tables}
 use Rattle.session_requests.specs.Opening.{CanOpen}
-use Rattle.session_state.specs.Once.{Kept}
+use Rattle.session_state.specs.Once.{LastRequest}
 use Rattle.session_state.specs.Sessions.{SessionState}
 use Rattle.numbered_requests.specs.Checked.{SessionsKeepReplies}
 use Rattle.numbered_requests.specs.Replies.{KeepReplies}
 use Rattle.row_requests.specs.Sound.{AreSound}
 use Rattle.numbered_requests.specs.declared.directory.Named.{Named}
 use Rattle.office.specs.Caches.{AreKept}
-use Rattle.office.specs.State.{State, schema_of}
+use Rattle.office.specs.State.{OfficeState, schema_of}
 
 -- an office between two requests serves an accepted app, of which sessions can be opened, and which its sessions fit
-pub record IsSettled (s : State) : Type 0 where
-  pub app : IsSound s.app
+pub record IsSettledOffice (s : OfficeState) : Type 0 where
+  pub app : IsSoundApp s.app
   pub opens : CanOpen s.app.names
-  pub fit : AreFit s.app.names s.sessions
+  pub fit : LiveSessionsFit s.app.names s.sessions
 
 -- No transaction is begun, the keeper is shaped by the app's schema, its tables, where they are told, are those of the schema,
 -- what is kept of desks are replies, the app is an accepted one that can be edited, its sessions fit it, and each has its cache,
 -- which is right on the day of the last request that had a route.
-pub record IsReady (app : App) (in_transaction : Bool) (by : Option Schema) (told : Option Tables) (sessions : List (Named SessionState)) (desks : List (Named Kept)) (caches : List (Named Values)) (moment : ℕ) : Type 0 where
+pub record OfficeInvariant (app : App) (in_transaction : Bool) (by : Option Schema) (told : Option Tables) (sessions : List (Named SessionState)) (desks : List (Named LastRequest)) (caches : List (Named Values)) (moment : ℕ) : Type 0 where
   pub idle : in_transaction ≡ false
   pub shaped : by ≡ Some (schema_of app)
   pub sound : AreSound (schema_of app) told
   pub kept : KeepReplies desks
-  pub accepted : IsSound app
+  pub accepted : IsSoundApp app
   pub loaded : IsLoaded app
   pub opens : CanOpen app.names
-  pub fit : AreFit app.names sessions
+  pub fit : LiveSessionsFit app.names sessions
   pub replies : SessionsKeepReplies sessions
   pub cached : AreKept app told moment sessions caches

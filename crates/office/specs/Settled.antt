@@ -1,21 +1,21 @@
 -- Offices are settled whenever a request comes.
 use Rattle.std.specs.Prelude.{◌≡◌, List, Option}
 use Rattle.app_cells.specs.declared.app.App.{App}
-use Rattle.app_loader.specs.app_edits.Frames.{frame_of}
-use Rattle.app_loader.specs.app_semantics.Sound.{IsSound}
+use Rattle.app_loader.specs.app_edits.Frames.{app_frame}
+use Rattle.app_loader.specs.app_semantics.Sound.{IsSoundApp}
 use Rattle.fx_base.specs.Silence.{Marks}
 use Rattle.row_keeper.specs.Tables.{Tables}
 use Rattle.session_requests.specs.Opening.{CanOpen}
 use Rattle.office.specs.Answers.{Exchange, Plays}
-use Rattle.office.specs.Ready.{IsSettled}
-use Rattle.office.specs.State.{State, started}
+use Rattle.office.specs.Ready.{IsSettledOffice}
+use Rattle.office.specs.State.{OfficeState, started}
 
 -- an office that begins with an accepted app is settled
 abbrev pub StartsSettled : Type 0
-StartsSettled = (app : App) (tables : Option Tables) → IsSound app → CanOpen app.names → IsSettled (started app tables)
+StartsSettled = (app : App) (tables : Option Tables) → IsSoundApp app → CanOpen app.names → IsSettledOffice (started app tables)
 
 -- any requests leave it so, and its app but for formulas that are edited
 abbrev pub StaysSettled : Type 0
 StaysSettled =
-    (old new : State) (before now : Marks) (xs : List Exchange)
-    → IsSettled old → Plays old before xs new now → IsSettled new × (frame_of new.app ≡ frame_of old.app)
+    (old new : OfficeState) (before now : Marks) (xs : List Exchange)
+    → IsSettledOffice old → Plays old before xs new now → IsSettledOffice new × (app_frame new.app ≡ app_frame old.app)

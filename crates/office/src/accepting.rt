@@ -1,7 +1,7 @@
 //! What is said of an edit, and what an accepted one leaves of its desk.
 ghost use Rattle.std.specs.Prelude.{◌≡◌, ◌<◌, IfOk, OnErr, vec_capacity, vec_len};
 ghost use Rattle.office.specs.DeskEdits as editing;
-ghost use Rattle.numbered_requests.specs.Directory.{put as put_into};
+ghost use Rattle.numbered_requests.specs.Directory.{put_named as put_into};
 ghost use Rattle.numbered_requests.specs.Replies.{IsReply, refusal_reply, said};
 ghost use Rattle.serde_json.specs.View.{view as json_view};
 
@@ -35,7 +35,7 @@ fn seq_json(alloc: Global, seq: u32) -> Result<Json, Memory>
 
 /// The reply to an accepted edit.
 fn accepted_reply(alloc: Global, seq: u32) -> Result<Reply, Memory>
-    ensures said { IfOk result (λ r. said r ≡ editing.accepted_reply seq) }
+    ensures said { IfOk result (λ r. said r ≡ editing.accepted_edit_reply seq) }
     ensures whole { IfOk result IsReply }
 {
     let json = seq_json(alloc, seq)?;
@@ -45,9 +45,9 @@ fn accepted_reply(alloc: Global, seq: u32) -> Result<Reply, Memory>
 
 /// Takes all memory that an accepted edit needs beside the app, before anything changes.
 pub(crate) fn accept(alloc: Global, name: &Words, seq: u32, body: &[u8]) -> Result<Accepted, Memory>
-    ensures reply { IfOk result (λ a. said a.reply ≡ editing.accepted_reply seq) }
+    ensures reply { IfOk result (λ a. said a.reply ≡ editing.accepted_edit_reply seq) }
     ensures whole { IfOk result (λ a. IsReply a.reply) }
-    ensures kept { IfOk result (λ a. a.kept.items ≡ editing.accepted_reply seq) }
+    ensures kept { IfOk result (λ a. a.kept.items ≡ editing.accepted_edit_reply seq) }
     ensures body { IfOk result (λ a. a.body.items ≡ body.now) }
     ensures name { IfOk result (λ a. a.name ≡ name.now) }
 {

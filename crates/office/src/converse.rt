@@ -5,7 +5,7 @@ ghost use Rattle.fx_base.specs.Silence.{IsLater};
 ghost use Rattle.fx_base.specs.Telling.{Tells};
 ghost use Rattle.app_wire.specs.Moments.{Ticks};
 ghost use Rattle.app_wire.specs.ReplyBytes.{is_fixed, refusal};
-ghost use Rattle.office.specs.Answers.{Converses, Exchange, IsCount, Plays, Says, moments_of};
+ghost use Rattle.office.specs.Answers.{Converses, Exchange, IsAnswerCount, Plays, SaysLastWords, moments_of};
 
 use crate::machine::Office;
 use app_wire::clock::Clock;
@@ -43,7 +43,7 @@ impl<K: Keeper + Drop> Office<K> {
         steps: &mut Steps<L>,
     ) -> ConvEnd
         ensures talked { (exchanges : List Exchange) × Ticks (C.told clock.old) (moments_of exchanges) (C.told clock.new)
-            × Plays self.old.state self.old.marks exchanges self.new.state self.new.marks × IsCount result (D.single doors.old) (length exchanges)
+            × Plays self.old.state self.old.marks exchanges self.new.state self.new.marks × IsAnswerCount result (D.single doors.old) (length exchanges)
             × Tells (Converses (D.single doors.old) result exchanges) (D.told doors.old) (D.told doors.new) }
         ensures cause { result ≡ ConvEnd.Faulted → Rose (D.faults doors.old) (D.faults doors.new) }
         ensures later { D.faults doors.old ≤ D.faults doors.new }
@@ -79,7 +79,7 @@ impl<K: Keeper + Drop> Office<K> {
 /// Says the last words of a conversation.
 fn last_words<D: Doors>(doors: &mut D, code: u8) -> ConvEnd
     requires { IsTrue (is_fixed code) }
-    ensures said { Tells (Says result (refusal code)) (D.told doors.old) (D.told doors.new) }
+    ensures said { Tells (SaysLastWords result (refusal code)) (D.told doors.old) (D.told doors.new) }
     ensures never_full { result ≢ ConvEnd.Full }
     ensures cause { result ≡ ConvEnd.Faulted → Rose (D.faults doors.old) (D.faults doors.new) }
     ensures later { D.faults doors.old ≤ D.faults doors.new }

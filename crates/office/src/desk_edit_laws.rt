@@ -1,11 +1,11 @@
 //! Laws of edits.
-ghost use Rattle.office.specs.DeskEditLaws.{ActsOnce, CarriesSessions, IsOneOutcome, LeavesOthers};
+ghost use Rattle.office.specs.DeskEditLaws.{EditActsOnce, CarriesSessions, IsOneEditOutcome, EditLeavesOthers};
 
 use app_loader::{one_edit, one_edit_refusal, one_edited};
 
 /// A law, and no work: an edit leaves what is kept of every other desk.
 pub fn leaves_others()
-    ensures { LeavesOthers }
+    ensures { EditLeavesOthers }
 {}
 
 /// A law, and no work: an edit leaves the app and the sessions, or the sessions go over to the edited app.
@@ -15,12 +15,12 @@ pub fn carries_sessions()
 
 /// A law, and no work: the last accepted edit of a desk, when it comes again, gets the kept reply and acts no more.
 pub fn acts_once()
-    ensures { ActsOnce }
+    ensures { EditActsOnce }
 {}
 
 /// A law, and no work: an edit has one outcome; a refused one is refused for the same breaks.
 pub fn one_outcome()
-    ensures { IsOneOutcome }
+    ensures { IsOneEditOutcome }
 {
     one_edit();
     one_edited();

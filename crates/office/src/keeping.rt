@@ -1,15 +1,15 @@
 //! The caches of sessions: each session has one, under its name.
 ghost use Rattle.std.specs.Prelude.{◌≡◌, ◌<◌, ℕ, IfOk, OnErr, length, slice_get, Some, vec_capacity};
 ghost use Rattle.std.specs.List.{AllByRecursion};
-ghost use Rattle.app_loader.specs.app_semantics.Sound.{IsSound};
+ghost use Rattle.app_loader.specs.app_semantics.Sound.{IsSoundApp};
 ghost use Rattle.fx_types.specs.ValueView.{view};
 ghost use Rattle.fx_scalar.specs.ScalarFunctions.{IsToday};
 ghost use Rattle.fx_core.specs.declared.sources.Source.TheVariants.{Today};
 ghost use Rattle.recalc.specs.Carrying.{AreOldCells, IsCarried, IsEditOf};
-ghost use Rattle.recalc.specs.Kept.{IsInOrder, Kept, place_of};
+ghost use Rattle.recalc.specs.Kept.{IsInOrder, CacheState, source_index};
 ghost use Rattle.numbered_requests.specs.declared.directory.Named.{Named as Under};
 ghost use Rattle.session_requests.specs.Caching.{AreSources};
-ghost use Rattle.office.specs.Caches.{AreEach, AreInOrder, AreTouched, HaveRoomFor, IsButRoom, IsNew, IsToldAside, IsTurned, is_other as is_other_of, is_table as is_table_of, tables_in};
+ghost use Rattle.office.specs.Caches.{EachCacheBecame, AreInOrder, CacheTouched, HaveRoomFor, IsButRoom, IsNew, IsToldAside, IsTurned, is_other_place as is_other_of, is_table as is_table_of, tables_in};
 
 use app_cells::App;
 use fx_base::Memory;
@@ -33,7 +33,7 @@ pub(crate) fn new_cache(alloc: Global, app: &App, moment: u64) -> Result<Cache, 
 
 /// Makes room in each cache for what will be kept of an edited app, as far as there is memory. What is kept stays.
 pub(crate) fn make_rooms(caches: &mut Vec<Named<Cache>>, app: &App) -> Result<(), Memory>
-    ensures rooms { AreEach (λ k. IsButRoom) caches.old.items caches.new.items }
+    ensures rooms { EachCacheBecame (λ k. IsButRoom) caches.old.items caches.new.items }
     ensures made { IfOk result (λ _. HaveRoomFor app.now caches.new.items) }
 {
     for at in 0..caches.len() {
@@ -49,13 +49,13 @@ pub(crate) fn carry_all(
     new: &App,
     cells: &[Option<usize>],
 )
-    requires was_sound { IsSound old.now }
-    requires sound { IsSound new.now }
+    requires was_sound { IsSoundApp old.now }
+    requires sound { IsSoundApp new.now }
     requires edit { IsEditOf old.now new.now }
     requires cells { AreOldCells old.now new.now cells.now }
     requires order { AreInOrder old.now caches.old.items }
     requires rooms { HaveRoomFor new.now caches.old.items }
-    ensures { AreEach (λ k. IsCarried old.now new.now) caches.old.items caches.new.items }
+    ensures { EachCacheBecame (λ k. IsCarried old.now new.now) caches.old.items caches.new.items }
 {
     for at in 0..caches.len() {
         caches[at].it.carry(old, new, cells);
@@ -80,8 +80,8 @@ pub(crate) fn turn_all(
     caches: &mut Vec<Named<Cache>>,
     moment: u64,
 ) -> Result<(), Memory>
-    requires { (k : ℕ) (c : Under Kept) → slice_get caches.old.items k ≡ Some c → place_of Today < length c.it.versions }
-    ensures turned { IfOk result (λ _. AreEach (λ k. IsTurned moment) caches.old.items caches.new.items) }
+    requires { (k : ℕ) (c : Under CacheState) → slice_get caches.old.items k ≡ Some c → source_index Today < length c.it.versions }
+    ensures turned { IfOk result (λ _. EachCacheBecame (λ k. IsTurned moment) caches.old.items caches.new.items) }
     ensures stopped { OnErr result (caches.new.items ≡ caches.old.items) }
 {
     let mut days = days_of(alloc, moment, caches.len())?;
@@ -105,7 +105,7 @@ fn is_table(source: Source) -> bool
 fn touch(app: &App, cache: &mut Cache, wrote: &[Source])
     requires order { IsInOrder app.now cache.old }
     requires sources { AreSources app.now.names wrote.now }
-    ensures { AreTouched app.now (tables_in wrote.now) cache.old cache.new }
+    ensures { CacheTouched app.now (tables_in wrote.now) cache.old cache.new }
 {
     for source in wrote {
         if is_table(*source) {
@@ -131,9 +131,9 @@ pub(crate) fn touch_others(
     place: Option<usize>,
     wrote: &[Source],
 )
-    requires order { (k : ℕ) (c : Under Kept) → slice_get caches.old.items k ≡ Some c → IsInOrder app.now c.it }
+    requires order { (k : ℕ) (c : Under CacheState) → slice_get caches.old.items k ≡ Some c → IsInOrder app.now c.it }
     requires sources { AreSources app.now.names wrote.now }
-    ensures told { AreEach (IsToldAside app.now place (tables_in wrote.now)) caches.old.items caches.new.items }
+    ensures told { EachCacheBecame (IsToldAside app.now place (tables_in wrote.now)) caches.old.items caches.new.items }
     ensures capacity { vec_capacity caches.new ≡ vec_capacity caches.old }
 {
     for at in 0..caches.len() {

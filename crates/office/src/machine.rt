@@ -1,8 +1,8 @@
 //! The office, one request at a time.
 ghost use Rattle.std.specs.Prelude.{◌≡◌, ◌≢◌, ◌⊎◌, ◌<◌, Err, IfOk, IsErrOf, Ok, OnErr, Some, false, length};
-ghost use Rattle.fx_base.specs.Silence.{IsLater, IsLost};
+ghost use Rattle.fx_base.specs.Silence.{IsLater, SilenceCause};
 ghost use Rattle.app_loader.specs.Edits.{IsLoaded};
-ghost use Rattle.app_loader.specs.app_semantics.Sound.{IsSound};
+ghost use Rattle.app_loader.specs.app_semantics.Sound.{IsSoundApp};
 ghost use Rattle.row_keeper.specs.Causes.{HasCause};
 ghost use Rattle.row_keeper.specs.declared.keeper.KeeperEnd.TheVariants.{Failed};
 ghost use Rattle.app_wire.specs.Framing.{asked};
@@ -12,9 +12,9 @@ ghost use Rattle.row_requests.specs.Sound.{AreSound};
 ghost use Rattle.session_requests.specs.Opening.{CanOpen};
 ghost use Rattle.app_wire.specs.ReplyBytes.{refusal};
 ghost use Rattle.office.specs.Costs.{CostsAnswered, CostsBy, counts};
-ghost use Rattle.office.specs.Leaving.{ActsClean, AreEachLeft, LeavesActed, LeavesBy, LeavesClean, LeavesStopped, StopsClean, nothing, turned};
+ghost use Rattle.office.specs.Leaving.{ActsClean, AreEachLeft, LeavesActed, LeavesBy, LeavesClean, LeavesStopped, StopsClean, nothing, day_turned};
 ghost use Rattle.office.specs.State.{schema_of, started};
-ghost use Rattle.office.specs.Step.{Answered, Does, Left, Reaches, ReachesKeeper, Step};
+ghost use Rattle.office.specs.Step.{AnswersRequest, RouteStep, Left, PassesChecks, ReachesKeeper, Step};
 
 use crate::keeping::{DAY, turn_all};
 use crate::plans::{show_graph, show_plan};
@@ -57,10 +57,10 @@ impl<K: Keeper + Drop> Model for Office<K> {
     ghost use Rattle.fx_types.specs.ValueCode.{data_code};
     ghost use Rattle.fx_core.specs.contracts.schema.Schema.{the_row as schema_row};
     ghost use Rattle.row_queries.specs.contracts.rows.Row.{the_row as row_row};
-    ghost use Rattle.office.specs.Ready.{IsReady};
-    ghost use Rattle.office.specs.State.{Seen, schema_of};
+    ghost use Rattle.office.specs.Ready.{OfficeInvariant};
+    ghost use Rattle.office.specs.State.{OfficeView, schema_of};
 
-    ghost Value = { Seen };
+    ghost Value = { OfficeView };
 
     ghost coded = { Prim.hlevel (codes, data_code, app_row.coded, schema_row.coded, row_row.coded) };
 
@@ -73,7 +73,7 @@ impl<K: Keeper + Drop> Model for Office<K> {
       moment = o.moment;
     } };
 
-    ghost invariant = { λ o. IsReady o.app (K.in_transaction o.keeper) (K.shaped o.keeper) (K.told o.keeper) o.sessions.items o.desks.items o.caches.items o.moment };
+    ghost invariant = { λ o. OfficeInvariant o.app (K.in_transaction o.keeper) (K.shaped o.keeper) (K.told o.keeper) o.sessions.items o.desks.items o.caches.items o.moment };
 }
 
 /// The tables of an app.
@@ -88,7 +88,7 @@ impl<K: Keeper + Drop> Office<K> {
     pub fn new(alloc: Global, app: App, keeper: K) -> Result<Office<K>, Memory>
         requires idle { K.in_transaction keeper ≡ false }
         requires shaped { K.shaped keeper ≡ Some (schema_of app) }
-        requires app { IsSound app }
+        requires app { IsSoundApp app }
         requires loaded { IsLoaded app }
         requires opens { CanOpen app.names }
         requires sound { AreSound (schema_of app) (K.told keeper) }
@@ -105,7 +105,7 @@ impl<K: Keeper + Drop> Office<K> {
     pub fn over(alloc: Global, app: App, routes: Routes, keeper: K) -> Office<K>
         requires idle { K.in_transaction keeper ≡ false }
         requires shaped { K.shaped keeper ≡ Some (schema_of app) }
-        requires app { IsSound app }
+        requires app { IsSoundApp app }
         requires loaded { IsLoaded app }
         requires opens { CanOpen app.names }
         requires sound { AreSound (schema_of app) (K.told keeper) }
@@ -134,11 +134,11 @@ impl<K: Keeper + Drop> Office<K> {
         moment: u64,
         steps: &mut Steps<L>,
     ) -> Reply
-        ensures answered { Answered self.old.state self.old.marks moment (asked request.now) (said result) self.new.marks self.new.state }
+        ensures answered { AnswersRequest self.old.state self.old.marks moment (asked request.now) (said result) self.new.marks self.new.state }
         ensures later { IsLater self.old.marks self.new.marks }
         ensures whole { IsReply result }
         ensures clean { LeavesClean self.old.state self.old.moment self.old.caches moment (asked request.now) self.new.state self.new.caches }
-        ensures acted { LeavesActed (IsLost self.old.marks self.new.marks) self.old.state self.old.moment self.old.caches moment (asked request.now) (said result) self.new.state self.new.caches ⊎ (((said result ≡ refusal 26) ⊎ (said result ≡ refusal 25)) × LeavesStopped self.old.state self.old.moment self.old.caches moment (asked request.now) self.new.state self.new.caches) }
+        ensures acted { LeavesActed (SilenceCause self.old.marks self.new.marks) self.old.state self.old.moment self.old.caches moment (asked request.now) (said result) self.new.state self.new.caches ⊎ (((said result ≡ refusal 26) ⊎ (said result ≡ refusal 25)) × LeavesStopped self.old.state self.old.moment self.old.caches moment (asked request.now) self.new.state self.new.caches) }
         ensures costs { CostsAnswered self.old.state self.old.moment self.old.caches moment (asked request.now) (said result) self.new.state self.new.caches (counts steps.old self.old.visited) (counts steps.new self.new.visited) ⊎ ((said result ≡ refusal 26) ⊎ (said result ≡ refusal 25)) }
         ensures loan { self.new.loan ≡ self.old.loan }
     {
@@ -156,13 +156,13 @@ impl<K: Keeper + Drop> Office<K> {
         moment: u64,
         steps: &mut Steps<L>,
     ) -> Result<Reply, KeeperEnd>
-        ensures step { IfOk result (λ r. Step (IsLost self.old.marks self.new.marks) self.old.state moment (asked request.now) (said r) self.new.state) }
+        ensures step { IfOk result (λ r. Step (SilenceCause self.old.marks self.new.marks) self.old.state moment (asked request.now) (said r) self.new.state) }
         ensures whole { IfOk result IsReply }
-        ensures stopped { OnErr result (Left (IsLost self.old.marks self.new.marks) self.old.state self.new.state) }
+        ensures stopped { OnErr result (Left (SilenceCause self.old.marks self.new.marks) self.old.state self.new.state) }
         ensures reached { IsErrOf result Failed → ReachesKeeper self.old.state (asked request.now) }
         ensures cause { HasCause self.old.marks self.new.marks result }
         ensures clean { LeavesClean self.old.state self.old.moment self.old.caches moment (asked request.now) self.new.state self.new.caches }
-        ensures acted { IfOk result (λ r. LeavesActed (IsLost self.old.marks self.new.marks) self.old.state self.old.moment self.old.caches moment (asked request.now) (said r) self.new.state self.new.caches) }
+        ensures acted { IfOk result (λ r. LeavesActed (SilenceCause self.old.marks self.new.marks) self.old.state self.old.moment self.old.caches moment (asked request.now) (said r) self.new.state self.new.caches) }
         ensures costs { IfOk result (λ r. CostsAnswered self.old.state self.old.moment self.old.caches moment (asked request.now) (said r) self.new.state self.new.caches (counts steps.old self.old.visited) (counts steps.new self.new.visited)) }
         ensures cut { OnErr result (LeavesStopped self.old.state self.old.moment self.old.caches moment (asked request.now) self.new.state self.new.caches) }
         ensures loan { self.new.loan ≡ self.old.loan }
@@ -185,7 +185,7 @@ impl<K: Keeper + Drop> Office<K> {
         ensures visited { self.new.visited ≡ self.old.visited }
         ensures loan { self.new.loan ≡ self.old.loan }
         ensures moment { IfOk result (λ _. self.new.moment ≡ moment) }
-        ensures clean { AreEachLeft self.old.state.app (turned self.old.moment moment) self.old.caches self.new.caches }
+        ensures clean { AreEachLeft self.old.state.app (day_turned self.old.moment moment) self.old.caches self.new.caches }
     {
         if moment / DAY != self.moment / DAY {
             turn_all(self.alloc, &mut self.caches, moment)?;
@@ -195,20 +195,20 @@ impl<K: Keeper + Drop> Office<K> {
     }
 
     /// Takes the route of a request, at the moment to which the office went over.
-    #[tactic(auto, unfolding(crate::specs::Step::Does, crate::specs::Step::Reaches, crate::specs::Costs::CostsBy, crate::specs::Leaving::LeavesBy, crate::specs::Leaving::ActsClean))]
+    #[tactic(auto, unfolding(crate::specs::Step::RouteStep, crate::specs::Step::PassesChecks, crate::specs::Costs::CostsBy, crate::specs::Leaving::LeavesBy, crate::specs::Leaving::ActsClean))]
     fn take<L: Ledger>(
         &mut self,
         route: &Route,
         request: &Request,
         steps: &mut Steps<L>,
     ) -> Result<Reply, KeeperEnd>
-        ensures step { IfOk result (λ r. Does (IsLost self.old.marks self.new.marks) self.old.moment route.now request.now.body.items self.old.state (said r) self.new.state) }
+        ensures step { IfOk result (λ r. RouteStep (SilenceCause self.old.marks self.new.marks) self.old.moment route.now request.now.body.items self.old.state (said r) self.new.state) }
         ensures whole { IfOk result IsReply }
-        ensures stopped { OnErr result (Left (IsLost self.old.marks self.new.marks) self.old.state self.new.state) }
-        ensures reached { IsErrOf result Failed → Reaches route.now request.now.body.items self.old.state }
+        ensures stopped { OnErr result (Left (SilenceCause self.old.marks self.new.marks) self.old.state self.new.state) }
+        ensures reached { IsErrOf result Failed → PassesChecks route.now request.now.body.items self.old.state }
         ensures cause { HasCause self.old.marks self.new.marks result }
         ensures clean { LeavesBy route.now nothing request.now.body.items self.old.state self.new.state self.old.caches self.new.caches }
-        ensures acted { IfOk result (λ r. ActsClean (IsLost self.old.marks self.new.marks) self.old.moment route.now nothing request.now.body.items self.old.state (said r) self.new.state self.old.caches self.new.caches) }
+        ensures acted { IfOk result (λ r. ActsClean (SilenceCause self.old.marks self.new.marks) self.old.moment route.now nothing request.now.body.items self.old.state (said r) self.new.state self.old.caches self.new.caches) }
         ensures costs { IfOk result (λ r. CostsBy route.now self.old.moment self.old.state (said r) self.new.state self.old.caches self.new.caches (counts steps.old self.old.visited) (counts steps.new self.new.visited)) }
         ensures cut { OnErr result (StopsClean self.old.moment route.now nothing request.now.body.items self.old.state self.new.state self.old.caches self.new.caches) }
         ensures loan { self.new.loan ≡ self.old.loan }

@@ -2,18 +2,18 @@
 ghost use Rattle.std.specs.Prelude.{◌≡◌, [], IfOk, IsErrOf, OnOk, map, string_bytes};
 ghost use Rattle.app_loader.specs.app_semantics.Holding.{HoldsFitting};
 ghost use Rattle.app_loader.specs.app_semantics.Present.{present};
-ghost use Rattle.app_loader.specs.app_semantics.Sound.{IsSound};
+ghost use Rattle.app_loader.specs.app_semantics.Sound.{IsSoundApp};
 ghost use Rattle.session_requests.specs.recalc.Asking.{CanAsk, IsHeardOf, ReadsNone, ToldRows};
 ghost use Rattle.session_requests.specs.recalc.Values.{value_of};
 ghost use Rattle.row_keeper.specs.Over.{HasCause};
 ghost use Rattle.row_keeper.specs.declared.keeper.KeeperEnd.TheVariants.{Failed};
 ghost use Rattle.fx_scalar.specs.ScalarFunctions.{IsToday};
-ghost use Rattle.office.specs.NamedReply.{AreNamedMade, IsNamedBody, IsNamedList, named_cells, named_values, shown};
+ghost use Rattle.office.specs.NamedReply.{AreNamedMade, IsNamedBody, IsNamedList, named_cells, named_values, reply_row};
 ghost use Rattle.recalc.specs.AskingOver.{HasRead};
-ghost use Rattle.recalc.specs.Changes.{IsLeftBut};
-ghost use Rattle.recalc.specs.Kept.{HasRoom, IsInOrder};
+ghost use Rattle.recalc.specs.Changes.{StaysCleanExcept};
+ghost use Rattle.recalc.specs.Kept.{HasNumbersLeft, IsInOrder};
 ghost use Rattle.recalc.specs.Outcomes.{IsRightOver};
-ghost use Rattle.recalc.specs.Steps.{Leaves, OncePerCell};
+ghost use Rattle.recalc.specs.Steps.{KeepsClean, OncePerCell};
 ghost use Rattle.recalc.specs.Visits.{VisitsPerCell, WhereTold};
 
 use app_cells::App;
@@ -36,10 +36,10 @@ pub fn named_list<K: Keeper, L: Ledger>(
     moment: u64,
     steps: &mut Steps<L>,
 ) -> Result<Vec<Named>, KeeperEnd>
-    requires sound { IsSound app.now }
+    requires sound { IsSoundApp app.now }
     requires holds { HoldsFitting app.now.names session.now }
     requires asks { CanAsk app.now (K.shaped keeper.old) }
-    ensures list { IfOk result (λ rows. (tables : ToldRows) → IsHeardOf (K.told keeper.new) tables → IsNamedList (present app.now session.now tables moment) (map shown rows.items)) }
+    ensures list { IfOk result (λ rows. (tables : ToldRows) → IsHeardOf (K.told keeper.new) tables → IsNamedList (present app.now session.now tables moment) (map reply_row rows.items)) }
     ensures read { HasRead K.Keeper keeper.old keeper.new }
     ensures cause { HasCause K.Keeper keeper.old keeper.new result }
     ensures alone { ReadsNone app.now → keeper.new ≡ keeper.old }
@@ -51,7 +51,7 @@ pub fn named_list<K: Keeper, L: Ledger>(
 
 /// The named formulas with the values of their cells.
 fn name_values(alloc: Global, app: &App, values: &Valued) -> Result<Vec<Named>, Memory>
-    ensures { IfOk result (λ rows. map shown rows.items ≡ named_values app.now (value_of values.now)) }
+    ensures { IfOk result (λ rows. map reply_row rows.items ≡ named_values app.now (value_of values.now)) }
 {
     let mut rows = Vec::new(alloc);
     for formula in app.names.formulas.as_slice() {
@@ -85,20 +85,20 @@ fn kept_list<K: Keeper, L: Ledger>(
     moment: u64,
     steps: &mut Steps<L>,
 ) -> Result<Vec<Named>, KeeperEnd>
-    requires sound { IsSound app.now }
+    requires sound { IsSoundApp app.now }
     requires holds { HoldsFitting app.now.names session.now }
     requires asks { CanAsk app.now (K.shaped keeper.old) }
     requires day { IsToday moment cache.old.values.day }
     requires order { IsInOrder app.now cache.old }
-    ensures list { IfOk result (λ rows. IsRightOver app.now session.now (K.told keeper.old) moment cache.old → (tables : ToldRows) → IsHeardOf (K.told keeper.new) tables → IsNamedList (present app.now session.now tables moment) (map shown rows.items)) }
+    ensures list { IfOk result (λ rows. IsRightOver app.now session.now (K.told keeper.old) moment cache.old → (tables : ToldRows) → IsHeardOf (K.told keeper.new) tables → IsNamedList (present app.now session.now tables moment) (map reply_row rows.items)) }
     ensures order { IsInOrder app.now cache.new }
     ensures right { IsRightOver app.now session.now (K.told keeper.old) moment cache.old → IsRightOver app.now session.now (K.told keeper.new) moment cache.new }
     ensures day { cache.new.values.day ≡ cache.old.values.day }
-    ensures left { HasRoom cache.old.last → Leaves app.now cache.old cache.new }
-    ensures but { IsLeftBut app.now [] cache.old cache.new }
+    ensures left { HasNumbersLeft cache.old.last → KeepsClean app.now cache.old cache.new }
+    ensures but { StaysCleanExcept app.now [] cache.old cache.new }
     ensures made { OnOk result (AreNamedMade app.now cache.new) }
-    ensures ticks { OnOk result (HasRoom cache.old.last → OncePerCell app.now (named_cells app.now) cache.old cache.new steps.old steps.new) }
-    ensures visits { OnOk result (IsRightOver app.now session.now (K.told keeper.old) moment cache.old → HasRoom cache.old.last → WhereTold (K.told keeper.new) (λ told.
+    ensures ticks { OnOk result (HasNumbersLeft cache.old.last → OncePerCell app.now (named_cells app.now) cache.old cache.new steps.old steps.new) }
+    ensures visits { OnOk result (IsRightOver app.now session.now (K.told keeper.old) moment cache.old → HasNumbersLeft cache.old.last → WhereTold (K.told keeper.new) (λ told.
         VisitsPerCell app.now session.now told moment (named_cells app.now) cache.old cache.new steps.old steps.new (K.visited keeper.old) (K.visited keeper.new))) }
     ensures idle { OnOk result (steps.new ≡ steps.old → keeper.new ≡ keeper.old) }
     ensures read { HasRead K.Keeper keeper.old keeper.new }
@@ -121,7 +121,7 @@ pub(crate) fn named_body<K: Keeper, L: Ledger>(
     moment: u64,
     steps: &mut Steps<L>,
 ) -> Result<String, KeeperEnd>
-    requires sound { IsSound app.now }
+    requires sound { IsSoundApp app.now }
     requires holds { HoldsFitting app.now.names session.now }
     requires asks { CanAsk app.now (K.shaped keeper.old) }
     requires day { IsToday moment cache.old.values.day }
@@ -131,11 +131,11 @@ pub(crate) fn named_body<K: Keeper, L: Ledger>(
     ensures order { IsInOrder app.now cache.new }
     ensures right { ∥ IsRightOver app.now session.now (K.told keeper.new) moment cache.new ∥₁ }
     ensures day { cache.new.values.day ≡ cache.old.values.day }
-    ensures left { HasRoom cache.old.last → Leaves app.now cache.old cache.new }
-    ensures but { IsLeftBut app.now [] cache.old cache.new }
+    ensures left { HasNumbersLeft cache.old.last → KeepsClean app.now cache.old cache.new }
+    ensures but { StaysCleanExcept app.now [] cache.old cache.new }
     ensures made { OnOk result (AreNamedMade app.now cache.new) }
-    ensures ticks { OnOk result (HasRoom cache.old.last → OncePerCell app.now (named_cells app.now) cache.old cache.new steps.old steps.new) }
-    ensures visits { OnOk result (HasRoom cache.old.last → WhereTold (K.told keeper.new) (λ told.
+    ensures ticks { OnOk result (HasNumbersLeft cache.old.last → OncePerCell app.now (named_cells app.now) cache.old cache.new steps.old steps.new) }
+    ensures visits { OnOk result (HasNumbersLeft cache.old.last → WhereTold (K.told keeper.new) (λ told.
         ∥ VisitsPerCell app.now session.now told moment (named_cells app.now) cache.old cache.new steps.old steps.new (K.visited keeper.old) (K.visited keeper.new) ∥₁)) }
     ensures idle { OnOk result (steps.new ≡ steps.old → keeper.new ≡ keeper.old) }
     ensures read { HasRead K.Keeper keeper.old keeper.new }

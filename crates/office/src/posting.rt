@@ -1,11 +1,11 @@
 //! A desk edits a formula.
 ghost use Rattle.std.specs.Prelude.{◌≡◌, ℕ, IfOk, OnErr, OnOk, Option};
-ghost use Rattle.app_loader.specs.app_edits.Frames.{frame_of};
+ghost use Rattle.app_loader.specs.app_edits.Frames.{app_frame};
 ghost use Rattle.app_loader.specs.Edits.{IsLoaded};
-ghost use Rattle.app_loader.specs.app_semantics.Sound.{IsSound};
-ghost use Rattle.office.specs.Caches.{AreEach, AreKept, WentOver};
+ghost use Rattle.app_loader.specs.app_semantics.Sound.{IsSoundApp};
+ghost use Rattle.office.specs.Caches.{EachCacheBecame, AreKept, WentOver};
 ghost use Rattle.office.specs.DeskEdits.{MakesEdit, PostsEdit, all_carried};
-ghost use Rattle.session_views.specs.Shows.{AreFit};
+ghost use Rattle.session_views.specs.Shows.{LiveSessionsFit};
 ghost use Rattle.numbered_requests.specs.Checked.{SessionsKeepReplies};
 ghost use Rattle.numbered_requests.specs.Replies.{IsReply, KeepReplies, said};
 ghost use Rattle.row_keeper.specs.Tables.{Tables};
@@ -40,9 +40,9 @@ pub fn post_edit(
     body: &[u8],
 ) -> Result<Reply, Memory>
     requires loaded { IsLoaded app.old }
-    requires sound { IsSound app.old }
+    requires sound { IsSoundApp app.old }
     requires tables { HoldsTables app.old.names }
-    requires fit { AreFit app.old.names sessions.old.items }
+    requires fit { LiveSessionsFit app.old.names sessions.old.items }
     requires kept { KeepReplies desks.old.items }
     requires replies { SessionsKeepReplies sessions.old.items }
     requires cached { (told : Option Tables) × (moment : ℕ) × AreKept app.old told moment sessions.old.items caches.old.items }
@@ -52,14 +52,14 @@ pub fn post_edit(
     ensures sessions { OnErr result (sessions.new.items ≡ sessions.old.items) }
     ensures desks { OnErr result (desks.new.items ≡ desks.old.items) }
     ensures loaded { IsLoaded app.new }
-    ensures sound { IsSound app.new }
+    ensures sound { IsSoundApp app.new }
     ensures tables { HoldsTables app.new.names }
-    ensures frame { frame_of app.new ≡ frame_of app.old }
-    ensures fit { AreFit app.new.names sessions.new.items }
+    ensures frame { app_frame app.new ≡ app_frame app.old }
+    ensures fit { LiveSessionsFit app.new.names sessions.new.items }
     ensures kept { KeepReplies desks.new.items }
     ensures replies { SessionsKeepReplies sessions.new.items }
     ensures caches { (told : Option Tables) (moment : ℕ) → AreKept app.old told moment sessions.old.items caches.old.items → AreKept app.new told moment sessions.new.items caches.new.items }
-    ensures over { AreEach (λ k. WentOver app.old app.new) caches.old.items caches.new.items }
+    ensures over { EachCacheBecame (λ k. WentOver app.old app.new) caches.old.items caches.new.items }
 {
     match check_desk::<Edit>(alloc, desks, name, body)? {
         Checked::Says(reply) => Ok(reply),
@@ -80,9 +80,9 @@ fn make_edit(
     asked: &Edit,
 ) -> Result<Reply, Memory>
     requires loaded { IsLoaded app.old }
-    requires sound { IsSound app.old }
+    requires sound { IsSoundApp app.old }
     requires tables { HoldsTables app.old.names }
-    requires fit { AreFit app.old.names sessions.old.items }
+    requires fit { LiveSessionsFit app.old.names sessions.old.items }
     requires kept { KeepReplies desks.old.items }
     requires replies { SessionsKeepReplies sessions.old.items }
     requires cached { (told : Option Tables) × (moment : ℕ) × AreKept app.old told moment sessions.old.items caches.old.items }
@@ -92,14 +92,14 @@ fn make_edit(
     ensures sessions { OnErr result (sessions.new.items ≡ sessions.old.items) }
     ensures desks { OnErr result (desks.new.items ≡ desks.old.items) }
     ensures loaded { IsLoaded app.new }
-    ensures sound { IsSound app.new }
+    ensures sound { IsSoundApp app.new }
     ensures tables { HoldsTables app.new.names }
-    ensures frame { frame_of app.new ≡ frame_of app.old }
-    ensures fit { AreFit app.new.names sessions.new.items }
+    ensures frame { app_frame app.new ≡ app_frame app.old }
+    ensures fit { LiveSessionsFit app.new.names sessions.new.items }
     ensures kept { KeepReplies desks.new.items }
     ensures replies { SessionsKeepReplies sessions.new.items }
     ensures caches { (told : Option Tables) (moment : ℕ) → AreKept app.old told moment sessions.old.items caches.old.items → AreKept app.new told moment sessions.new.items caches.new.items }
-    ensures over { AreEach (λ k. WentOver app.old app.new) caches.old.items caches.new.items }
+    ensures over { EachCacheBecame (λ k. WentOver app.old app.new) caches.old.items caches.new.items }
 {
     let accepted = accept(alloc, name, asked.seq, body)?;
     desks.reserve(1)?;
@@ -122,17 +122,17 @@ fn go_over(
     sessions: &mut Vec<Named<Session>>,
     caches: &mut Vec<Named<Cache>>,
 ) -> Result<(), Memory>
-    requires sound { IsSound app.old }
-    requires edited { IsSound edited }
-    requires frame { frame_of edited ≡ frame_of app.old }
-    requires fit { AreFit app.old.names sessions.old.items }
+    requires sound { IsSoundApp app.old }
+    requires edited { IsSoundApp edited }
+    requires frame { app_frame edited ≡ app_frame app.old }
+    requires fit { LiveSessionsFit app.old.names sessions.old.items }
     requires cached { (told : Option Tables) × (moment : ℕ) × AreKept app.old told moment sessions.old.items caches.old.items }
     ensures app { OnOk result (app.new ≡ edited) }
     ensures sessions { OnOk result (sessions.new.items ≡ all_carried app.old.names edited.names sessions.old.items) }
     ensures stopped { OnErr result (app.new ≡ app.old) }
     ensures stayed { OnErr result (sessions.new.items ≡ sessions.old.items) }
     ensures kept { (told : Option Tables) (moment : ℕ) → AreKept app.old told moment sessions.old.items caches.old.items → AreKept app.new told moment sessions.new.items caches.new.items }
-    ensures over { AreEach (λ k. WentOver app.old app.new) caches.old.items caches.new.items }
+    ensures over { EachCacheBecame (λ k. WentOver app.old app.new) caches.old.items caches.new.items }
 {
     carry_over(alloc, app, &edited, sessions, caches)?;
     *app = edited;
@@ -148,17 +148,17 @@ fn carry_over(
     sessions: &mut Vec<Named<Session>>,
     caches: &mut Vec<Named<Cache>>,
 ) -> Result<(), Memory>
-    requires sound { IsSound app.now }
-    requires edited { IsSound edited.now }
-    requires frame { frame_of edited.now ≡ frame_of app.now }
-    requires fit { AreFit app.now.names sessions.old.items }
+    requires sound { IsSoundApp app.now }
+    requires edited { IsSoundApp edited.now }
+    requires frame { app_frame edited.now ≡ app_frame app.now }
+    requires fit { LiveSessionsFit app.now.names sessions.old.items }
     requires cached { (told : Option Tables) × (moment : ℕ) × AreKept app.now told moment sessions.old.items caches.old.items }
     ensures sessions { OnOk result (sessions.new.items ≡ all_carried app.now.names edited.now.names sessions.old.items) }
     ensures stopped { OnErr result (sessions.new.items ≡ sessions.old.items) }
     ensures kept { OnOk result ((told : Option Tables) (moment : ℕ) → AreKept app.now told moment sessions.old.items caches.old.items → AreKept edited.now told moment sessions.new.items caches.new.items) }
     ensures stayed { OnErr result ((told : Option Tables) (moment : ℕ) → AreKept app.now told moment sessions.old.items caches.old.items → AreKept app.now told moment sessions.new.items caches.new.items) }
-    ensures over { OnOk result (AreEach (λ k. WentOver app.now edited.now) caches.old.items caches.new.items) }
-    ensures left { OnErr result (AreEach (λ k. WentOver app.now app.now) caches.old.items caches.new.items) }
+    ensures over { OnOk result (EachCacheBecame (λ k. WentOver app.now edited.now) caches.old.items caches.new.items) }
+    ensures left { OnErr result (EachCacheBecame (λ k. WentOver app.now app.now) caches.old.items caches.new.items) }
 {
     let cells = old_cells(alloc, app, edited)?;
     make_rooms(caches, edited)?;

@@ -1,10 +1,10 @@
 //! What is sent: sessions send events and inputs, and desks changes of rows. The caches of the others are told which tables were
 //! written.
 ghost use Rattle.std.specs.Prelude.{◌≡◌, ℕ, false, IfOk, IsErrOf, IsSome, List, Ok, OnErr, Some, slice_get};
-ghost use Rattle.app_loader.specs.app_semantics.Sound.{IsSound};
-ghost use Rattle.fx_base.specs.Silence.{IsLost};
+ghost use Rattle.app_loader.specs.app_semantics.Sound.{IsSoundApp};
+ghost use Rattle.fx_base.specs.Silence.{SilenceCause};
 ghost use Rattle.fx_base.specs.Telling.{Stays};
-ghost use Rattle.recalc.specs.Kept.{IsInOrder, Kept};
+ghost use Rattle.recalc.specs.Kept.{IsInOrder, CacheState};
 ghost use Rattle.numbered_requests.specs.Checked.{SessionsKeepReplies};
 ghost use Rattle.numbered_requests.specs.Checks.{checks, session_of};
 ghost use Rattle.numbered_requests.specs.Directory.{find};
@@ -22,7 +22,7 @@ ghost use Rattle.session_state.specs.Sessions.{SessionState};
 ghost use Rattle.row_requests.specs.Written.{IsNamedBy};
 ghost use Rattle.office.specs.Caches.{AreKept};
 ghost use Rattle.office.specs.Leaving.{AreEachLeft, AreLeftBeside, AreStopped, EventCutOff, EventLeaves, InputCutOff, InputLeaves, any_table, event_cut, input_cut, nothing};
-ghost use Rattle.session_views.specs.Shows.{AreFit};
+ghost use Rattle.session_views.specs.Shows.{LiveSessionsFit};
 
 use crate::keeping::touch_others;
 use app_cells::App;
@@ -49,23 +49,23 @@ pub(crate) fn post_input<K: Keeper, L: Ledger>(
     moment: u64,
     steps: &mut Steps<L>,
 ) -> Result<Reply, KeeperEnd>
-    requires sound { IsSound app.now }
-    requires fit { AreFit app.now.names sessions.old.items }
+    requires sound { IsSoundApp app.now }
+    requires fit { LiveSessionsFit app.now.names sessions.old.items }
     requires replies { SessionsKeepReplies sessions.old.items }
     requires kept { AreKept app.now (K.told keeper.old) moment sessions.old.items caches.old.items }
     requires shaped { K.shaped keeper.old ≡ Some app.now.names.schema }
     requires rows { AreSound app.now.names.schema (K.told keeper.old) }
     requires idle { K.in_transaction keeper.old ≡ false }
-    ensures done { IfOk result (λ r. PostsInput (IsLost (K.marks keeper.old) (K.marks keeper.new)) app.now moment name.now body.now (K.told keeper.old) sessions.old.items (said r) (K.told keeper.new) sessions.new.items) }
+    ensures done { IfOk result (λ r. PostsInput (SilenceCause (K.marks keeper.old) (K.marks keeper.new)) app.now moment name.now body.now (K.told keeper.old) sessions.old.items (said r) (K.told keeper.new) sessions.new.items) }
     ensures whole { IfOk result IsReply }
     ensures reached { IsErrOf result Failed → ReachesInput name.now body.now sessions.old.items }
     ensures stopped { OnErr result (sessions.new.items ≡ sessions.old.items) }
     ensures left { OnErr result (Becomes K.Keeper keeper.old keeper.new Stays) }
-    ensures fit { AreFit app.now.names sessions.new.items }
+    ensures fit { LiveSessionsFit app.now.names sessions.new.items }
     ensures replies { SessionsKeepReplies sessions.new.items }
     ensures kept { AreKept app.now (K.told keeper.new) moment sessions.new.items caches.new.items }
     ensures clean { AreLeftBeside app.now name.now any_table caches.old.items caches.new.items }
-    ensures own { IfOk result (λ r. InputLeaves (IsLost (K.marks keeper.old) (K.marks keeper.new)) app.now moment name.now nothing body.now (checks input_in (λ (i : AnInput). i.seq) (session_of name.now sessions.old.items) body.now) (K.told keeper.old) sessions.old.items (said r) (K.told keeper.new) sessions.new.items caches.old.items caches.new.items) }
+    ensures own { IfOk result (λ r. InputLeaves (SilenceCause (K.marks keeper.old) (K.marks keeper.new)) app.now moment name.now nothing body.now (checks input_in (λ (i : AnInput). i.seq) (session_of name.now sessions.old.items) body.now) (K.told keeper.old) sessions.old.items (said r) (K.told keeper.new) sessions.new.items caches.old.items caches.new.items) }
     ensures cut { OnErr result (AreStopped app.now name.now nothing (input_cut app.now moment name.now (K.told keeper.old) sessions.old.items (checks input_in (λ (i : AnInput). i.seq) (session_of name.now sessions.old.items) body.now)) (K.told keeper.new) caches.old.items caches.new.items) }
     ensures rows { AreSound app.now.names.schema (K.told keeper.new) }
     ensures shaped { K.shaped keeper.new ≡ Some app.now.names.schema }
@@ -95,23 +95,23 @@ fn act_input<K: Keeper, L: Ledger>(
     moment: u64,
     steps: &mut Steps<L>,
 ) -> Result<Reply, KeeperEnd>
-    requires sound { IsSound app.now }
+    requires sound { IsSoundApp app.now }
     requires live { IsSome (find name.now sessions.old.items) }
-    requires fit { AreFit app.now.names sessions.old.items }
+    requires fit { LiveSessionsFit app.now.names sessions.old.items }
     requires replies { SessionsKeepReplies sessions.old.items }
     requires kept { AreKept app.now (K.told keeper.old) moment sessions.old.items caches.old.items }
     requires shaped { K.shaped keeper.old ≡ Some app.now.names.schema }
     requires rows { AreSound app.now.names.schema (K.told keeper.old) }
     requires idle { K.in_transaction keeper.old ≡ false }
-    ensures done { IfOk result (λ r. SendsInput (IsLost (K.marks keeper.old) (K.marks keeper.new)) app.now moment name.now body.now input (K.told keeper.old) sessions.old.items (said r) (K.told keeper.new) sessions.new.items) }
+    ensures done { IfOk result (λ r. SendsInput (SilenceCause (K.marks keeper.old) (K.marks keeper.new)) app.now moment name.now body.now input (K.told keeper.old) sessions.old.items (said r) (K.told keeper.new) sessions.new.items) }
     ensures whole { IfOk result IsReply }
     ensures stopped { OnErr result (sessions.new.items ≡ sessions.old.items) }
     ensures left { OnErr result (Becomes K.Keeper keeper.old keeper.new Stays) }
-    ensures fit { AreFit app.now.names sessions.new.items }
+    ensures fit { LiveSessionsFit app.now.names sessions.new.items }
     ensures replies { SessionsKeepReplies sessions.new.items }
     ensures kept { AreKept app.now (K.told keeper.new) moment sessions.new.items caches.new.items }
     ensures clean { AreLeftBeside app.now name.now any_table caches.old.items caches.new.items }
-    ensures own { IfOk result (λ r. InputLeaves (IsLost (K.marks keeper.old) (K.marks keeper.new)) app.now moment name.now nothing body.now (Ok input) (K.told keeper.old) sessions.old.items (said r) (K.told keeper.new) sessions.new.items caches.old.items caches.new.items) }
+    ensures own { IfOk result (λ r. InputLeaves (SilenceCause (K.marks keeper.old) (K.marks keeper.new)) app.now moment name.now nothing body.now (Ok input) (K.told keeper.old) sessions.old.items (said r) (K.told keeper.new) sessions.new.items caches.old.items caches.new.items) }
     ensures cut { OnErr result (AreStopped app.now name.now nothing (InputCutOff app.now moment name.now input (K.told keeper.old) sessions.old.items) (K.told keeper.new) caches.old.items caches.new.items) }
     ensures rows { AreSound app.now.names.schema (K.told keeper.new) }
     ensures shaped { K.shaped keeper.new ≡ Some app.now.names.schema }
@@ -146,23 +146,23 @@ pub(crate) fn post_event<K: Keeper, L: Ledger>(
     moment: u64,
     steps: &mut Steps<L>,
 ) -> Result<Reply, KeeperEnd>
-    requires sound { IsSound app.now }
-    requires fit { AreFit app.now.names sessions.old.items }
+    requires sound { IsSoundApp app.now }
+    requires fit { LiveSessionsFit app.now.names sessions.old.items }
     requires replies { SessionsKeepReplies sessions.old.items }
     requires kept { AreKept app.now (K.told keeper.old) moment sessions.old.items caches.old.items }
     requires shaped { K.shaped keeper.old ≡ Some app.now.names.schema }
     requires rows { AreSound app.now.names.schema (K.told keeper.old) }
     requires idle { K.in_transaction keeper.old ≡ false }
-    ensures done { IfOk result (λ r. PostsEvent (IsLost (K.marks keeper.old) (K.marks keeper.new)) app.now moment name.now body.now (K.told keeper.old) sessions.old.items (said r) (K.told keeper.new) sessions.new.items) }
+    ensures done { IfOk result (λ r. PostsEvent (SilenceCause (K.marks keeper.old) (K.marks keeper.new)) app.now moment name.now body.now (K.told keeper.old) sessions.old.items (said r) (K.told keeper.new) sessions.new.items) }
     ensures whole { IfOk result IsReply }
     ensures reached { IsErrOf result Failed → ReachesEvent name.now body.now sessions.old.items }
     ensures stopped { OnErr result (sessions.new.items ≡ sessions.old.items) }
     ensures left { OnErr result (Becomes K.Keeper keeper.old keeper.new Stays) }
-    ensures fit { AreFit app.now.names sessions.new.items }
+    ensures fit { LiveSessionsFit app.now.names sessions.new.items }
     ensures replies { SessionsKeepReplies sessions.new.items }
     ensures kept { AreKept app.now (K.told keeper.new) moment sessions.new.items caches.new.items }
     ensures clean { AreLeftBeside app.now name.now any_table caches.old.items caches.new.items }
-    ensures own { IfOk result (λ r. EventLeaves (IsLost (K.marks keeper.old) (K.marks keeper.new)) app.now moment name.now nothing body.now (checks event_in (λ (e : AnEvent). e.seq) (session_of name.now sessions.old.items) body.now) (K.told keeper.old) sessions.old.items (said r) (K.told keeper.new) sessions.new.items caches.old.items caches.new.items) }
+    ensures own { IfOk result (λ r. EventLeaves (SilenceCause (K.marks keeper.old) (K.marks keeper.new)) app.now moment name.now nothing body.now (checks event_in (λ (e : AnEvent). e.seq) (session_of name.now sessions.old.items) body.now) (K.told keeper.old) sessions.old.items (said r) (K.told keeper.new) sessions.new.items caches.old.items caches.new.items) }
     ensures cut { OnErr result (AreStopped app.now name.now nothing (event_cut app.now moment name.now (K.told keeper.old) sessions.old.items (checks event_in (λ (e : AnEvent). e.seq) (session_of name.now sessions.old.items) body.now)) (K.told keeper.new) caches.old.items caches.new.items) }
     ensures rows { AreSound app.now.names.schema (K.told keeper.new) }
     ensures shaped { K.shaped keeper.new ≡ Some app.now.names.schema }
@@ -192,23 +192,23 @@ fn act_event<K: Keeper, L: Ledger>(
     moment: u64,
     steps: &mut Steps<L>,
 ) -> Result<Reply, KeeperEnd>
-    requires sound { IsSound app.now }
+    requires sound { IsSoundApp app.now }
     requires live { IsSome (find name.now sessions.old.items) }
-    requires fit { AreFit app.now.names sessions.old.items }
+    requires fit { LiveSessionsFit app.now.names sessions.old.items }
     requires replies { SessionsKeepReplies sessions.old.items }
     requires kept { AreKept app.now (K.told keeper.old) moment sessions.old.items caches.old.items }
     requires shaped { K.shaped keeper.old ≡ Some app.now.names.schema }
     requires rows { AreSound app.now.names.schema (K.told keeper.old) }
     requires idle { K.in_transaction keeper.old ≡ false }
-    ensures done { IfOk result (λ r. SendsEvent (IsLost (K.marks keeper.old) (K.marks keeper.new)) app.now moment name.now body.now event.now (K.told keeper.old) sessions.old.items (said r) (K.told keeper.new) sessions.new.items) }
+    ensures done { IfOk result (λ r. SendsEvent (SilenceCause (K.marks keeper.old) (K.marks keeper.new)) app.now moment name.now body.now event.now (K.told keeper.old) sessions.old.items (said r) (K.told keeper.new) sessions.new.items) }
     ensures whole { IfOk result IsReply }
     ensures stopped { OnErr result (sessions.new.items ≡ sessions.old.items) }
     ensures left { OnErr result (Becomes K.Keeper keeper.old keeper.new Stays) }
-    ensures fit { AreFit app.now.names sessions.new.items }
+    ensures fit { LiveSessionsFit app.now.names sessions.new.items }
     ensures replies { SessionsKeepReplies sessions.new.items }
     ensures kept { AreKept app.now (K.told keeper.new) moment sessions.new.items caches.new.items }
     ensures clean { AreLeftBeside app.now name.now any_table caches.old.items caches.new.items }
-    ensures own { IfOk result (λ r. EventLeaves (IsLost (K.marks keeper.old) (K.marks keeper.new)) app.now moment name.now nothing body.now (Ok event.now) (K.told keeper.old) sessions.old.items (said r) (K.told keeper.new) sessions.new.items caches.old.items caches.new.items) }
+    ensures own { IfOk result (λ r. EventLeaves (SilenceCause (K.marks keeper.old) (K.marks keeper.new)) app.now moment name.now nothing body.now (Ok event.now) (K.told keeper.old) sessions.old.items (said r) (K.told keeper.new) sessions.new.items caches.old.items caches.new.items) }
     ensures cut { OnErr result (AreStopped app.now name.now nothing (EventCutOff app.now moment name.now event.now (K.told keeper.old) sessions.old.items) (K.told keeper.new) caches.old.items caches.new.items) }
     ensures rows { AreSound app.now.names.schema (K.told keeper.new) }
     ensures shaped { K.shaped keeper.new ≡ Some app.now.names.schema }
@@ -240,13 +240,13 @@ pub(crate) fn change_rows<K: Keeper>(
     name: &Words,
     body: &[u8],
 ) -> Result<Reply, KeeperEnd>
-    requires sound { IsSound app.now }
-    requires order { (k : ℕ) (c : Under Kept) → slice_get caches.old.items k ≡ Some c → IsInOrder app.now c.it }
+    requires sound { IsSoundApp app.now }
+    requires order { (k : ℕ) (c : Under CacheState) → slice_get caches.old.items k ≡ Some c → IsInOrder app.now c.it }
     requires shaped { K.shaped keeper.old ≡ Some app.now.names.schema }
     requires rows { AreSound app.now.names.schema (K.told keeper.old) }
     requires idle { K.in_transaction keeper.old ≡ false }
     requires replies { KeepReplies desks.old.items }
-    ensures done { IfOk result (λ r. PostsRows (IsLost (K.marks keeper.old) (K.marks keeper.new)) app.now.names.schema.tables name.now body.now (K.told keeper.old) desks.old.items (said r) (K.told keeper.new) desks.new.items) }
+    ensures done { IfOk result (λ r. PostsRows (SilenceCause (K.marks keeper.old) (K.marks keeper.new)) app.now.names.schema.tables name.now body.now (K.told keeper.old) desks.old.items (said r) (K.told keeper.new) desks.new.items) }
     ensures whole { IfOk result IsReply }
     ensures stopped { OnErr result (Becomes K.Keeper keeper.old keeper.new Stays) }
     ensures same { OnErr result (desks.new.items ≡ desks.old.items) }

@@ -5,24 +5,24 @@ ghost use Rattle.numbered_requests.specs.Checked.{SessionsKeepReplies};
 ghost use Rattle.numbered_requests.specs.Directory.{find};
 ghost use Rattle.numbered_requests.specs.Replies.{IsReply, said};
 ghost use Rattle.view_text.specs.ReplyText.{ok_text};
-ghost use Rattle.app_loader.specs.app_semantics.Sound.{IsSound};
+ghost use Rattle.app_loader.specs.app_semantics.Sound.{IsSoundApp};
 ghost use Rattle.fx_core.specs.declared.names.Names.{Names as Known};
 ghost use Rattle.app_cells.specs.declared.app.App.{App as AnApp};
 ghost use Rattle.row_keeper.specs.Over.{Becomes, HasCause};
 ghost use Rattle.row_keeper.specs.Tables.{Tables};
 ghost use Rattle.session_views.specs.Galleries.{gallery_named};
-ghost use Rattle.session_views.specs.Shows.{AreFit, ReachesItems, ReachesView, ShowsItems, ShowsView};
+ghost use Rattle.session_views.specs.Shows.{LiveSessionsFit, ReachesItems, ReachesView, ShowsItems, ShowsView};
 ghost use Rattle.recalc.specs.AskingOver.{HasRead};
-ghost use Rattle.recalc.specs.Changes.{IsLeftBut};
-ghost use Rattle.office.specs.Caches.{AreEach, AreKept, IsNew};
+ghost use Rattle.recalc.specs.Changes.{StaysCleanExcept};
+ghost use Rattle.office.specs.Caches.{EachCacheBecame, AreKept, IsNew};
 ghost use Rattle.office.specs.Costs.{CostOfItems, CostOfNamed, CostOfView, CostsTo, counts};
-ghost use Rattle.office.specs.Leaving.{AreLeft, AreLeftBeside, BeginLeaves, any_table, nothing};
-ghost use Rattle.fx_base.specs.Silence.{IsLost};
+ghost use Rattle.office.specs.Leaving.{SessionsLeft, AreLeftBeside, BeginLeaves, any_table, nothing};
+ghost use Rattle.fx_base.specs.Silence.{SilenceCause};
 ghost use Rattle.fx_base.specs.Telling.{Stays};
 ghost use Rattle.row_requests.specs.Sound.{AreSound};
 ghost use Rattle.session_requests.specs.Opening.{CanOpen};
 ghost use Rattle.row_keeper.specs.declared.keeper.KeeperEnd.TheVariants.{Failed};
-ghost use Rattle.office.specs.Sessions.{BeginsSession, ReachesBegin, ReachesNamed, ShowsNamed, begin_checks, without};
+ghost use Rattle.office.specs.Sessions.{BeginsSession, ReachesBegin, ReachesNamed, ShowsNamed, begin_checks, sessions_without};
 
 use crate::app_semantics::fitting_holds;
 use crate::keeping::{new_cache, touch_others};
@@ -57,25 +57,25 @@ pub(crate) fn begin<K: Keeper, L: Ledger>(
     moment: u64,
     steps: &mut Steps<L>,
 ) -> Result<Reply, KeeperEnd>
-    requires sound { IsSound app.now }
+    requires sound { IsSoundApp app.now }
     requires opens { CanOpen app.now.names }
-    requires fit { AreFit app.now.names sessions.old.items }
+    requires fit { LiveSessionsFit app.now.names sessions.old.items }
     requires replies { SessionsKeepReplies sessions.old.items }
     requires kept { AreKept app.now (K.told keeper.old) moment sessions.old.items caches.old.items }
     requires shaped { K.shaped keeper.old ≡ Some app.now.names.schema }
     requires rows { AreSound app.now.names.schema (K.told keeper.old) }
     requires idle { K.in_transaction keeper.old ≡ false }
-    ensures done { IfOk result (λ r. BeginsSession (IsLost (K.marks keeper.old) (K.marks keeper.new)) app.now moment name.now (K.told keeper.old) sessions.old.items (said r) (K.told keeper.new) sessions.new.items) }
+    ensures done { IfOk result (λ r. BeginsSession (SilenceCause (K.marks keeper.old) (K.marks keeper.new)) app.now moment name.now (K.told keeper.old) sessions.old.items (said r) (K.told keeper.new) sessions.new.items) }
     ensures whole { IfOk result IsReply }
     ensures reached { IsErrOf result Failed → ReachesBegin name.now sessions.old.items }
     ensures stopped { OnErr result (sessions.new.items ≡ sessions.old.items) }
     ensures left { OnErr result (Becomes K.Keeper keeper.old keeper.new Stays) }
-    ensures fit { AreFit app.now.names sessions.new.items }
+    ensures fit { LiveSessionsFit app.now.names sessions.new.items }
     ensures replies { SessionsKeepReplies sessions.new.items }
     ensures kept { AreKept app.now (K.told keeper.new) moment sessions.new.items caches.new.items }
     ensures clean { AreLeftBeside app.now name.now any_table caches.old.items caches.new.items }
-    ensures others { IfOk result (λ r. BeginLeaves (IsLost (K.marks keeper.old) (K.marks keeper.new)) app.now moment name.now nothing (begin_checks name.now sessions.old.items) (K.told keeper.old) sessions.old.items (said r) (K.told keeper.new) sessions.new.items caches.old.items caches.new.items) }
-    ensures cut { OnErr result (AreLeft app.now nothing caches.old.items caches.new.items) }
+    ensures others { IfOk result (λ r. BeginLeaves (SilenceCause (K.marks keeper.old) (K.marks keeper.new)) app.now moment name.now nothing (begin_checks name.now sessions.old.items) (K.told keeper.old) sessions.old.items (said r) (K.told keeper.new) sessions.new.items caches.old.items caches.new.items) }
+    ensures cut { OnErr result (SessionsLeft app.now nothing caches.old.items caches.new.items) }
     ensures rows { AreSound app.now.names.schema (K.told keeper.new) }
     ensures shaped { K.shaped keeper.new ≡ Some app.now.names.schema }
     ensures idle { K.in_transaction keeper.new ≡ false }
@@ -170,11 +170,11 @@ pub(crate) fn end(
     name: &Words,
 ) -> Result<Reply, Memory>
     ensures said { IfOk result (λ r. said r ≡ reply 200 ok_text) }
-    ensures done { IfOk result (λ r. sessions.new.items ≡ without name.now sessions.old.items) }
-    ensures fit { (names : Known) → AreFit names sessions.old.items → AreFit names sessions.new.items }
+    ensures done { IfOk result (λ r. sessions.new.items ≡ sessions_without name.now sessions.old.items) }
+    ensures fit { (names : Known) → LiveSessionsFit names sessions.old.items → LiveSessionsFit names sessions.new.items }
     ensures replies { SessionsKeepReplies sessions.old.items → SessionsKeepReplies sessions.new.items }
     ensures kept { (app : AnApp) (told : Option Tables) (m : ℕ) → AreKept app told m sessions.old.items caches.old.items → AreKept app told m sessions.new.items caches.new.items }
-    ensures clean { (app : AnApp) → AreLeft app nothing caches.old.items caches.new.items }
+    ensures clean { (app : AnApp) → SessionsLeft app nothing caches.old.items caches.new.items }
     ensures whole { IfOk result IsReply }
     ensures stopped { OnErr result (sessions.new.items ≡ sessions.old.items) }
 {
@@ -186,7 +186,7 @@ pub(crate) fn end(
 
 /// Takes out what has this name.
 fn remove<T: Drop>(list: &mut Vec<Named<T>>, name: &Words)
-    ensures { list.new.items ≡ without name.now list.old.items }
+    ensures { list.new.items ≡ sessions_without name.now list.old.items }
 {
     list.retain(|named| !named.name.is(name));
 }
@@ -203,15 +203,15 @@ pub(crate) fn show_view_to<K: Keeper, L: Ledger>(
     moment: u64,
     steps: &mut Steps<L>,
 ) -> Result<Reply, KeeperEnd>
-    requires sound { IsSound app.now }
-    requires fit { AreFit app.now.names sessions.now }
+    requires sound { IsSoundApp app.now }
+    requires fit { LiveSessionsFit app.now.names sessions.now }
     requires kept { AreKept app.now (K.told keeper.old) moment sessions.now caches.old.items }
     requires shaped { K.shaped keeper.old ≡ Some app.now.names.schema }
-    ensures done { IfOk result (λ r. ShowsView (IsLost (K.marks keeper.old) (K.marks keeper.new)) moment app.now name.now sessions.now (K.told keeper.old) (said r) (K.told keeper.new)) }
+    ensures done { IfOk result (λ r. ShowsView (SilenceCause (K.marks keeper.old) (K.marks keeper.new)) moment app.now name.now sessions.now (K.told keeper.old) (said r) (K.told keeper.new)) }
     ensures whole { IfOk result IsReply }
     ensures reached { IsErrOf result Failed → ReachesView name.now sessions.now }
     ensures kept { AreKept app.now (K.told keeper.new) moment sessions.now caches.new.items }
-    ensures clean { AreEach (λ k. IsLeftBut app.now []) caches.old.items caches.new.items }
+    ensures clean { EachCacheBecame (λ k. StaysCleanExcept app.now []) caches.old.items caches.new.items }
     ensures costs { IfOk result (λ r. CostsTo (CostOfView app.now (K.told keeper.new) moment (said r)) name.now (find name.now sessions.now) caches.old.items caches.new.items (counts steps.old (K.visited keeper.old)) (counts steps.new (K.visited keeper.new))) }
     ensures read { HasRead K.Keeper keeper.old keeper.new }
     ensures cause { HasCause K.Keeper keeper.old keeper.new result }
@@ -246,15 +246,15 @@ pub(crate) fn show_items_to<K: Keeper, L: Ledger>(
     moment: u64,
     steps: &mut Steps<L>,
 ) -> Result<Reply, KeeperEnd>
-    requires sound { IsSound app.now }
-    requires fit { AreFit app.now.names sessions.now }
+    requires sound { IsSoundApp app.now }
+    requires fit { LiveSessionsFit app.now.names sessions.now }
     requires kept { AreKept app.now (K.told keeper.old) moment sessions.now caches.old.items }
     requires shaped { K.shaped keeper.old ≡ Some app.now.names.schema }
-    ensures done { IfOk result (λ r. ShowsItems (IsLost (K.marks keeper.old) (K.marks keeper.new)) moment app.now name.now gallery.now from sessions.now (K.told keeper.old) (said r) (K.told keeper.new)) }
+    ensures done { IfOk result (λ r. ShowsItems (SilenceCause (K.marks keeper.old) (K.marks keeper.new)) moment app.now name.now gallery.now from sessions.now (K.told keeper.old) (said r) (K.told keeper.new)) }
     ensures whole { IfOk result IsReply }
     ensures reached { IsErrOf result Failed → ReachesItems app.now name.now gallery.now sessions.now }
     ensures kept { AreKept app.now (K.told keeper.new) moment sessions.now caches.new.items }
-    ensures clean { AreEach (λ k. IsLeftBut app.now []) caches.old.items caches.new.items }
+    ensures clean { EachCacheBecame (λ k. StaysCleanExcept app.now []) caches.old.items caches.new.items }
     ensures costs { IfOk result (λ r. CostsTo (CostOfItems app.now (K.told keeper.new) moment from (gallery_named gallery.now app.now.names) (said r)) name.now (find name.now sessions.now) caches.old.items caches.new.items (counts steps.old (K.visited keeper.old)) (counts steps.new (K.visited keeper.new))) }
     ensures read { HasRead K.Keeper keeper.old keeper.new }
     ensures cause { HasCause K.Keeper keeper.old keeper.new result }
@@ -281,15 +281,15 @@ pub(crate) fn show_named<K: Keeper, L: Ledger>(
     moment: u64,
     steps: &mut Steps<L>,
 ) -> Result<Reply, KeeperEnd>
-    requires sound { IsSound app.now }
-    requires fit { AreFit app.now.names sessions.now }
+    requires sound { IsSoundApp app.now }
+    requires fit { LiveSessionsFit app.now.names sessions.now }
     requires kept { AreKept app.now (K.told keeper.old) moment sessions.now caches.old.items }
     requires shaped { K.shaped keeper.old ≡ Some app.now.names.schema }
-    ensures done { IfOk result (λ r. ShowsNamed (IsLost (K.marks keeper.old) (K.marks keeper.new)) moment app.now name.now sessions.now (K.told keeper.old) (said r) (K.told keeper.new)) }
+    ensures done { IfOk result (λ r. ShowsNamed (SilenceCause (K.marks keeper.old) (K.marks keeper.new)) moment app.now name.now sessions.now (K.told keeper.old) (said r) (K.told keeper.new)) }
     ensures whole { IfOk result IsReply }
     ensures reached { IsErrOf result Failed → ReachesNamed name.now sessions.now }
     ensures kept { AreKept app.now (K.told keeper.new) moment sessions.now caches.new.items }
-    ensures clean { AreEach (λ k. IsLeftBut app.now []) caches.old.items caches.new.items }
+    ensures clean { EachCacheBecame (λ k. StaysCleanExcept app.now []) caches.old.items caches.new.items }
     ensures costs { OnOk result (CostsTo (CostOfNamed app.now (K.told keeper.new) moment) name.now (find name.now sessions.now) caches.old.items caches.new.items (counts steps.old (K.visited keeper.old)) (counts steps.new (K.visited keeper.new))) }
     ensures read { HasRead K.Keeper keeper.old keeper.new }
     ensures cause { HasCause K.Keeper keeper.old keeper.new result }

@@ -4,7 +4,7 @@ use Rattle.app_semantics.specs.app_cells.declared.app.App.{App}
 use Rattle.app_semantics.specs.app_cells.declared.app.CellInfo.{CellInfo}
 use Rattle.app_semantics.specs.Fresh.{reads_table}
 use Rattle.fx_base.proofs.Silences.{goes_two, later_then}
-use Rattle.fx_base.specs.Silence.{Goes, IsLost}
+use Rattle.fx_base.specs.Silence.{MayFallSilent, SilenceCause}
 use Rattle.fx_base.specs.Telling.{Stays}
 use Rattle.fx_env.specs.Telling.{IsHeard}
 use Rattle.recalc.specs.Asking.{CanAsk, HasRead, IsHeardOf, Keeping}
@@ -12,13 +12,13 @@ use Rattle.fx_core.specs.declared.schema.Schema.{Schema}
 use Rattle.row_keeper.specs.Tables.{Tables, rows_told}
 use Rattle.row_queries.specs.declared.rows.Row.{Row}
 
-pub stays : (lost : Type 0) (x : Option Tables) → Goes lost Stays x x
+pub stays : (lost : Type 0) (x : Option Tables) → MayFallSilent lost Stays x x
 stays lost None = refl
 stays lost (Some t) = refl
 
 -- no call
 pub read_none : (a : Keeping) → HasRead a a
-read_none a = record { told = stays (IsLost a.marks a.marks) a.told; began = stays (IsLost a.marks a.marks) a.began; shaped = refl; mode = refl; later = record { faults = omega arith; doubt = omega arith }; visited = omega arith; loan = refl }
+read_none a = record { told = stays (SilenceCause a.marks a.marks) a.told; began = stays (SilenceCause a.marks a.marks) a.began; shaped = refl; mode = refl; later = record { faults = omega arith; doubt = omega arith }; visited = omega arith; loan = refl }
 
 -- one after another
 pub read_on : (a b c : Keeping) → HasRead a b → HasRead b c → HasRead a c
@@ -32,7 +32,7 @@ read_on a b c p q = record {
   loan = q.loan ∙ p.loan;
 }
 
-heard_back : (lost : Type 0) (x y : Option Tables) (f : Option (List (List Row))) → Goes lost Stays x y → IsHeard (rows_told y) f → IsHeard (rows_told x) f
+heard_back : (lost : Type 0) (x y : Option Tables) (f : Option (List (List Row))) → MayFallSilent lost Stays x y → IsHeard (rows_told y) f → IsHeard (rows_told x) f
 heard_back lost x y None k h = tt
 heard_back lost None y (Some g) k h = subst (λ z. rows_told z ≡ Some g) k h
 heard_back lost (Some a) None (Some g) k h = absurd cc
@@ -40,7 +40,7 @@ heard_back lost (Some a) (Some b) (Some g) k h = subst (λ z. rows_told (Some z)
 
 -- what is heard later was heard before
 pub heard_before : (a b : Keeping) → HasRead a b → (f : Option (List (List Row))) → IsHeardOf b.told f → IsHeardOf a.told f
-heard_before a b p f h = heard_back (IsLost a.marks b.marks) a.told b.told f p.told h
+heard_before a b p f h = heard_back (SilenceCause a.marks b.marks) a.told b.told f p.told h
 
 -- what is told is heard
 pub heard_told : (told : Option Tables) → IsHeardOf told (rows_told told)

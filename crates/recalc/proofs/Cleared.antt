@@ -7,83 +7,83 @@ use Rattle.std.proofs.lemmas.List.{get_or-set_other, get_or-set_same, get_or_pas
 use Rattle.fx_core.specs.declared.sources.Source.{Source}
 use Rattle.recalc.specs.Asking.{ToldRows}
 use Rattle.recalc.specs.Changes.{IsCellTouched, ReachesCell, itself, through}
-use Rattle.recalc.specs.Clearing.{AreCleared, AreUnmarked, IsMarkedIf, IsToMark, greatest, is_mark, is_marked, marked, unmarked}
-use Rattle.recalc.specs.Kept.{HasRoom, IsInOrder, IsRight, Kept, stamp_of}
-use Rattle.recalc.specs.Outcomes.{HasNumbers, IsCounted}
+use Rattle.recalc.specs.Clearing.{AreCleared, AreUnmarked, IsMarkedIf, IsToMark, greatest_stamp, is_mark_stamp, is_marked_cell, marked, stamp_unmarked}
+use Rattle.recalc.specs.Kept.{HasNumbersLeft, IsInOrder, IsRight, CacheState, stamp_of}
+use Rattle.recalc.specs.Outcomes.{HasNumbers, IsOneMore}
 use Rattle.recalc.specs.app_cells.Leaning.{LeansOn, edges_of}
 use Rattle.recalc.specs.app_cells.declared.app.App.{App}
 use Rattle.recalc.specs.app_cells.declared.app.CellInfo.{CellInfo}
 use Rattle.recalc.specs.app_semantics.Present.{present}
-use Rattle.recalc.specs.app_semantics.Sound.{IsSound}
+use Rattle.recalc.specs.app_semantics.Sound.{IsSoundApp}
 use Rattle.recalc.specs.declared.stamps.Stamp.{Stamp}
 use Rattle.session_state.specs.Sessions.{SessionState}
 use Rattle.recalc.proofs.Marking.{at, at_place, contains_at}
 use Rattle.recalc.proofs.of_app_semantics.Ordered.{earlier, leaning_edge}
 
 -- so many cells of the order were seen
-pub record IsMarking (a : App) (x : ℕ) (old : Kept) (i : ℕ) (c : Kept) : Type 0 where
-  pub there : (p : ℕ) → p < i → p < length a.order → ReachesCell a (at a p) x → is_marked c (at a p) ≡ true
-  pub only : (k : ℕ) → is_marked c k ≡ true → ReachesCell a k x
-  pub other : (k : ℕ) → is_marked c k ≡ false → stamp_of c k ≡ stamp_of old k
+pub record IsMarking (a : App) (x : ℕ) (old : CacheState) (i : ℕ) (c : CacheState) : Type 0 where
+  pub there : (p : ℕ) → p < i → p < length a.order → ReachesCell a (at a p) x → is_marked_cell c (at a p) ≡ true
+  pub only : (k : ℕ) → is_marked_cell c k ≡ true → ReachesCell a k x
+  pub other : (k : ℕ) → is_marked_cell c k ≡ false → stamp_of c k ≡ stamp_of old k
   pub rest : c ≡ record old { stamps = c.stamps }
   pub long : length c.stamps ≡ length old.stamps
 
 -- ---- marks
-no_mark : (o : Option Stamp) (last : ℕ) → HasRoom last → ((e : Stamp) → o ≡ Some e → e.checked ≤ last) → is_mark o ≡ false
+no_mark : (o : Option Stamp) (last : ℕ) → HasNumbersLeft last → ((e : Stamp) → o ≡ Some e → e.checked ≤ last) → is_mark_stamp o ≡ false
 no_mark None last room low = refl
-no_mark (Some e) last room low = elim (cases_Bool (is_mark (Some e))) [
+no_mark (Some e) last room low = elim (cases_Bool (is_mark_stamp (Some e))) [
   | inl mark ↦
-      let same : e.checked ≡ greatest = eqb-true e.checked greatest mark in
+      let same : e.checked ≡ greatest_stamp = eqb-true e.checked greatest_stamp mark in
       let under = low e refl in
       absurd (omega (arith, same, under, room))
   | inr none ↦ none
 ]
 
 -- no stamp that was given is one
-pub unmarked_yet : (a : App) (c : Kept) (k : ℕ) → IsInOrder a c → HasRoom c.last → is_marked c k ≡ false
+pub unmarked_yet : (a : App) (c : CacheState) (k : ℕ) → IsInOrder a c → HasNumbersLeft c.last → is_marked_cell c k ≡ false
 unmarked_yet a c k order room = no_mark (stamp_of c k) c.last room (λ e is. order.low.checked k e is)
 
-mark_here : (c : Kept) (k : ℕ) → k < length c.stamps → is_marked (marked c k) k ≡ true
-mark_here c k low = ap is_mark (get_or-set_same c.stamps k (Some (record { checked = greatest; moved = greatest })) None low)
+mark_here : (c : CacheState) (k : ℕ) → k < length c.stamps → is_marked_cell (marked c k) k ≡ true
+mark_here c k low = ap is_mark_stamp (get_or-set_same c.stamps k (Some (record { checked = greatest_stamp; moved = greatest_stamp })) None low)
 
-mark_there : (c : Kept) (k d : ℕ) → d ≢ k → stamp_of (marked c k) d ≡ stamp_of c d
-mark_there c k d other = get_or-set_other c.stamps k d (Some (record { checked = greatest; moved = greatest })) None other
+mark_there : (c : CacheState) (k d : ℕ) → d ≢ k → stamp_of (marked c k) d ≡ stamp_of c d
+mark_there c k d other = get_or-set_other c.stamps k d (Some (record { checked = greatest_stamp; moved = greatest_stamp })) None other
 
 clash : (b : Bool) → b ≡ true → b ≡ false → ⊥
 clash b e f = let both : true ≡ false = sym e ∙ f in absurd cc
 
-pub marking_start : (a : App) (x : ℕ) (c : Kept) → IsInOrder a c → HasRoom c.last → IsMarking a x c 0 c
+pub marking_start : (a : App) (x : ℕ) (c : CacheState) → IsInOrder a c → HasNumbersLeft c.last → IsMarking a x c 0 c
 marking_start a x c order room = record {
   there = λ p low. absurd (omega (arith, low));
-  only = λ k mark. absurd (clash (is_marked c k) mark (unmarked_yet a c k order room));
+  only = λ k mark. absurd (clash (is_marked_cell c k) mark (unmarked_yet a c k order room));
   other = λ k none. refl;
   rest = refl;
   long = refl;
 }
 
 -- what a cell leans on stands before it in the order
-before : (a : App) (i n d : ℕ) (c : CellInfo) → IsSound a → i < length a.order → at a i ≡ n → slice_get a.cells n ≡ Some c → LeansOn a.names c d → (j : ℕ) × (j < i) × (at a j ≡ d)
+before : (a : App) (i n d : ℕ) (c : CellInfo) → IsSoundApp a → i < length a.order → at a i ≡ n → slice_get a.cells n ≡ Some c → LeansOn a.names c d → (j : ℕ) × (j < i) × (at a j ≡ d)
 before a i n d c sound low here is leans =
     let edge = leaning_edge a.names a.cells n c d is leans in
     let b = earlier a.order i d (sound.order.behind i d low (subst (λ m. Contains (edges_of a.names a.cells) (m, d)) (sym here) edge)) in
     (b.0, b.1, b.3)
 
 -- one cell more
-pub marking_more : (a : App) (x : ℕ) (old : Kept) (i n : ℕ) (c d : Kept) → IsSound a → IsInOrder a old → i < length a.order → at a i ≡ n → IsMarkedIf a x n c d → IsMarking a x old i c → IsMarking a x old (i + 1) d
+pub marking_more : (a : App) (x : ℕ) (old : CacheState) (i n : ℕ) (c d : CacheState) → IsSoundApp a → IsInOrder a old → i < length a.order → at a i ≡ n → IsMarkedIf a x n c d → IsMarking a x old i c → IsMarking a x old (i + 1) d
 marking_more a x old i n c d sound order low here (inl (mark, is)) h = subst (IsMarking a x old (i + 1)) (sym is) (record {
   there = λ p under inside reach. elim (cases_eq (at a p) n) [
-    | inl e ↦ subst (λ m. is_marked (marked c n) m ≡ true) (sym e) (mark_here c n within)
-    | inr far ↦ ap is_mark (mark_there c n (at a p) far) ∙ h.there p (less p under far) inside reach
+    | inl e ↦ subst (λ m. is_marked_cell (marked c n) m ≡ true) (sym e) (mark_here c n within)
+    | inr far ↦ ap is_mark_stamp (mark_there c n (at a p) far) ∙ h.there p (less p under far) inside reach
   ];
   only = λ k set. elim (cases_eq k n) [
     | inl e ↦ subst (λ m. ReachesCell a m x) (sym e) (reach mark)
-    | inr far ↦ h.only k (sym (ap is_mark (mark_there c n k far)) ∙ set)
+    | inr far ↦ h.only k (sym (ap is_mark_stamp (mark_there c n k far)) ∙ set)
   ];
   other = λ k none. elim (cases_eq k n) [
-    | inl e ↦ absurd (clash (is_marked (marked c n) n) (mark_here c n within) (subst (λ m. is_marked (marked c n) m ≡ false) e none))
-    | inr far ↦ mark_there c n k far ∙ h.other k (sym (ap is_mark (mark_there c n k far)) ∙ none)
+    | inl e ↦ absurd (clash (is_marked_cell (marked c n) n) (mark_here c n within) (subst (λ m. is_marked_cell (marked c n) m ≡ false) e none))
+    | inr far ↦ mark_there c n k far ∙ h.other k (sym (ap is_mark_stamp (mark_there c n k far)) ∙ none)
   ];
-  rest = ap (λ (w : Kept). marked w n) h.rest;
+  rest = ap (λ (w : CacheState). marked w n) h.rest;
   long = length-set c.stamps n _ ∙ h.long;
 })
   where
@@ -120,26 +120,26 @@ marking_more a x old i n c d sound order low here (inr (free, is)) h = subst (Is
         let there : slice_get a.cells n ≡ Some j = subst (λ m. slice_get a.cells m ≡ Some j) p is in
         let b = before a i n e j sound low here there leans in
         let set = h.there b.0 b.1 (let under = b.1 in omega (arith, under, low)) (subst (λ m. ReachesCell a m x) (sym b.2) (subst (ReachesCell a e) q more)) in
-        inr (j, e, there, leans, subst (λ m. is_marked c m ≡ true) b.2 set)
+        inr (j, e, there, leans, subst (λ m. is_marked_cell c m ≡ true) b.2 set)
 
 -- ---- the end
-unmarked_mark : (o : Option Stamp) → is_mark o ≡ true → unmarked o ≡ None
+unmarked_mark : (o : Option Stamp) → is_mark_stamp o ≡ true → stamp_unmarked o ≡ None
 unmarked_mark o e = ap (λ (b : Bool). if b then None else o) e
 
-unmarked_other : (o : Option Stamp) → is_mark o ≡ false → unmarked o ≡ o
+unmarked_other : (o : Option Stamp) → is_mark_stamp o ≡ false → stamp_unmarked o ≡ o
 unmarked_other o e = ap (λ (b : Bool). if b then None else o) e
 
 -- all were seen, and the marks went
-pub cleared_is : (a : App) (x : ℕ) (old : Kept) (i : ℕ) (c d : Kept) → IsSound a → IsInOrder a old → length a.order ≤ i → IsMarking a x old i c → AreUnmarked c d → AreCleared a x old d
+pub cleared_is : (a : App) (x : ℕ) (old : CacheState) (i : ℕ) (c d : CacheState) → IsSoundApp a → IsInOrder a old → length a.order ≤ i → IsMarking a x old i c → AreUnmarked c d → AreCleared a x old d
 cleared_is a x old i c d sound order end h u = record {
   gone = gone;
   left = λ k far. u.each k ∙ left k far;
-  rest = u.rest ∙ ap (λ (w : Kept). record w { stamps = d.stamps }) h.rest;
+  rest = u.rest ∙ ap (λ (w : CacheState). record w { stamps = d.stamps }) h.rest;
   long = u.long ∙ h.long;
 }
   where
-    left : (k : ℕ) → (ReachesCell a k x → ⊥) → unmarked (stamp_of c k) ≡ stamp_of old k
-    left k far = elim (cases_Bool (is_marked c k)) [
+    left : (k : ℕ) → (ReachesCell a k x → ⊥) → stamp_unmarked (stamp_of c k) ≡ stamp_of old k
+    left k far = elim (cases_Bool (is_marked_cell c k)) [
       | inl set ↦ absurd (far (h.only k set))
       | inr none ↦ unmarked_other (stamp_of c k) none ∙ h.other k none
     ]
@@ -150,7 +150,7 @@ cleared_is a x old i c d sound order end h u = record {
           let there = (sound.order.all k).1 low in
           let place : at a there.0 ≡ k = at_place a.order k there in
           let set = h.there there.0 (let inside = there.1 in omega (arith, inside, end)) there.1 (subst (λ m. ReachesCell a m x) (sym place) reach) in
-          u.each k ∙ unmarked_mark (stamp_of c k) (subst (λ m. is_marked c m ≡ true) place set)
+          u.each k ∙ unmarked_mark (stamp_of c k) (subst (λ m. is_marked_cell c m ≡ true) place set)
       | inr past ↦
           let long = h.long in
           let more = u.long in
@@ -164,8 +164,8 @@ cleared_is a x old i c d sound order end h u = record {
         within_or (suc j) (suc n) = elim (within_or j n) [ inl l ↦ inl (omega (arith, l)) | inr l ↦ inr (omega (arith, l)) ]
 
 -- ---- what that does to what is kept
-module _ (a : App) (x : ℕ) (c : Kept) (ds : List (Option Stamp)) (gone : (k : ℕ) → ReachesCell a k x → slice_index_or ds k None ≡ None) (left : (k : ℕ) → (ReachesCell a k x → ⊥) → slice_index_or ds k None ≡ stamp_of c k) (long : length ds ≡ length c.stamps) where
-  abbrev now : Kept
+module _ (a : App) (x : ℕ) (c : CacheState) (ds : List (Option Stamp)) (gone : (k : ℕ) → ReachesCell a k x → slice_index_or ds k None ≡ None) (left : (k : ℕ) → (ReachesCell a k x → ⊥) → slice_index_or ds k None ≡ stamp_of c k) (long : length ds ≡ length c.stamps) where
+  abbrev now : CacheState
   now = record c { stamps = ds }
 
   -- a stamp that is left was there, and its cell doesn't reach the one
@@ -198,17 +198,17 @@ module _ (a : App) (x : ℕ) (c : Kept) (ds : List (Option Stamp)) (gone : (k : 
   }
 
 -- numbers were made, and then the stamps went
-pub touched_cell : (a : App) (x : ℕ) (old mid new : Kept) → IsInOrder a old → HasNumbers a old mid → AreCleared a x mid new → IsCellTouched a x old new
+pub touched_cell : (a : App) (x : ℕ) (old mid new : CacheState) → IsInOrder a old → HasNumbers a old mid → AreCleared a x mid new → IsCellTouched a x old new
 touched_cell a x old mid new o h f = record {
   order = subst (IsInOrder a) (sym f.rest) (left_order a x mid new.stamps f.gone f.left f.long (h.order o));
   right = λ s tables m pending r. subst (IsRight (present a s tables m) pending) (sym f.rest) (left_right a x mid new.stamps f.gone f.left f.long s tables m pending (h.right s tables m pending r));
   gone = f.gone;
-  left = λ room k far. f.left k far ∙ ap (λ (c : Kept). stamp_of c k) (h.same room);
-  kept = λ room. (ap (λ (c : Kept). c.versions) (f.rest ∙ back room), ap (λ (c : Kept). c.last) (f.rest ∙ back room), ap (λ (c : Kept). c.emptied) (f.rest ∙ back room));
-  counted = λ short. subst (IsCounted old.emptied) (sym (ap (λ (c : Kept). c.emptied) f.rest)) (h.counted short);
-  values = ap (λ (c : Kept). c.values) f.rest ∙ h.values;
-  places = ap (λ (c : Kept). length c.versions) f.rest ∙ h.places;
+  left = λ room k far. f.left k far ∙ ap (λ (c : CacheState). stamp_of c k) (h.same room);
+  kept = λ room. (ap (λ (c : CacheState). c.versions) (f.rest ∙ back room), ap (λ (c : CacheState). c.last) (f.rest ∙ back room), ap (λ (c : CacheState). c.emptied) (f.rest ∙ back room));
+  counted = λ short. subst (IsOneMore old.emptied) (sym (ap (λ (c : CacheState). c.emptied) f.rest)) (h.counted short);
+  values = ap (λ (c : CacheState). c.values) f.rest ∙ h.values;
+  places = ap (λ (c : CacheState). length c.versions) f.rest ∙ h.places;
 }
   where
-    back : HasRoom old.last → record mid { stamps = new.stamps } ≡ record old { stamps = new.stamps }
-    back room = ap (λ (c : Kept). record c { stamps = new.stamps }) (h.same room)
+    back : HasNumbersLeft old.last → record mid { stamps = new.stamps } ≡ record old { stamps = new.stamps }
+    back room = ap (λ (c : CacheState). record c { stamps = new.stamps }) (h.same room)

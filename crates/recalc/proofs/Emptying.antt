@@ -11,7 +11,7 @@ use Rattle.fx_core.specs.declared.sources.Source.{Source}
 use Rattle.fx_value.specs.Fits.{fits_in}
 use Rattle.recalc.specs.Reading.{cell_value}
 use Rattle.recalc.specs.app_cells.declared.app.App.{App}
-use Rattle.recalc.specs.Kept.{IsInOrder, IsSourceOf, Kept, place_of, stamp_of, value_of}
+use Rattle.recalc.specs.Kept.{IsInOrder, IsSourceOf, CacheState, source_index, stamp_of, cached_value}
 use Rattle.recalc.specs.Outcomes.{IsEmpty}
 use Rattle.recalc.specs.declared.stamps.Stamp.{Stamp}
 
@@ -44,7 +44,7 @@ blank_at zero k = refl
 blank_at (suc n) zero = refl
 blank_at (suc n) (suc k) = blank_at n k
 
-pub new_empty : (places cells : ℕ) (c : Kept) → c.emptied ≡ 0 → c.last ≡ 0 → c.versions ≡ replicate places 0 → c.stamps ≡ replicate cells None → IsEmpty c
+pub new_empty : (places cells : ℕ) (c : CacheState) → c.emptied ≡ 0 → c.last ≡ 0 → c.versions ≡ replicate places 0 → c.stamps ≡ replicate cells None → IsEmpty c
 new_empty places cells c emptied last versions stamps = record {
   emptied = emptied;
   last = last;
@@ -52,16 +52,16 @@ new_empty places cells c emptied last versions stamps = record {
   stamps = λ k. ap (λ (xs : List (Option Stamp)). get_or xs k None) stamps ∙ replicate_at cells k None;
 }
 
-pub new_order : (a : App) (places : ℕ) (c : Kept) → length a.cells ≤ 2000 → ((s : Source) → IsSourceOf a.names s → place_of s < places) → c.emptied ≡ 0 → c.last ≡ 0 → c.versions ≡ replicate places 0 → c.stamps ≡ replicate (length a.cells) None →
+pub new_order : (a : App) (places : ℕ) (c : CacheState) → length a.cells ≤ 2000 → ((s : Source) → IsSourceOf a.names s → source_index s < places) → c.emptied ≡ 0 → c.last ≡ 0 → c.versions ≡ replicate places 0 → c.stamps ≡ replicate (length a.cells) None →
     c.values.cells ≡ replicate (length a.cells) blank → IsInOrder a c
 new_order a places c few hold emptied last versions stamps values =
     let empty : IsEmpty c = new_empty places (length a.cells) c emptied last versions stamps in
-    let is_blank : (k : ℕ) → value_of c k ≡ blank = λ k. ap (λ (ds : List Data). cell_value ds k) values ∙ blank_at (length a.cells) k in
+    let is_blank : (k : ℕ) → cached_value c k ≡ blank = λ k. ap (λ (ds : List Data). cell_value ds k) values ∙ blank_at (length a.cells) k in
     record {
       few = few;
       stamps = ap length stamps ∙ length-replicate (length a.cells) None;
       values = ap length values ∙ length-replicate (length a.cells) blank;
-      places = λ s there. subst (λ n. place_of s < n) (sym (ap length versions ∙ length-replicate places 0)) (hold s there);
+      places = λ s there. subst (λ n. source_index s < n) (sym (ap length versions ∙ length-replicate places 0)) (hold s there);
       fits = λ k i there. subst (λ d. fits_in d (shape i.ty) ≡ true) (sym (is_blank k)) refl;
       bare = λ k aside. is_blank k;
       alone = λ k e at. absurd (no_stamp (stamp_of c k) e (empty.stamps k) at);

@@ -2,16 +2,16 @@
 use Rattle.std.proofs.Common.{◌≡◌, ℕ, Bool, List, Option, None, Some, refl, sym, ap, ◌∙◌, subst}
 use Rattle.std.specs.Prelude.{◌≤◌, option_map}
 use Rattle.app_semantics.specs.Telling.{told_on}
-use Rattle.fx_base.specs.Silence.{Goes, IsLater, IsLost, Marks}
+use Rattle.fx_base.specs.Silence.{MayFallSilent, IsLater, SilenceCause, Marks}
 use Rattle.fx_base.specs.Telling.{Stays}
 use Rattle.fx_types.specs.Values.{Data}
 use Rattle.fx_env.specs.Scopes.{Fixed}
-use Rattle.fx_env.specs.Telling.{Told, values_told}
+use Rattle.fx_env.specs.Telling.{EnvState, values_told}
 use Rattle.fx_core.specs.declared.names.Names.{Names}
 use Rattle.fx_core.specs.declared.schema.Schema.{Schema}
 use Rattle.fx_core.specs.declared.sources.Source.{Source}
 use Rattle.recalc.specs.Asking.{HasRead, keeping}
-use Rattle.recalc.specs.Reading.{Kept, cell_value, fixed_over, loans_of, told_by, told_over}
+use Rattle.recalc.specs.Reading.{KeeperState, cell_value, fixed_over, loans_of, told_by, told_over}
 use Rattle.row_keeper.specs.Tables.{Tables, rows_told}
 use Rattle.row_queries.specs.declared.rows.Row.{Row}
 use Rattle.session_state.specs.Sessions.{SessionState}
@@ -19,7 +19,7 @@ use Rattle.recalc.proofs.Asked.{stays}
 
 -- what an environment of a keeper tells, by the keeper's tables
 abbrev Tells : Type 0
-Tells = Tables → Told Kept
+Tells = Tables → EnvState KeeperState
 
 -- with all that the keeper tells
 abbrev IsWhole : Tells → Type 0
@@ -33,32 +33,32 @@ pub whole : (day : Data) (n : Names) (s : SessionState) (values : List Data) (b 
 whole day n s values b = λ t. refl
 
 -- so what the keeper tells goes as what its environment tells
-pub stays_told : (lost : Type 0) (f g : Tells) → IsWhole f → IsWhole g → (x y : Option Tables) → Goes lost Stays (option_map f x) (option_map g y) → Goes lost Stays x y
+pub stays_told : (lost : Type 0) (f g : Tells) → IsWhole f → IsWhole g → (x y : Option Tables) → MayFallSilent lost Stays (option_map f x) (option_map g y) → MayFallSilent lost Stays x y
 stays_told lost f g p q None None h = refl
 stays_told lost f g p q None (Some b) h = absurd cc
 stays_told lost f g p q (Some a) None h = h
-stays_told lost f g p q (Some a) (Some b) h = sym (q b) ∙ ap (λ (t : Told Kept). t.beside.0) h ∙ p a
+stays_told lost f g p q (Some a) (Some b) h = sym (q b) ∙ ap (λ (t : EnvState KeeperState). t.beside.0) h ∙ p a
 
-pub falls : (lost : Type 0) (b d : Option Tables) → d ≡ None → lost → Goes lost Stays b d
+pub falls : (lost : Type 0) (b d : Option Tables) → d ≡ None → lost → MayFallSilent lost Stays b d
 falls lost None d e h = e
-falls lost (Some p) d e h = subst (λ (z : Option Tables). Goes lost Stays (Some p) z) (sym e) h
+falls lost (Some p) d e h = subst (λ (z : Option Tables). MayFallSilent lost Stays (Some p) z) (sym e) h
 
 began_stays : (lost : Type 0) (f g : Tells) (b d : Option Tables) → IsBegun f b → IsBegun g d → (x y : Option Tables) → (x ≡ None → b ≡ None) → (y ≡ None → d ≡ None) →
-    Goes lost Stays (option_map f x) (option_map g y) → Goes lost Stays b d
-began_stays lost f g b d p q None None before after h = subst (λ (z : Option Tables). Goes lost Stays z d) (sym (before refl)) (after refl)
+    MayFallSilent lost Stays (option_map f x) (option_map g y) → MayFallSilent lost Stays b d
+began_stays lost f g b d p q None None before after h = subst (λ (z : Option Tables). MayFallSilent lost Stays z d) (sym (before refl)) (after refl)
 began_stays lost f g b d p q None (Some c) before after h = absurd cc
 began_stays lost f g b d p q (Some a) None before after h = falls lost b d (after refl) h
 began_stays lost f g b d p q (Some a) (Some c) before after h =
-    subst (λ (z : Option Tables). Goes lost Stays b z) (sym (sym (q c) ∙ ap (λ (t : Told Kept). t.beside.1) h ∙ p a)) (stays lost b)
+    subst (λ (z : Option Tables). MayFallSilent lost Stays b z) (sym (sym (q c) ∙ ap (λ (t : EnvState KeeperState). t.beside.1) h ∙ p a)) (stays lost b)
 
 -- and the values are those of before
-pub same_values : (lost : Type 0) (f g : Tells) → IsWhole f → IsWhole g → (x y : Option Tables) → Goes lost Stays (option_map f x) (option_map g y) →
+pub same_values : (lost : Type 0) (f g : Tells) → IsWhole f → IsWhole g → (x y : Option Tables) → MayFallSilent lost Stays (option_map f x) (option_map g y) →
     values_told (option_map g y) ≡ values_told (option_map f y)
 same_values lost f g p q x None h = refl
 same_values lost f g p q None (Some b) h = absurd cc
 same_values lost f g p q (Some a) (Some b) h =
-    let same : b ≡ a = sym (q b) ∙ ap (λ (t : Told Kept). t.beside.0) h ∙ p a in
-    ap (λ (t : Told Kept). Some t.values) h ∙ ap (λ (t : Tables). Some (f t).values) (sym same)
+    let same : b ≡ a = sym (q b) ∙ ap (λ (t : EnvState KeeperState). t.beside.0) h ∙ p a in
+    ap (λ (t : EnvState KeeperState). Some t.values) h ∙ ap (λ (t : Tables). Some (f t).values) (sym same)
 
 -- over the rows of tables
 pub values_over : (day : Data) (n : Names) (s : SessionState) (values : List Data) (b y : Option Tables) →
@@ -74,11 +74,11 @@ same_loan a b x y e = cc
 pub has_read : (n m : Names) (reads rs : List Source) (day d : Data) (s u : SessionState) (values vs : List Data) (limit l : ℕ) (name new : ℕ) (x y b then : Option Tables) (shaped was : Option Schema) (mode other : Bool)
     (before now : Marks) (met seen : ℕ) (loan lent : Option ℕ) → shaped ≡ Some n.schema → was ≡ Some m.schema →
     fixed_over m rs (told_by d m u vs) l (loans_of new lent) other ≡ fixed_over n reads (told_by day n s values) limit (loans_of name loan) mode →
-    Goes (IsLost before now) Stays (option_map (told_over day n s values b) x) (option_map (told_over d m u vs then) y) → IsLater before now → met ≤ seen → (x ≡ None → b ≡ None) → (y ≡ None → then ≡ None) →
+    MayFallSilent (SilenceCause before now) Stays (option_map (told_over day n s values b) x) (option_map (told_over d m u vs then) y) → IsLater before now → met ≤ seen → (x ≡ None → b ≡ None) → (y ≡ None → then ≡ None) →
     HasRead (keeping x b shaped mode before met loan) (keeping y then was other now seen lent)
 has_read n m reads rs day d s u values vs limit l name new x y b then shaped was mode other before now met seen loan lent h k fixed told later more before_is after_is = record {
-  told = stays_told (IsLost before now) (told_over day n s values b) (told_over d m u vs then) (whole day n s values b) (whole d m u vs then) x y told;
-  began = began_stays (IsLost before now) (told_over day n s values b) (told_over d m u vs then) b then (λ t. refl) (λ t. refl) x y before_is after_is told;
+  told = stays_told (SilenceCause before now) (told_over day n s values b) (told_over d m u vs then) (whole day n s values b) (whole d m u vs then) x y told;
+  began = began_stays (SilenceCause before now) (told_over day n s values b) (told_over d m u vs then) b then (λ t. refl) (λ t. refl) x y before_is after_is told;
   shaped = k ∙ ap (λ (f : Fixed). Some f.schema) fixed ∙ sym h;
   mode = ap (λ (f : Fixed). f.in_transaction) fixed;
   later = later;

@@ -15,7 +15,7 @@ use Rattle.recalc.specs.app_cells.declared.app.CellInfo.{CellInfo}
 use Rattle.recalc.specs.app_semantics.Fresh.{IsCellValue}
 use Rattle.recalc.specs.app_semantics.Needed.{Needs, further, is_alone, itself}
 use Rattle.recalc.specs.app_semantics.Present.{present}
-use Rattle.recalc.specs.app_semantics.Sound.{IsSound}
+use Rattle.recalc.specs.app_semantics.Sound.{IsSoundApp}
 use Rattle.session_state.specs.Carrying.{carried, collection_was}
 use Rattle.session_state.specs.Sessions.{SessionState}
 use Rattle.recalc.proofs.Freshening.{clean_unmoved}
@@ -23,11 +23,11 @@ use Rattle.recalc.proofs.OldCells.{value_old_cell}
 use Rattle.recalc.proofs.Places.{alone_of, some_stamp}
 use Rattle.recalc.specs.Carrying.{AreHad, IsEditOf, IsOldBehind, IsOldCell, IsOldOne, IsOldSource, IsUntouched, cell_was}
 use Rattle.recalc.specs.Filling.{IsFrom, IsIdle}
-use Rattle.recalc.specs.Kept.{IsClean, IsInOrder, IsRight, IsSourceOf, Kept, place_of, stamp_of, value_of, version_of}
+use Rattle.recalc.specs.Kept.{IsClean, IsInOrder, IsRight, IsSourceOf, CacheState, source_index, stamp_of, cached_value, version_of}
 use Rattle.recalc.specs.declared.stamps.Stamp.{Stamp}
 
 -- FILLED: kept are the cells that were clean and that the edit left, where all are kept on which they lean
-pub record IsFilled (old new : App) (before after : Kept) : Type 0 where
+pub record IsFilled (old new : App) (before after : CacheState) : Type 0 where
   pub kept : (k : ℕ) (e : Stamp) → stamp_of after k ≡ Some e → IsFrom old new before after k e
   pub had : (k : ℕ) (e : Stamp) → stamp_of after k ≡ Some e → AreHad new after k
   pub unkept : (k : ℕ) → stamp_of after k ≡ None → IsIdle new after k
@@ -38,7 +38,7 @@ pub record IsFilled (old new : App) (before after : Kept) : Type 0 where
   pub few : length new.cells ≤ 2000
   pub stamps : length after.stamps ≡ length new.cells
   pub values : length after.values.cells ≡ length new.cells
-  pub places : (s : Source) → IsSourceOf new.names s → place_of s < length after.versions
+  pub places : (s : Source) → IsSourceOf new.names s → source_index s < length after.versions
 
 some_of : (o : Option Stamp) → IsSome o → (e : Stamp) × (o ≡ Some e)
 some_of (Some e) h = (e, refl)
@@ -77,30 +77,30 @@ needs_then : (a : App) (k d e : ℕ) → Needs a k d → Needs a d e → Needs a
 needs_then a k d e n (itself x) = n
 needs_then a k d e n (further x y z c m there alone leans) = further k y e c (needs_then a k d y n m) there alone leans
 
-module _ (old new : App) (before after : Kept) (f : IsFilled old new before after) where
+module _ (old new : App) (before after : CacheState) (f : IsFilled old new before after) where
   current : (k n : ℕ) (s : Source) → version_of after s ≤ n
-  current k n s = let zero = f.zero (place_of s) in omega (arith, zero)
+  current k n s = let zero = f.zero (source_index s) in omega (arith, zero)
 
   pub filled_clean_of : (k : ℕ) → IsSome (stamp_of after k) → IsClean new after k
   filled_clean_of k h = let e = some_of (stamp_of after k) h in (e.0, e.1, λ s plain z. current k (e.0).checked s)
 
-  bare_of : (k : ℕ) → is_alone new.cells k ≡ false → value_of after k ≡ blank
+  bare_of : (k : ℕ) → is_alone new.cells k ≡ false → cached_value after k ≡ blank
   bare_of k aside = by (stamp_of after k) refl
     where
-      by : (o : Option Stamp) → stamp_of after k ≡ o → value_of after k ≡ blank
+      by : (o : Option Stamp) → stamp_of after k ≡ o → cached_value after k ≡ blank
       by None at = (f.unkept k at).bare aside
       by (Some e) at = let from = f.kept k e at in absurd (not_both (is_alone new.cells k) (alone_of new.cells k from.cell.after from.cell.here from.cell.left.still) aside)
 
-  fits_of : IsInOrder old before → (k : ℕ) (i : CellInfo) → slice_get new.cells k ≡ Some i → fits_in (value_of after k) (shape i.ty) ≡ true
+  fits_of : IsInOrder old before → (k : ℕ) (i : CellInfo) → slice_get new.cells k ≡ Some i → fits_in (cached_value after k) (shape i.ty) ≡ true
   fits_of o k i there = by (stamp_of after k) refl
     where
-      by : (x : Option Stamp) → stamp_of after k ≡ x → fits_in (value_of after k) (shape i.ty) ≡ true
+      by : (x : Option Stamp) → stamp_of after k ≡ x → fits_in (cached_value after k) (shape i.ty) ≡ true
       by None at = (f.unkept k at).fits i there
       by (Some e) at =
           let from = f.kept k e at in
           let same : from.cell.after ≡ i = one_info (slice_get new.cells k) from.cell.after i from.cell.here there in
-          subst (λ (c : CellInfo). fits_in (value_of after k) (shape c.ty) ≡ true) same
-          (subst (λ t. fits_in (value_of after k) t ≡ true) (sym from.cell.ty) (subst (λ d. fits_in d (shape from.cell.before.ty) ≡ true) (sym from.value) (o.fits from.was from.cell.before from.cell.there)))
+          subst (λ (c : CellInfo). fits_in (cached_value after k) (shape c.ty) ≡ true) same
+          (subst (λ t. fits_in (cached_value after k) t ≡ true) (sym from.cell.ty) (subst (λ d. fits_in d (shape from.cell.before.ty) ≡ true) (sym from.value) (o.fits from.was from.cell.before from.cell.there)))
 
   low_moved : IsInOrder old before → (k : ℕ) (e : Stamp) → stamp_of after k ≡ Some e → e.moved ≤ after.last
   low_moved o k e at = let from = f.kept k e at in let low = o.low.moved from.was from.stamp from.there in let moved = from.moved in let last = f.last in omega (arith, low, moved, last)
@@ -141,7 +141,7 @@ module _ (old new : App) (before after : Kept) (f : IsFilled old new before afte
       )
 
   -- what is left is kept, by the order of the edited app
-  left_kept : IsSound new → IsInOrder old before → (k : ℕ) → k < length new.cells → (j : ℕ) → IsOldCell old new j k → IsUntouched old new k → IsClean old before j → IsSome (stamp_of after k)
+  left_kept : IsSoundApp new → IsInOrder old before → (k : ℕ) → k < length new.cells → (j : ℕ) → IsOldCell old new j k → IsUntouched old new k → IsClean old before j → IsSome (stamp_of after k)
   left_kept sound o = by_order (length new.cells) (edges_of new.names new.cells) new.order sound.order
       (λ k. (j : ℕ) → IsOldCell old new j k → IsUntouched old new k → IsClean old before j → IsSome (stamp_of after k))
       (λ k lt step j cell untouched clean. f.whole j k cell clean (λ d leans.
@@ -155,28 +155,28 @@ module _ (old new : App) (before after : Kept) (f : IsFilled old new before afte
       let below = o.leans j back.0 clean.0 clean.1 clean.2 (cell.before, cell.there, (was.0, was.1, back.1), sym back.2.1 ∙ leans.3) in
       step d (leaning_edge new.names new.cells k cell.after d cell.here on) left.0 left.1 (λ e more. untouched e (needs_then new k d e need more)) (subst (IsClean old before) same below.0)))
 
-  pub filled_to : IsSound new → IsInOrder old before → (k : ℕ) → (j : ℕ) × IsOldCell old new j k × IsUntouched old new k × IsClean old before j → IsClean new after k
+  pub filled_to : IsSoundApp new → IsInOrder old before → (k : ℕ) → (j : ℕ) × IsOldCell old new j k × IsUntouched old new k × IsClean old before j → IsClean new after k
   filled_to sound o k h = filled_clean_of k (left_kept sound o k (slice_get_within new.cells k (h.1).after (h.1).here) h.0 h.1 h.2 h.3)
 
-  pub filled_right : IsSound old → IsSound new → IsEditOf old new → (s : SessionState) → ((j k : ℕ) → collection_was old.names new.names k ≡ Some j → j < length s.collections) → (tables : ToldRows) (m : ℕ) →
+  pub filled_right : IsSoundApp old → IsSoundApp new → IsEditOf old new → (s : SessionState) → ((j k : ℕ) → collection_was old.names new.names k ≡ Some j → j < length s.collections) → (tables : ToldRows) (m : ℕ) →
       IsRight (present old s tables m) [] before → IsRight (present new (carried old.names new.names s) tables m) [] after
   filled_right was sound edit s long tables m r = record {
     order = filled_order r.order;
     valid = λ k e i at there none unmoved.
         let from = f.kept k e at in
         let same : from.cell.after ≡ i = one_info (slice_get new.cells k) from.cell.after i from.cell.here there in
-        let had : IsCellValue (present old s tables m) (value_of before) from.cell.before (value_of before from.was) =
+        let had : IsCellValue (present old s tables m) (cached_value before) from.cell.before (cached_value before from.was) =
         r.valid from.was (from.clean).0 from.cell.before (from.clean).1 from.cell.there (λ x l n. absurd l) (clean_unmoved old before r.order from.was from.cell.before from.cell.there from.clean) in
-        subst (λ (c : CellInfo). IsCellValue (present new (carried old.names new.names s) tables m) (value_of after) c (value_of after k)) same
-        (subst (IsCellValue (present new (carried old.names new.names s) tables m) (value_of after) from.cell.after) (sym from.value)
-        (value_old_cell old new was sound edit s long tables m (value_of before) (value_of after) from.was k from.cell (value_of before from.was)
+        subst (λ (c : CellInfo). IsCellValue (present new (carried old.names new.names s) tables m) (cached_value after) c (cached_value after k)) same
+        (subst (IsCellValue (present new (carried old.names new.names s) tables m) (cached_value after) from.cell.after) (sym from.value)
+        (value_old_cell old new was sound edit s long tables m (cached_value before) (cached_value after) from.was k from.cell (cached_value before from.was)
         (λ d c leans one. by k e at from.cell.after from.cell.here d c leans one (is_alone new.cells d) refl) had));
   }
     where
-      by : (k : ℕ) (e : Stamp) → stamp_of after k ≡ Some e → (i : CellInfo) → slice_get new.cells k ≡ Some i → (d c : ℕ) → LeansOn new.names i d → IsOldOne old new d c → (b : Bool) → is_alone new.cells d ≡ b → value_of after d ≡ value_of before c
+      by : (k : ℕ) (e : Stamp) → stamp_of after k ≡ Some e → (i : CellInfo) → slice_get new.cells k ≡ Some i → (d c : ℕ) → LeansOn new.names i d → IsOldOne old new d c → (b : Bool) → is_alone new.cells d ≡ b → cached_value after d ≡ cached_value before c
       by k e at i here d c leans one true alone =
           let g = some_of (stamp_of after d) (f.had k e at d (i, here, leans, alone)) in
           let back = f.kept d g.0 g.1 in
           let same : back.was ≡ c = one_place (cell_was old new d) back.was c back.cell.was one.0 in
-          back.value ∙ ap (value_of before) same
+          back.value ∙ ap (cached_value before) same
       by k e at i here d c leans one false aside = bare_of d aside ∙ sym (r.order.bare c (sym one.1 ∙ aside))

@@ -13,7 +13,7 @@ use Rattle.fx_value.specs.Fits.{fits_in}
 use Rattle.recalc.specs.app_cells.declared.app.App.{App}
 use Rattle.recalc.specs.app_cells.declared.app.CellInfo.{CellInfo}
 use Rattle.recalc.specs.app_semantics.Holding.{HoldsFitting}
-use Rattle.recalc.specs.app_semantics.Sound.{IsSound}
+use Rattle.recalc.specs.app_semantics.Sound.{IsSoundApp}
 use Rattle.recalc.proofs.Filled.{IsFilled, filled_from, filled_order, filled_right, filled_to}
 use Rattle.recalc.specs.Filling.{IsFilling, IsFrom, IsIdle}
 use Rattle.recalc.proofs.Marking.{at, leans_earlier, once}
@@ -22,7 +22,7 @@ use Rattle.session_state.specs.Carrying.{collection_was, place_of_collection}
 use Rattle.session_state.specs.Sessions.{SessionState}
 use Rattle.recalc.specs.Outcomes.{IsRestarted, let_out}
 use Rattle.recalc.specs.Carrying.{AreHad, IsCarried, IsCarriedAt, IsEditOf, IsOldCell, cell_was, place_of_cell, received, taken_from}
-use Rattle.recalc.specs.Kept.{IsClean, IsInOrder, IsRoomFor, Kept, Leans, place_of, stamp_of, value_of}
+use Rattle.recalc.specs.Kept.{IsClean, IsInOrder, IsRoomFor, CacheState, Leans, source_index, stamp_of, cached_value}
 use Rattle.recalc.specs.declared.stamps.Stamp.{Stamp}
 
 -- no two cells of the edited app were one
@@ -30,7 +30,7 @@ abbrev pub AreApart : App → App → Type 0
 AreApart old new = (j k i : ℕ) → cell_was old new j ≡ Some i → cell_was old new k ≡ Some i → j ≡ k
 
 -- the value of a cell that isn't wanted any more
-taken_order : (a : App) (c : Kept) (j : ℕ) → IsInOrder a c → IsInOrder a (taken_from c j)
+taken_order : (a : App) (c : CacheState) (j : ℕ) → IsInOrder a c → IsInOrder a (taken_from c j)
 taken_order a c j o = record {
   few = o.few;
   stamps = o.stamps;
@@ -54,14 +54,14 @@ taken_order a c j o = record {
     set_blank (x ∷ xs) zero = refl
     set_blank (x ∷ xs) (suc k) = set_blank xs k
 
-    blank_at : (k : ℕ) → k ≡ j → value_of (taken_from c j) k ≡ blank
-    blank_at k e = subst (λ n. value_of (taken_from c j) n ≡ blank) (sym e) (set_blank c.values.cells j)
+    blank_at : (k : ℕ) → k ≡ j → cached_value (taken_from c j) k ≡ blank
+    blank_at k e = subst (λ n. cached_value (taken_from c j) n ≡ blank) (sym e) (set_blank c.values.cells j)
 
 some_is : (o : Option Stamp) (e : Stamp) → o ≡ Some e → IsSome o
 some_is o e h = subst IsSome (sym h) refl
 
 -- all cells of the order were seen
-pub filling_end : (old new : App) (before from after : Kept) (i : ℕ) → IsSound new → length new.order ≤ i → IsFilling old new before from i after → IsFilled old new before after
+pub filling_end : (old new : App) (before from after : CacheState) (i : ℕ) → IsSoundApp new → length new.order ≤ i → IsFilling old new before from i after → IsFilled old new before after
 filling_end old new before from after i sound end f = record {
   kept = f.kept;
   had = f.had;
@@ -87,7 +87,7 @@ filling_end old new before from after i sound end f = record {
     get_or_default_at (x ∷ xs) (suc i) d h = get_or_default_at xs i d (omega (arith, h))
 
 -- a cell that no cell was, or that wasn't carried, is passed
-pub filling_passed : (old new : App) (before from after : Kept) (i : ℕ) → i < length new.order → ((j : ℕ) → IsOldCell old new j (at new i) → IsClean old before j → AreHad new after (at new i) → ⊥) → IsFilling old new before from i after →
+pub filling_passed : (old new : App) (before from after : CacheState) (i : ℕ) → i < length new.order → ((j : ℕ) → IsOldCell old new j (at new i) → IsClean old before j → AreHad new after (at new i) → ⊥) → IsFilling old new before from i after →
     IsFilling old new before from (i + 1) after
 filling_passed old new before from after i within none f = record {
   kept = f.kept;
@@ -111,12 +111,12 @@ filling_passed old new before from after i within none f = record {
   order = f.order;
 }
 
-module _ (old new : App) (before from after : Kept) (i j : ℕ) (e : Stamp) (sound : IsSound new) (apart : AreApart old new) (within : i < length new.order) (f : IsFilling old new before from i after) (cell : IsOldCell old new j (at new i)) (stamp : stamp_of from j ≡ Some e) (clean : IsClean old from j) (all : AreHad new after (at new i)) where
+module _ (old new : App) (before from after : CacheState) (i j : ℕ) (e : Stamp) (sound : IsSoundApp new) (apart : AreApart old new) (within : i < length new.order) (f : IsFilling old new before from i after) (cell : IsOldCell old new j (at new i)) (stamp : stamp_of from j ≡ Some e) (clean : IsClean old from j) (all : AreHad new after (at new i)) where
   abbrev n : ℕ
   n = at new i
 
-  abbrev now : Kept
-  now = received after n (value_of from j) e.moved
+  abbrev now : CacheState
+  now = received after n (cached_value from j) e.moved
 
   abbrev mark : Stamp
   mark = record { checked = after.last; moved = e.moved }
@@ -130,11 +130,11 @@ module _ (old new : App) (before from after : Kept) (i j : ℕ) (e : Stamp) (sou
   stamp_there : (k : ℕ) → k ≢ n → stamp_of now k ≡ stamp_of after k
   stamp_there k other = get_or-set_other after.stamps n k (Some mark) None other
 
-  value_here : value_of now n ≡ value_of from j
-  value_here = get_or-set_same after.values.cells n (value_of from j) blank (let l = inside_n in let s = f.values in omega (arith, l, s))
+  value_here : cached_value now n ≡ cached_value from j
+  value_here = get_or-set_same after.values.cells n (cached_value from j) blank (let l = inside_n in let s = f.values in omega (arith, l, s))
 
-  value_there : (k : ℕ) → k ≢ n → value_of now k ≡ value_of after k
-  value_there k other = get_or-set_other after.values.cells n k (value_of from j) blank other
+  value_there : (k : ℕ) → k ≢ n → cached_value now k ≡ cached_value after k
+  value_there k other = get_or-set_other after.values.cells n k (cached_value from j) blank other
 
   more : (k : ℕ) → IsSome (stamp_of after k) → IsSome (stamp_of now k)
   more k h = elim (cases_eq k n) [
@@ -157,7 +157,7 @@ module _ (old new : App) (before from after : Kept) (i j : ℕ) (e : Stamp) (sou
           le_or (suc a) (suc b) = elim (le_or a b) [ inl l ↦ inl (omega (arith, l)) | inr l ↦ inr (omega (arith, l)) ]
 
   clean_before : IsClean old before j
-  clean_before = (clean.0, ap (λ (xs : List (Option Stamp)). get_or xs j None) (sym f.same.0) ∙ clean.1, λ s plain z. subst (λ (vs : List ℕ). slice_index vs (place_of s) ≤ (clean.0).checked) f.same.1 (clean.2 s plain z))
+  clean_before = (clean.0, ap (λ (xs : List (Option Stamp)). get_or xs j None) (sym f.same.0) ∙ clean.1, λ s plain z. subst (λ (vs : List ℕ). slice_index vs (source_index s) ≤ (clean.0).checked) f.same.1 (clean.2 s plain z))
 
   from_here : (g : Stamp) → stamp_of now n ≡ Some g → IsFrom old new before now n g
   from_here g h =
@@ -209,7 +209,7 @@ module _ (old new : App) (before from after : Kept) (i j : ℕ) (e : Stamp) (sou
     zero = f.zero;
     few = f.few;
     stamps = length-set after.stamps n (Some mark) ∙ f.stamps;
-    values = length-set after.values.cells n (value_of from j) ∙ f.values;
+    values = length-set after.values.cells n (cached_value from j) ∙ f.values;
     places = f.places;
     same = f.same;
     left = λ p c low inside was.
@@ -219,7 +219,7 @@ module _ (old new : App) (before from after : Kept) (i j : ℕ) (e : Stamp) (sou
   }
 
 -- in the room nothing is kept yet
-pub filling_start : (old new : App) (before after : Kept) → IsInOrder old before → IsRoomFor new before.room → IsRestarted (length new.cells) before after → IsFilling old new before (let_out before) 0 after
+pub filling_start : (old new : App) (before after : CacheState) → IsInOrder old before → IsRoomFor new before.room → IsRestarted (length new.cells) before after → IsFilling old new before (let_out before) 0 after
 filling_start old new before after o room h = record {
   kept = λ k e is. (let no : None ≡ Some e = sym (h.stamps k) ∙ is in absurd cc);
   had = λ k e is. (let no : None ≡ Some e = sym (h.stamps k) ∙ is in absurd cc);
@@ -233,13 +233,13 @@ filling_start old new before after o room h = record {
   few = room.few;
   stamps = h.cells;
   values = h.valued;
-  places = λ s there. subst (λ n. place_of s < n) (sym h.places) (room.places s there);
+  places = λ s there. subst (λ n. source_index s < n) (sym h.places) (room.places s there);
   same = (refl, refl);
   left = λ p j low inside was. refl;
   order = out_order old before o;
 }
   where
-    out_order : (a : App) (c : Kept) → IsInOrder a c → IsInOrder a (let_out c)
+    out_order : (a : App) (c : CacheState) → IsInOrder a c → IsInOrder a (let_out c)
     out_order a c o = record {
       few = o.few;
       stamps = o.stamps;
@@ -256,22 +256,22 @@ pub cells_apart : (old new : App) → AreApart old new
 cells_apart old new = apart (λ (c : CellInfo). c.ty) (place_of_cell old) (place_of_cell new) old.cells new.cells
 
 -- one cell more, whether it was carried or not
-pub filling_on : (old new : App) (before from left after now : Kept) (i j : ℕ) → IsSound new → i < length new.order → IsOldCell old new j (at new i) → IsCarriedAt old new j (at new i) from left after now → IsFilling old new before from i after → IsFilling old new before left (i + 1) now
+pub filling_on : (old new : App) (before from left after now : CacheState) (i j : ℕ) → IsSoundApp new → i < length new.order → IsOldCell old new j (at new i) → IsCarriedAt old new j (at new i) from left after now → IsFilling old new before from i after → IsFilling old new before left (i + 1) now
 filling_on old new before from left after now i j sound within cell (inl h) f =
-    subst (λ (c : Kept). IsFilling old new before c (i + 1) now) (sym h.4) (subst (IsFilling old new before (taken_from from j) (i + 1)) (sym h.5)
+    subst (λ (c : CacheState). IsFilling old new before c (i + 1) now) (sym h.4) (subst (IsFilling old new before (taken_from from j) (i + 1)) (sym h.5)
     (filling_more old new before from after i j h.0 sound (cells_apart old new) within f cell h.1 h.2 h.3))
 filling_on old new before from left after now i j sound within cell (inr h) f =
-    subst (λ (c : Kept). IsFilling old new before c (i + 1) now) (sym h.1) (subst (IsFilling old new before from (i + 1)) (sym h.2)
+    subst (λ (c : CacheState). IsFilling old new before c (i + 1) now) (sym h.1) (subst (IsFilling old new before from (i + 1)) (sym h.2)
     (filling_passed old new before from after i within
     (λ b other clean had.
     let same : b ≡ j = (let both : Some b ≡ Some j = sym other.was ∙ cell.was in cc) in
     h.0 (subst (IsClean old from) same (back b clean)) had) f))
   where
     back : (b : ℕ) → IsClean old before b → IsClean old from b
-    back b clean = (clean.0, ap (λ (xs : List (Option Stamp)). get_or xs b None) f.same.0 ∙ clean.1, λ s plain z. subst (λ (vs : List ℕ). slice_index vs (place_of s) ≤ (clean.0).checked) (sym f.same.1) (clean.2 s plain z))
+    back b clean = (clean.0, ap (λ (xs : List (Option Stamp)). get_or xs b None) f.same.0 ∙ clean.1, λ s plain z. subst (λ (vs : List ℕ). slice_index vs (source_index s) ≤ (clean.0).checked) (sym f.same.1) (clean.2 s plain z))
 
 -- THE END: a cache that is filled is the one that is carried
-pub carried_is : (old new : App) (before after : Kept) → IsSound old → IsSound new → IsEditOf old new → IsInOrder old before → after.values.day ≡ before.values.day → IsFilled old new before after → IsCarried old new before after
+pub carried_is : (old new : App) (before after : CacheState) → IsSoundApp old → IsSoundApp new → IsEditOf old new → IsInOrder old before → after.values.day ≡ before.values.day → IsFilled old new before after → IsCarried old new before after
 carried_is old new before after was sound edit o day f = record {
   emptied = f.emptied;
   last = f.last;

@@ -17,7 +17,7 @@ use Rattle.recalc.specs.app_cells.declared.app.CellInfo.{CellInfo}
 use Rattle.recalc.specs.app_semantics.Fresh.{reads_table}
 use Rattle.recalc.specs.app_semantics.Needed.{is_alone, stands_alone}
 use Rattle.recalc.specs.Carrying.{AreHad, AreOldPlaces, IsLeft, IsOldCell, IsOldSource, IsOldTree, cell_was, place_of_cell}
-use Rattle.recalc.specs.Kept.{Kept, stamp_of}
+use Rattle.recalc.specs.Kept.{CacheState, stamp_of}
 use Rattle.recalc.specs.declared.stamps.Stamp.{Stamp}
 use Rattle.session_state.proofs.Moving.{was}
 use Rattle.session_state.specs.Carrying.{is_place}
@@ -149,10 +149,10 @@ at_cell xs k r o low e f = slice_get-get_or xs k None low ∙ ap (λ (x : Option
 
 -- ---- what is kept of the cells on which one leans
 
-pub not_had : (a : App) (c : Kept) (k d : ℕ) (i : CellInfo) (s : Source) → slice_get a.cells k ≡ Some i → IsAmong s i.reads → cell_behind a.names s ≡ Some d → is_alone a.cells d ≡ true → stamp_of c d ≡ None → AreHad a c k → ⊥
+pub not_had : (a : App) (c : CacheState) (k d : ℕ) (i : CellInfo) (s : Source) → slice_get a.cells k ≡ Some i → IsAmong s i.reads → cell_behind a.names s ≡ Some d → is_alone a.cells d ≡ true → stamp_of c d ≡ None → AreHad a c k → ⊥
 not_had a c k d i s there among behind alone none had = (let no : IsSome {T = Stamp} None = subst IsSome none (had d (i, there, (s, among, behind), alone)) in absurd cc)
 
-pub all_had : (a : App) (c : Kept) (k : ℕ) (i : CellInfo) → slice_get a.cells k ≡ Some i → ((s : Source) (d : ℕ) → IsAmong s i.reads → cell_behind a.names s ≡ Some d → is_alone a.cells d ≡ true → IsSome (stamp_of c d)) → AreHad a c k
+pub all_had : (a : App) (c : CacheState) (k : ℕ) (i : CellInfo) → slice_get a.cells k ≡ Some i → ((s : Source) (d : ℕ) → IsAmong s i.reads → cell_behind a.names s ≡ Some d → is_alone a.cells d ≡ true → IsSome (stamp_of c d)) → AreHad a c k
 all_had a c k i there all d leans =
     let same : leans.0 ≡ i = (let both : Some leans.0 ≡ Some i = sym leans.1 ∙ there in cc) in
     all leans.2.0 d (subst (λ (x : CellInfo). IsAmong leans.2.0 x.reads) same leans.2.1) leans.2.2 leans.3

@@ -5,11 +5,11 @@ use Rattle.std.specs.List.{slice_get}
 use Rattle.std.specs.Prelude.{codes}
 use Rattle.app_semantics.proofs.CellTypes.{property_found, type_by}
 use Rattle.app_semantics.proofs.Freshness.{given_in, given_told, taken, today_is, where_told}
-use Rattle.app_semantics.specs.Fresh.{AreKnown, IsValueOf, is_told, standing}
+use Rattle.app_semantics.specs.Fresh.{AreKnown, IsValueOf, is_told, formula_context}
 use Rattle.app_semantics.specs.Holding.{HoldsFitting}
 use Rattle.app_semantics.specs.Present.{Present}
 use Rattle.app_semantics.specs.Properties.{IsForItem, IsPropertyForItem}
-use Rattle.app_semantics.specs.Sound.{IsCellOf, IsSound, IsSoundCell}
+use Rattle.app_semantics.specs.Sound.{IsCellOf, IsSoundApp, IsSoundCell}
 use Rattle.app_semantics.specs.Telling.{told_on}
 use Rattle.app_semantics.specs.app_cells.Leaning.{cell_of_property}
 use Rattle.app_semantics.specs.app_cells.declared.app.App.{App}
@@ -26,7 +26,7 @@ use Rattle.fx_semantics.specs.Unique.{OneValue}
 use Rattle.fx_core.specs.SourceTypes.{sources}
 use Rattle.fx_core.specs.declared.names.Names.{Names}
 use Rattle.fx_core.specs.declared.sources.Source.{Source}
-use Rattle.fx_typing.specs.Typing.{item_of}
+use Rattle.fx_typing.specs.Typing.{item_context}
 use Rattle.recalc.specs.Templates.{IsTemplateProperty, StandsIn}
 use Rattle.recalc.specs.Values.{CellsFit}
 
@@ -49,7 +49,7 @@ template a g None h = tt
 pub in_gallery : (a : App) (g d : ℕ) (o : Option ℕ) (t : Shape) → o ≡ Some g → IsCellOf a.cells d o t → (u : Shape) × IsCellOf a.cells d (Some g) u
 in_gallery a g d o t own h = (t, subst (λ (x : Option ℕ). IsCellOf a.cells d x t) own h)
 
-pub visible_for : (a : App) (g k : ℕ) → IsSound a → StandsIn a.names k g → IsTemplateProperty a g (cell_of_property a.names k (codes "Visible"))
+pub visible_for : (a : App) (g k : ℕ) → IsSoundApp a → StandsIn a.names k g → IsTemplateProperty a g (cell_of_property a.names k (codes "Visible"))
 visible_for a g k s h =
     template a g (cell_of_property a.names k (codes "Visible")) (λ d e. in_gallery a g d (h.0).gallery booleans h.2
     (property_found a k (codes "Visible") d h.0 booleans s e h.1 (visible_type (h.0).kind (shape (h.0).items))))
@@ -67,15 +67,15 @@ pub template_there : (a : App) (g k : ℕ) → IsTemplateProperty a g (Some k) �
 template_there a g k h = slice_get_within a.cells k (h.1).cell (h.1).there
 
 -- an item of the gallery fits what it sees
-pub sees_item : (n : Names) (g : ℕ) (item : Data) (o : Option ℕ) → o ≡ Some g → IsItemFit (Some item) (item_of n (Some g)) → IsItemFit (Some item) (item_of n o)
-sees_item n g item o e h = subst (λ (x : Option ℕ). IsItemFit (Some item) (item_of n x)) (sym e) h
+pub sees_item : (n : Names) (g : ℕ) (item : Data) (o : Option ℕ) → o ≡ Some g → IsItemFit (Some item) (item_context n (Some g)) → IsItemFit (Some item) (item_context n o)
+sees_item n g item o e h = subst (λ (x : Option ℕ). IsItemFit (Some item) (item_context n x)) (sym e) h
 
 -- ---- one value for an item
 
 -- what the laws of values and of fresh values need
 pub record Ground (p : Present) (values : ℕ → Data) : Type 0 where
   pub one : OneValue
-  pub sound : IsSound p.app
+  pub sound : IsSoundApp p.app
   pub holds : HoldsFitting p.app.names p.session
   pub known : AreKnown p.app p.tables
   pub fits : CellsFit p.app values
@@ -88,9 +88,9 @@ value_one p values item k c v w g there x y =
     let sound : IsSoundCell p.app.names c = g.sound.cells k c there in
     let told : is_told p.tables c.reads ≡ true = g.known.told k c there in
     g.one (sources p.app.names) T [] (Some item) None (taken p c) v w
-    (stays (GivesTold (sources p.app.names) (Some T)) (taken p c) (standing p values c.reads (Some item)) v
+    (stays (GivesTold (sources p.app.names) (Some T)) (taken p c) (formula_context p values c.reads (Some item)) v
     (λ r d q. (given_in p values c r d g.sound g.holds g.known.fit sound (λ s among e f behind at. g.fits e f at) q.0 q.1, given_told p values day.0 r d day.1 q.1)) (where_told _ (is_told p.tables c.reads) told x))
-    (stays (GivesTold (sources p.app.names) (Some T)) (taken p c) (standing p values c.reads (Some item)) w
+    (stays (GivesTold (sources p.app.names) (Some T)) (taken p c) (formula_context p values c.reads (Some item)) w
     (λ r d q. (given_in p values c r d g.sound g.holds g.known.fit sound (λ s among e f behind at. g.fits e f at) q.0 q.1, given_told p values day.0 r d day.1 q.1)) (where_told _ (is_told p.tables c.reads) told y))
 
 for_item_one : (p : Present) (values : ℕ → Data) (item unwritten : Data) (o : Option ℕ) (v w : Data) → Ground p values → IsForItem p values item unwritten o v → IsForItem p values item unwritten o w → v ≡ w

@@ -11,30 +11,30 @@ use Rattle.recalc.specs.app_semantics.Needed.{IsFreshAt, Needs, further, is_alon
 use Rattle.recalc.specs.app_semantics.Present.{present}
 use Rattle.session_state.specs.Sessions.{SessionState}
 use Rattle.recalc.proofs.Places.{alone_of, aside_of}
-use Rattle.recalc.specs.Kept.{IsClean, IsInOrder, IsRight, IsUnmoved, Kept, value_of}
+use Rattle.recalc.specs.Kept.{IsClean, IsInOrder, IsRight, IsUnmoved, CacheState, cached_value}
 
 -- what a clean cell needs is clean, but for formulas that have no value by themselves
-needed_clean : (a : App) (c : Kept) → IsInOrder a c → (k d : ℕ) → Needs a k d → IsClean a c k → is_alone a.cells d ≡ true → IsClean a c d
+needed_clean : (a : App) (c : CacheState) → IsInOrder a c → (k d : ℕ) → Needs a k d → IsClean a c k → is_alone a.cells d ≡ true → IsClean a c d
 needed_clean a c o k d (itself j) clean own = clean
 needed_clean a c o k d (further j x y i need there alone leans) clean own =
     let below : IsClean a c x = needed_clean a c o j x need clean (alone_of a.cells x i there alone) in
     (o.leans x y below.0 below.1 below.2 (i, there, leans, own)).0
 
 -- nothing that a clean cell names moved since it was checked
-pub clean_unmoved : (a : App) (c : Kept) → IsInOrder a c → (k : ℕ) (i : CellInfo) → slice_get a.cells k ≡ Some i → (clean : IsClean a c k) → IsUnmoved a c i (clean.0).checked
+pub clean_unmoved : (a : App) (c : CacheState) → IsInOrder a c → (k : ℕ) (i : CellInfo) → slice_get a.cells k ≡ Some i → (clean : IsClean a c k) → IsUnmoved a c i (clean.0).checked
 clean_unmoved a c o k i there clean = record {
   sources = λ s plain among. clean.2 s plain (named k i s there among);
   cells = λ d leans own. (o.leans k d clean.0 clean.1 clean.2 (i, there, leans, own)).1;
 }
 
-pub clean_fresh : (a : App) (s : SessionState) (tables : ToldRows) (m : ℕ) (c : Kept) (k : ℕ) → IsRight (present a s tables m) [] c → IsClean a c k → IsFreshAt (present a s tables m) (value_of c) k
+pub clean_fresh : (a : App) (s : SessionState) (tables : ToldRows) (m : ℕ) (c : CacheState) (k : ℕ) → IsRight (present a s tables m) [] c → IsClean a c k → IsFreshAt (present a s tables m) (cached_value c) k
 clean_fresh a s tables m c k r clean = λ d i need there. by d i need there (stands_alone i) refl
   where
-    by : (d : ℕ) (i : CellInfo) → Needs a k d → slice_get a.cells d ≡ Some i → (b : Bool) → stands_alone i ≡ b → IsCellValue (present a s tables m) (value_of c) i (value_of c d)
+    by : (d : ℕ) (i : CellInfo) → Needs a k d → slice_get a.cells d ≡ Some i → (b : Bool) → stands_alone i ≡ b → IsCellValue (present a s tables m) (cached_value c) i (cached_value c d)
     by d i need there true alone =
         let below : IsClean a c d = needed_clean a c r.order k d need clean (alone_of a.cells d i there alone) in
         r.valid d below.0 i below.1 there (λ x l n. absurd l) (clean_unmoved a c r.order d i there below)
-    by d i need there false aside = no_value (present a s tables m) (value_of c) i (value_of c d) aside (r.order.bare d (aside_of a.cells d i there aside))
+    by d i need there false aside = no_value (present a s tables m) (cached_value c) i (cached_value c d) aside (r.order.bare d (aside_of a.cells d i there aside))
 
 -- a formula that has no value by itself needs none
 needs_itself : (a : App) (d e : ℕ) → is_alone a.cells d ≡ false → Needs a d e → d ≡ e
@@ -46,9 +46,9 @@ needs_itself a d e aside (further j x y i need there alone leans) =
     absurd cc
 
 -- and is blank, as it should be
-pub aside_fresh : (a : App) (s : SessionState) (tables : ToldRows) (m : ℕ) (c : Kept) (d : ℕ) → IsInOrder a c → is_alone a.cells d ≡ false → IsFreshAt (present a s tables m) (value_of c) d
+pub aside_fresh : (a : App) (s : SessionState) (tables : ToldRows) (m : ℕ) (c : CacheState) (d : ℕ) → IsInOrder a c → is_alone a.cells d ≡ false → IsFreshAt (present a s tables m) (cached_value c) d
 aside_fresh a s tables m c d order aside = λ e i need there. by e i there (subst (λ z. is_alone a.cells z ≡ false) (needs_itself a d e aside need) aside) (stands_alone i) refl
   where
-    by : (e : ℕ) (i : CellInfo) → slice_get a.cells e ≡ Some i → is_alone a.cells e ≡ false → (b : Bool) → stands_alone i ≡ b → IsCellValue (present a s tables m) (value_of c) i (value_of c e)
+    by : (e : ℕ) (i : CellInfo) → slice_get a.cells e ≡ Some i → is_alone a.cells e ≡ false → (b : Bool) → stands_alone i ≡ b → IsCellValue (present a s tables m) (cached_value c) i (cached_value c e)
     by e i there out true alone = let clash : false ≡ true = sym out ∙ alone_of a.cells e i there alone in absurd cc
-    by e i there out false own = no_value (present a s tables m) (value_of c) i (value_of c e) own (order.bare e out)
+    by e i there out false own = no_value (present a s tables m) (cached_value c) i (cached_value c e) own (order.bare e out)

@@ -13,10 +13,10 @@ use Rattle.app_semantics.specs.app_cells.declared.app.CellInfo.{CellInfo}
 use Rattle.app_semantics.proofs.Freshness.{got, read_behind}
 use Rattle.app_semantics.proofs.Given.{told_agrees}
 use Rattle.app_semantics.proofs.Ordered.{earlier, leaning_edge}
-use Rattle.app_semantics.specs.Fresh.{CanRead, IsByItself, IsCellValue, IsFresh, IsValueOf, IsWhere, is_told, standing}
+use Rattle.app_semantics.specs.Fresh.{CanRead, IsByItself, IsCellValue, IsFresh, IsValueOf, IsWhere, is_told, formula_context}
 use Rattle.app_semantics.specs.Needed.{stands_alone, stands_by}
-use Rattle.app_semantics.specs.Present.{Gives, Present, present}
-use Rattle.app_semantics.specs.Sound.{IsSound}
+use Rattle.app_semantics.specs.Present.{SourceGives, Present, present}
+use Rattle.app_semantics.specs.Sound.{IsSoundApp}
 use Rattle.fx_types.specs.TypeView.{shape}
 use Rattle.fx_types.specs.ValueView.{view}
 use Rattle.fx_types.specs.Values.{Data, blank}
@@ -53,7 +53,7 @@ none_kept a s told day n = record {
 }
 
 -- ---- values of cells that aren't read
-pub gives_agrees : (p : Present) (values others : ℕ → Data) (x : Source) (v : Data) → ((d : ℕ) → cell_behind p.app.names x ≡ Some d → values d ≡ others d) → Gives p values x v → Gives p others x v
+pub gives_agrees : (p : Present) (values others : ℕ → Data) (x : Source) (v : Data) → ((d : ℕ) → cell_behind p.app.names x ≡ Some d → values d ≡ others d) → SourceGives p values x v → SourceGives p others x v
 gives_agrees p values others (source.Cell k) v h e = e ∙ told_agrees blank p.app.names p.session p.tables values others (source.Cell k) h
 gives_agrees p values others (source.Global k) v h e = e
 gives_agrees p values others (source.Context k) v h e = e
@@ -73,23 +73,23 @@ moved p values others c v h x = by c.cell.acts c.cell.item x
     by : (b : Bool) (o : Option ℕ) → IsByItself b o (IsValueOf p values None c v) v → IsByItself b o (IsValueOf p others None c v) v
     by false None y =
         where_map _ (is_told p.tables c.reads)
-        (stays (λ r d. CanRead c.reads r × Gives p others r d) (limited p.app.names.schema.tables p.app.limit 0 false c.core) (standing p values c.reads None) v
+        (stays (λ r d. CanRead c.reads r × SourceGives p others r d) (limited p.app.names.schema.tables p.app.limit 0 false c.core) (formula_context p values c.reads None) v
         (λ r d g. (g.0, gives_agrees p values others r d (λ e q. h e (r, read_behind p.app.names c.reads r e g.0 q, q)) g.1))) y
     by false (Some g) y = y
     by true o y = y
 
 -- ---- one value more
 -- no number before a place of the order is the one there
-before_not : (a : App) (i j number : ℕ) → IsSound a → i < length a.order → number ≡ get_or a.order i number → j < i → get_or a.order j 0 ≢ number
+before_not : (a : App) (i j number : ℕ) → IsSoundApp a → i < length a.order → number ≡ get_or a.order i number → j < i → get_or a.order j 0 ≢ number
 before_not a i j number s h e l q = s.order.once j i 0 l h (q ∙ e ∙ sym (get_or_default a.order i 0 number h))
 
-pub new_here : (a : App) (i number : ℕ) → IsSound a → i < length a.order → number ≡ get_or a.order i number → ¬ Contains (take i a.order) number
+pub new_here : (a : App) (i number : ℕ) → IsSoundApp a → i < length a.order → number ≡ get_or a.order i number → ¬ Contains (take i a.order) number
 new_here a i number s h e there =
     let b = earlier a.order i number there in
     before_not a i b.0 number s h e b.1 b.3
 
 -- what a cell at or before a place leans on isn't the one there
-leans_before : (a : App) (i j number k : ℕ) (c : CellInfo) (d : ℕ) → IsSound a → i < length a.order → number ≡ get_or a.order i number → j ≤ i → get_or a.order j 0 ≡ k → slice_get a.cells k ≡ Some c → LeansOn a.names c d → d ≢ number
+leans_before : (a : App) (i j number k : ℕ) (c : CellInfo) (d : ℕ) → IsSoundApp a → i < length a.order → number ≡ get_or a.order i number → j ≤ i → get_or a.order j 0 ≡ k → slice_get a.cells k ≡ Some c → LeansOn a.names c d → d ≢ number
 leans_before a i j number k c d s h e l at there leans q =
     let edge : Contains (edges_of a.names a.cells) (k, d) = leaning_edge a.names a.cells k c d there leans in
     let b = earlier a.order j d (s.order.behind j d (omega (arith, l, h)) (subst (λ m. Contains (edges_of a.names a.cells) (m, d)) (sym at) edge)) in
@@ -102,7 +102,7 @@ only : (x y : ℕ) → Contains (x ∷ []) y → y ≡ x
 only x y (zero, l, e) = sym e
 only x y (suc k, l, e) = absurd (omega (arith, l))
 
-pub one_more : (a : App) (s : SessionState) (told later : ToldRows) (day : Data) (i number : ℕ) (old new : ℕ → Data) → IsSound a → Hears told later → i < length a.order → number ≡ get_or a.order i number →
+pub one_more : (a : App) (s : SessionState) (told later : ToldRows) (day : Data) (i number : ℕ) (old new : ℕ → Data) → IsSoundApp a → Hears told later → i < length a.order → number ≡ get_or a.order i number →
     AreKept a s told day (take i a.order) old → CellsFit a new → ((k : ℕ) → k ≢ number → new k ≡ old k) →
     ((moment : ℕ) (tables : ToldRows) (c : CellInfo) → IsToday moment day → IsHeard later tables → slice_get a.cells number ≡ Some c → IsCellValue (present a s tables moment) old c (new number)) →
     AreKept a s later day (take (i + 1) a.order) new
@@ -179,13 +179,13 @@ placed xs ys i e l =
     let here : i < length ys = omega (arith, l, long) in
     (here, ap (λ (zs : List ℕ). get_or zs i 0) e ∙ get_or_default ys i 0 (get_or xs i 0) here)
 
-pub number_within : (a : App) (xs : List ℕ) (i : ℕ) → IsSound a → xs ≡ a.order → i < length xs → get_or xs i 0 < length a.cells
+pub number_within : (a : App) (xs : List ℕ) (i : ℕ) → IsSoundApp a → xs ≡ a.order → i < length xs → get_or xs i 0 < length a.cells
 number_within a xs i s e l = let at = placed xs a.order i e l in (s.order.all (get_or xs i 0)).0 (i, at.0, sym at.1)
 
-pub number_blank : (a : App) (s : SessionState) (told : ToldRows) (day : Data) (xs : List ℕ) (i : ℕ) (values : ℕ → Data) → IsSound a → xs ≡ a.order → i < length xs → AreKept a s told day (take i a.order) values → values (get_or xs i 0) ≡ blank
+pub number_blank : (a : App) (s : SessionState) (told : ToldRows) (day : Data) (xs : List ℕ) (i : ℕ) (values : ℕ → Data) → IsSoundApp a → xs ≡ a.order → i < length xs → AreKept a s told day (take i a.order) values → values (get_or xs i 0) ≡ blank
 number_blank a s told day xs i values sound e l kept = let at = placed xs a.order i e l in kept.undone (get_or xs i 0) (new_here a i (get_or xs i 0) sound at.0 at.1)
 
-pub more_kept : (a : App) (s : SessionState) (told later : ToldRows) (day : Data) (xs : List ℕ) (i : ℕ) (old new : ℕ → Data) → IsSound a → Hears told later → xs ≡ a.order → i < length xs → AreKept a s told day (take i a.order) old → CellsFit a new →
+pub more_kept : (a : App) (s : SessionState) (told later : ToldRows) (day : Data) (xs : List ℕ) (i : ℕ) (old new : ℕ → Data) → IsSoundApp a → Hears told later → xs ≡ a.order → i < length xs → AreKept a s told day (take i a.order) old → CellsFit a new →
     ((k : ℕ) → k ≢ get_or xs i 0 → new k ≡ old k) →
     ((moment : ℕ) (tables : ToldRows) (c : CellInfo) → IsToday moment day → IsHeard later tables → slice_get a.cells (get_or xs i 0) ≡ Some c → IsCellValue (present a s tables moment) old c (new (get_or xs i 0))) →
     AreKept a s later day (take (i + 1) a.order) new
@@ -197,7 +197,7 @@ whole [] (suc i) l = refl
 whole (x ∷ xs) zero l = absurd (omega (arith, l))
 whole (x ∷ xs) (suc i) l = ap (λ ys. x ∷ ys) (whole xs i (omega (arith, l)))
 
-pub all_fresh : (a : App) (s : SessionState) (told : ToldRows) (day : Data) (xs : List ℕ) (i : ℕ) (values : ℕ → Data) → IsSound a → xs ≡ a.order → length xs ≤ i → AreKept a s told day (take i a.order) values →
+pub all_fresh : (a : App) (s : SessionState) (told : ToldRows) (day : Data) (xs : List ℕ) (i : ℕ) (values : ℕ → Data) → IsSoundApp a → xs ≡ a.order → length xs ≤ i → AreKept a s told day (take i a.order) values →
     (moment : ℕ) (tables : ToldRows) → IsToday moment day → IsHeard told tables → IsFresh (present a s tables moment) values
 all_fresh a s told day xs i values sound e l kept moment tables today heard =
     let long : length xs ≡ length a.order = ap length e in

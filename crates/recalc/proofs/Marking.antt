@@ -9,9 +9,9 @@ use Rattle.recalc.proofs.of_app_semantics.Ordered.{earlier, leaning_edge}
 use Rattle.recalc.specs.app_cells.Leaning.{edges_of}
 use Rattle.recalc.specs.app_cells.declared.app.App.{App}
 use Rattle.recalc.specs.app_semantics.Needed.{further, is_alone, itself}
-use Rattle.recalc.specs.app_semantics.Sound.{IsSound}
+use Rattle.recalc.specs.app_semantics.Sound.{IsSoundApp}
 use Rattle.recalc.proofs.Places.{alone_at}
-use Rattle.recalc.specs.Kept.{IsClean, Kept, Leans}
+use Rattle.recalc.specs.Kept.{IsClean, CacheState, Leans}
 use Rattle.recalc.specs.Needing.{AreMarked, IsNeededFor, IsReachedFrom, IsVisited, LeadsTo, is_marked, leaned, marked}
 
 -- ---- the order
@@ -20,14 +20,14 @@ abbrev pub at : App → ℕ → ℕ
 at a j = get_or a.order j 0
 
 -- what a cell at a place leans on stands before it
-pub leans_earlier : (a : App) (j k d : ℕ) → IsSound a → j < length a.order → at a j ≡ k → Leans a k d → (i : ℕ) × (i < j) × (at a i ≡ d)
+pub leans_earlier : (a : App) (j k d : ℕ) → IsSoundApp a → j < length a.order → at a j ≡ k → Leans a k d → (i : ℕ) × (i < j) × (at a i ≡ d)
 leans_earlier a j k d sound low here leans =
     let edge = leaning_edge a.names a.cells k leans.0 d leans.1 leans.2 in
     let b = earlier a.order j d (sound.order.behind j d low (subst (λ n. Contains (edges_of a.names a.cells) (n, d)) (sym here) edge)) in
     (b.0, b.1, b.3)
 
 -- a number stands in the order once
-pub once : (a : App) (i j : ℕ) → IsSound a → i < j → j < length a.order → at a i ≡ at a j → ⊥
+pub once : (a : App) (i j : ℕ) → IsSoundApp a → i < j → j < length a.order → at a i ≡ at a j → ⊥
 once a i j sound before low e = sound.order.once i j 0 before low e
 
 -- ---- marks that are set
@@ -70,14 +70,14 @@ whole n new old e = subst (λ k. take k (new ++ drop (length new) old) ≡ new) 
 
 -- ---- visits, from the last place to the first
 -- the marks are closed from a place of the order on
-pub record IsClosedFrom (a : App) (c : Kept) (old : List Bool) (place : ℕ) (marks : List Bool) : Type 0 where
+pub record IsClosedFrom (a : App) (c : CacheState) (old : List Bool) (place : ℕ) (marks : List Bool) : Type 0 where
   pub within : place ≤ length a.order
   pub long : length marks ≡ length old
   pub still : (k : ℕ) → is_marked old k ≡ true → is_marked marks k ≡ true
   pub closed : (j d : ℕ) → place ≤ j → j < length a.order → is_marked marks (at a j) ≡ true → (IsClean a c (at a j) → ⊥) → Leans a (at a j) d → is_marked marks d ≡ true
   pub from : (k : ℕ) → is_marked marks k ≡ true → IsReachedFrom a old k
 
-pub closed_start : (a : App) (c : Kept) (old : List Bool) → IsClosedFrom a c old (length a.order) old
+pub closed_start : (a : App) (c : CacheState) (old : List Bool) → IsClosedFrom a c old (length a.order) old
 closed_start a c old = record {
   within = omega arith;
   long = refl;
@@ -86,7 +86,7 @@ closed_start a c old = record {
   from = λ k h. marked k h;
 }
 
-pub closed_down : (a : App) (c : Kept) (old : List Bool) (p n : ℕ) (marks new : List Bool) → IsSound a → p < length a.order → at a p ≡ n → IsClosedFrom a c old (p + 1) marks → IsVisited a c n marks new → IsClosedFrom a c old p new
+pub closed_down : (a : App) (c : CacheState) (old : List Bool) (p n : ℕ) (marks new : List Bool) → IsSoundApp a → p < length a.order → at a p ≡ n → IsClosedFrom a c old (p + 1) marks → IsVisited a c n marks new → IsClosedFrom a c old p new
 closed_down a c old p n marks new sound low here before visited = record {
   within = omega (arith, low);
   long = visited.long ∙ before.long;
@@ -111,7 +111,7 @@ closed_down a c old p n marks new sound low here before visited = record {
   ];
 }
 
-pub closed_end : (a : App) (c : Kept) (old marks : List Bool) (p : ℕ) → IsSound a → p ≤ 0 → length old ≡ length a.cells → IsClosedFrom a c old p marks → LeadsTo a c old marks
+pub closed_end : (a : App) (c : CacheState) (old marks : List Bool) (p : ℕ) → IsSoundApp a → p ≤ 0 → length old ≡ length a.cells → IsClosedFrom a c old p marks → LeadsTo a c old marks
 closed_end a c old marks p sound end long h = record {
   long = h.long;
   still = h.still;
@@ -136,7 +136,7 @@ module _ (a : App) (roots : List ℕ) (old : List Bool) (only : (k : ℕ) → is
       let below = reached_needed k from in
       (below.0, below.1, further below.0 k x leans.0 below.2 leans.1 (alone_at a.cells k leans.0 leans.1 (reached_alone k from)) leans.2)
 
-  pub are_marked : (c : Kept) (marks : List Bool) → length old ≡ length a.cells → ((k : ℕ) → Contains roots k → is_marked old k ≡ true) → LeadsTo a c old marks → AreMarked a c roots marks
+  pub are_marked : (c : CacheState) (marks : List Bool) → length old ≡ length a.cells → ((k : ℕ) → Contains roots k → is_marked old k ≡ true) → LeadsTo a c old marks → AreMarked a c roots marks
   are_marked c marks long there h = record {
     long = h.long ∙ long;
     top = λ k r. h.still k (there k r);

@@ -17,10 +17,10 @@ use Rattle.recalc.specs.Asking.{ToldRows}
 use Rattle.recalc.specs.app_cells.Leaning.{LeansOn, cell_behind, default_cell, items_cell}
 use Rattle.recalc.specs.app_cells.declared.app.App.{App}
 use Rattle.recalc.specs.app_cells.declared.app.CellInfo.{CellInfo}
-use Rattle.recalc.specs.app_semantics.Fresh.{CanRead, IsByItself, IsCellValue, IsValueOf, IsWhere, is_told, reads_table, standing}
+use Rattle.recalc.specs.app_semantics.Fresh.{CanRead, IsByItself, IsCellValue, IsValueOf, IsWhere, is_told, reads_table, formula_context}
 use Rattle.recalc.specs.app_semantics.Needed.{stands_alone, stands_by}
-use Rattle.recalc.specs.app_semantics.Present.{Gives, Present, present}
-use Rattle.recalc.specs.app_semantics.Sound.{IsSound}
+use Rattle.recalc.specs.app_semantics.Present.{SourceGives, Present, present}
+use Rattle.recalc.specs.app_semantics.Sound.{IsSoundApp}
 use Rattle.session_state.specs.Carrying.{carried, collection_was}
 use Rattle.session_state.specs.Sessions.{SessionState}
 use Rattle.recalc.proofs.OldTrees.{same_value}
@@ -108,7 +108,7 @@ behind_old old new (source.Table a) (source.Table b) k j o f g = absurd cc
 behind_old old new source.Today source.Today k j o f g = absurd cc
 behind_old old new x r k j o f g = absurd o
 
-module _ (old new : App) (was : IsSound old) (sound : IsSound new) (edit : IsEditOf old new) (s : SessionState) (long : (j k : ℕ) → collection_was old.names new.names k ≡ Some j → j < length s.collections) (tables : ToldRows) (m : ℕ) (values others : ℕ → Data) where
+module _ (old new : App) (was : IsSoundApp old) (sound : IsSoundApp new) (edit : IsEditOf old new) (s : SessionState) (long : (j k : ℕ) → collection_was old.names new.names k ≡ Some j → j < length s.collections) (tables : ToldRows) (m : ℕ) (values others : ℕ → Data) where
   -- the value that a formula had, it has
   pub value_old_cell : (j k : ℕ) (o : IsOldCell old new j k) (v : Data) → ((d c : ℕ) → LeansOn new.names o.after d → IsOldOne old new d c → others d ≡ values c) → IsCellValue (present old s tables m) values o.before v →
       IsCellValue (present new (carried old.names new.names s) tables m) others o.after v
@@ -119,12 +119,12 @@ module _ (old new : App) (was : IsSound old) (sound : IsSound new) (edit : IsEdi
       λ x among. ((sound.cells k o.after o.here).reads x).1 (limited_reads new.names.schema.tables new.limit 0 false o.after.core x (subst (λ t. IsAmong x (sources_in t)) (sound.taken k o.after o.here) among)) in
       let tree : IsOldTree (both (IsOldSource old new) (λ x. IsAmong x o.after.reads)) o.after.taken o.before.taken = tree_of (IsOldSource old new) (λ x. IsAmong x o.after.reads) o.after.taken o.before.taken reads o.left.tree in
       own_value q others o.after v o.left.still
-      (subst (λ b. IsWhere b (meaning (limited new.names.schema.tables new.limit 0 false o.after.core) (standing q others o.after.reads None) v) (fits_in v (shape o.after.ty) ≡ true)) (sym (told_same tables o.after.reads o.before.reads o.left.told))
+      (subst (λ b. IsWhere b (meaning (limited new.names.schema.tables new.limit 0 false o.after.core) (formula_context q others o.after.reads None) v) (fits_in v (shape o.after.ty) ≡ true)) (sym (told_same tables o.after.reads o.before.reads o.left.told))
       (where_map (is_told tables o.before.reads)
-      (λ x. subst (λ t. meaning t (standing q others o.after.reads None) v) (sound.taken k o.after o.here)
-      (same_value (both (IsOldSource old new) (λ y. IsAmong y o.after.reads)) (λ y d. CanRead o.after.reads y × Gives q others y d) o.after.taken o.before.taken (standing p values o.before.reads None) v tree
+      (λ x. subst (λ t. meaning t (formula_context q others o.after.reads None) v) (sound.taken k o.after o.here)
+      (same_value (both (IsOldSource old new) (λ y. IsAmong y o.after.reads)) (λ y d. CanRead o.after.reads y × SourceGives q others y d) o.after.taken o.before.taken (formula_context p values o.before.reads None) v tree
       (λ y r d w g. (can_read o.after.reads y w.1, gives_old old new edit s long tables m values others y r d w.0 (λ a b f e. same a b (y, w.1, f) (behind_old old new y r a b w.0 f e)) g.1))
-      (subst (λ t. meaning t (standing p values o.before.reads None) v) (sym (was.taken j o.before o.there)) x)))
+      (subst (λ t. meaning t (formula_context p values o.before.reads None) v) (sym (was.taken j o.before o.there)) x)))
       (λ fit. subst (λ t. fits_in v t ≡ true) (sym o.ty) fit)
       (of_own p values o.before v o.left.alone h)))
     where

@@ -2,9 +2,9 @@
 use Rattle.std.proofs.Common.{◌≡◌, ℕ, List, [], ◌∷◌, true, false, Option, refl, sym, subst, ap}
 use Rattle.fx_types.specs.Values.{Data, blank, number, text, boolean, date, rec, tab, fault}
 use Rattle.fx_semantics.specs.Around.{Around, Meaning, AreValues, AreEach, catching, inside, record_of}
-use Rattle.fx_semantics.specs.Forms.{IsAll, IsAny, IsIf, IsMatched, IsSwitch, IsRecovered, IsCaughtBy, IsCoalesced, IsFormed}
+use Rattle.fx_semantics.specs.Forms.{IsAll, IsAny, IsIf, IsSwitchMatch, IsSwitch, IsRecovered, IsCaughtBy, IsCoalesced, IsFormed}
 use Rattle.fx_semantics.specs.Fresh.{IsCalled, IsNode, IsWithin, OfAll, OfOne, meaning, meanings}
-use Rattle.fx_semantics.specs.Rows.{AreNames, AreNew, ArePairs, IsConcat, IsLookedUp, IsMade, IsNamed, IsOfFound, IsOver, IsTaken, IsVerdict, OfEach, OfVerdicts, rows_in}
+use Rattle.fx_semantics.specs.Rows.{AreNames, AreNew, AreRenamings, IsConcat, IsLookedUp, IsMade, MakesByNames, IsOfFound, IsTableCall, TakesRows, IsConjunction, OfEach, OfVerdicts, rows_in}
 use Rattle.fx_semantics.proofs.Wider.{by_decision, error_or, giving, passed_or}
 use Rattle.fx_core.specs.declared.functions.Form.{Form}
 use Rattle.fx_core.specs.declared.functions.Form.TheVariants as form
@@ -14,7 +14,7 @@ use Rattle.fx_core.specs.declared.sources.Source.{Source}
 use Rattle.fx_tables.specs.Ends.{first_rows, last_rows}
 use Rattle.fx_tables.specs.RowCalls.{looked_up}
 use Rattle.fx_scalar.specs.LazyForms.{decision_of, equality}
-use Rattle.fx_scalar.specs.ScalarFunctions.{is_blank}
+use Rattle.fx_scalar.specs.ScalarFunctions.{is_blank_or_empty}
 use Rattle.fx_value.specs.Columns.{Row}
 use Rattle.fx_core.specs.Term.{Term, Terms, of, nil, cons, Top}
 use Rattle.fx_core.specs.Term as top
@@ -103,19 +103,19 @@ if_stays W g (P ∷ []) k a v m h = k.0 a v m h
 if_stays W g (C ∷ P ∷ Ps) k a v m h =
     (h.0, k.0 a h.0 m h.1, by_decision (decision_of h.0) (P.0 a v) (P.1 (giving g a) v) (IsIf (olds Ps) a v) (IsIf (news Ps) (giving g a) v) v (k.1.0 a v m) (if_stays W g Ps k.1.1 a v m) h.2)
 
-matched_stays : (W : Was) (g : Giving) (w : Data) (Ps : List Two) → AllStay W g Ps → Stays W g (IsMatched w (olds Ps), IsMatched w (news Ps))
+matched_stays : (W : Was) (g : Giving) (w : Data) (Ps : List Two) → AllStay W g Ps → Stays W g (IsSwitchMatch w (olds Ps), IsSwitchMatch w (news Ps))
 matched_stays W g w [] k a v m h = h
 matched_stays W g w (P ∷ []) k a v m h = k.0 a v m h
 matched_stays W g w (M ∷ P ∷ Ps) k a v m h = (
   h.0,
   k.0 a h.0 m h.1,
-  by_decision (decision_of (equality w h.0)) (P.0 a v) (P.1 (giving g a) v) (IsMatched w (olds Ps) a v) (IsMatched w (news Ps) (giving g a) v) v (k.1.0 a v m) (matched_stays W g w Ps k.1.1 a v m) h.2,
+  by_decision (decision_of (equality w h.0)) (P.0 a v) (P.1 (giving g a) v) (IsSwitchMatch w (olds Ps) a v) (IsSwitchMatch w (news Ps) (giving g a) v) v (k.1.0 a v m) (matched_stays W g w Ps k.1.1 a v m) h.2,
 )
 
 switch_stays : (W : Was) (g : Giving) (Ps : List Two) → AllStay W g Ps → Stays W g (IsSwitch (olds Ps), IsSwitch (news Ps))
 switch_stays W g [] k a v m h = absurd h
 switch_stays W g (P ∷ Ps) k a v m h =
-    (h.0, k.0 a h.0 m h.1, error_or h.0 (IsMatched h.0 (olds Ps) a v) (IsMatched h.0 (news Ps) (giving g a) v) v (matched_stays W g h.0 Ps k.1 a v m) h.2)
+    (h.0, k.0 a h.0 m h.1, error_or h.0 (IsSwitchMatch h.0 (olds Ps) a v) (IsSwitchMatch h.0 (news Ps) (giving g a) v) v (matched_stays W g h.0 Ps k.1 a v m) h.2)
 
 recovered_stays : (W : Was) (g : Giving) (d : Data) (Ps : List Two) → AllStay W g Ps → Stays W g (IsRecovered d (olds Ps), IsRecovered d (news Ps))
 recovered_stays W g d [] k a v m h = h
@@ -126,7 +126,7 @@ recovered_stays W g d (P ∷ F ∷ Ps) k a v m h =
 coalesced_stays : (W : Was) (g : Giving) (Ps : List Two) → AllStay W g Ps → Stays W g (IsCoalesced (olds Ps), IsCoalesced (news Ps))
 coalesced_stays W g [] k a v m h = h
 coalesced_stays W g (P ∷ Ps) k a v m h =
-    (h.0, k.0 a h.0 m h.1, passed_or (is_blank h.0) (IsCoalesced (olds Ps) a v) (IsCoalesced (news Ps) (giving g a) v) (v ≡ h.0) (coalesced_stays W g Ps k.1 a v m) h.2)
+    (h.0, k.0 a h.0 m h.1, passed_or (is_blank_or_empty h.0) (IsCoalesced (olds Ps) a v) (IsCoalesced (news Ps) (giving g a) v) (v ≡ h.0) (coalesced_stays W g Ps k.1 a v m) h.2)
 
 formed_stays : (W : Was) (g : Giving) (f : Form) (Ps : List Two) → AllStay W g Ps → Stays W g (IsFormed f (olds Ps), IsFormed f (news Ps))
 formed_stays W g form.All Ps k = all_stays W g Ps k
@@ -143,12 +143,12 @@ of_each W g rows [] k a m R h = absurd h
 of_each W g rows (F ∷ []) k a m R h = (h.0, each W g F k.0 a m rows h.0 h.1, h.2)
 of_each W g rows (F ∷ G ∷ Ps) k a m R h = absurd h
 
-verdict_stays : (W : Was) (g : Giving) (Ps : List Two) → AllStay W g Ps → Stays W g (IsVerdict (olds Ps), IsVerdict (news Ps))
+verdict_stays : (W : Was) (g : Giving) (Ps : List Two) → AllStay W g Ps → Stays W g (IsConjunction (olds Ps), IsConjunction (news Ps))
 verdict_stays W g Ps k a v m h = (h.0, values W g Ps k a m h.0 h.1, h.2)
 
 of_verdicts : (W : Was) (g : Giving) (rows : List Row) (Ps : List Two) → AllStay W g Ps → (a : Around) → GivesMoreOf W g a → (R : List Data → Type 0) →
     OfVerdicts rows (olds Ps) a R → OfVerdicts rows (news Ps) (giving g a) R
-of_verdicts W g rows Ps k a m R h = (h.0, each W g (IsVerdict (olds Ps), IsVerdict (news Ps)) (verdict_stays W g Ps k) a m rows h.0 h.1, h.2)
+of_verdicts W g rows Ps k a m R h = (h.0, each W g (IsConjunction (olds Ps), IsConjunction (news Ps)) (verdict_stays W g Ps k) a m rows h.0 h.1, h.2)
 
 found_stays : (W : Was) (g : Giving) (d : Data) (F : Two) → Stays W g F → Stays W g (IsOfFound d F.0, IsOfFound d F.1)
 found_stays W g (rec fs) F k a v m h = k (inside a (rec fs)) v m h
@@ -166,7 +166,7 @@ looked_up_stays W g rows (C ∷ []) k a v m h = (h.0, each W g C k.0 a m rows h.
 looked_up_stays W g rows (C ∷ F ∷ []) k a v m h = (h.0, each W g C k.0 a m rows h.0 h.1, found_stays W g (looked_up rows h.0) F k.1.0 a v m h.2)
 looked_up_stays W g rows (C ∷ F ∷ G ∷ Ps) k a v m h = absurd h
 
-taken_stays : (W : Was) (g : Giving) (taken : Option Data → Data) (Ps : List Two) → AllStay W g Ps → Stays W g (IsTaken taken (olds Ps), IsTaken taken (news Ps))
+taken_stays : (W : Was) (g : Giving) (taken : Option Data → Data) (Ps : List Two) → AllStay W g Ps → Stays W g (TakesRows taken (olds Ps), TakesRows taken (news Ps))
 taken_stays W g taken [] k a v m h = h
 taken_stays W g taken (N ∷ []) k a v m h = (h.0, k.0 a h.0 m h.1, h.2)
 taken_stays W g taken (N ∷ M ∷ Ps) k a v m h = absurd h
@@ -183,7 +183,7 @@ names_stay W g (P ∷ Ps) k a m (n ∷ ns) h = (k.0 a (text n) m h.0, names_stay
 names_stay W g [] k a m (n ∷ ns) h = absurd h
 names_stay W g (P ∷ Ps) k a m [] h = absurd h
 
-named_stays : (W : Was) (g : Giving) (made : List (List ℕ) → List Row) (Ps : List Two) → AllStay W g Ps → Stays W g (IsNamed made (olds Ps), IsNamed made (news Ps))
+named_stays : (W : Was) (g : Giving) (made : List (List ℕ) → List Row) (Ps : List Two) → AllStay W g Ps → Stays W g (MakesByNames made (olds Ps), MakesByNames made (news Ps))
 named_stays W g made Ps k a v m h = (h.0, names_stay W g Ps k a m h.0 h.1, h.2)
 
 new_stay : (W : Was) (g : Giving) (rows : List Row) (Ps : List Two) → AllStay W g Ps → (a : Around) → GivesMoreOf W g a → (cs : List (List ℕ × List Data)) →
@@ -194,7 +194,7 @@ new_stay W g rows [] k a m (c ∷ cs) h = absurd h
 new_stay W g rows (N ∷ []) k a m cs h = absurd h
 new_stay W g rows (N ∷ F ∷ Ps) k a m [] h = absurd h
 
-pairs_stay : (W : Was) (g : Giving) (Ps : List Two) → AllStay W g Ps → (a : Around) → GivesMoreOf W g a → (ps : List (List ℕ × List ℕ)) → ArePairs (olds Ps) a ps → ArePairs (news Ps) (giving g a) ps
+pairs_stay : (W : Was) (g : Giving) (Ps : List Two) → AllStay W g Ps → (a : Around) → GivesMoreOf W g a → (ps : List (List ℕ × List ℕ)) → AreRenamings (olds Ps) a ps → AreRenamings (news Ps) (giving g a) ps
 pairs_stay W g [] k a m [] h = tt
 pairs_stay W g (N ∷ M ∷ Ps) k a m (p ∷ ps) h = (k.0 a (text p.0) m h.0, k.1.0 a (text p.1) m h.1, pairs_stay W g Ps k.1.1 a m ps h.2)
 pairs_stay W g [] k a m (p ∷ ps) h = absurd h
@@ -225,7 +225,7 @@ made_stays W g fun.ForAll rows Ps k a v m h = of_each W g rows Ps k a m _ h
 made_stays W g fun.Concat rows Ps k a v m h = concat_stays W g rows Ps k a v m h
 made_stays W g f rows Ps k a v m h = absurd h
 
-over_stays : (W : Was) (g : Giving) (f : Fun) (Ps : List Two) → AllStay W g Ps → Stays W g (IsOver f (olds Ps), IsOver f (news Ps))
+over_stays : (W : Was) (g : Giving) (f : Fun) (Ps : List Two) → AllStay W g Ps → Stays W g (IsTableCall f (olds Ps), IsTableCall f (news Ps))
 over_stays W g f [] k a v m h = absurd h
 over_stays W g f (P ∷ Ps) k a v m h =
     (h.0, k.0 a h.0 m h.1, error_or h.0 (IsMade f (rows_in h.0) (olds Ps) a v) (IsMade f (rows_in h.0) (news Ps) (giving g a) v) v (made_stays W g f (rows_in h.0) Ps k.1 a v m) h.2)

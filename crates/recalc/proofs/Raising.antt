@@ -11,31 +11,31 @@ use Rattle.recalc.specs.app_semantics.Present.{present}
 use Rattle.session_state.specs.Sessions.{SessionState}
 use Rattle.recalc.proofs.Places.{one_place}
 use Rattle.recalc.specs.Changes.{raised}
-use Rattle.recalc.specs.Kept.{AreLow, IsClean, IsCurrent, IsInOrder, IsRight, Kept, place_of, version_of}
+use Rattle.recalc.specs.Kept.{AreLow, IsClean, IsCurrent, IsInOrder, IsRight, CacheState, source_index, version_of}
 
-module _ (a : App) (source : Source) (c : Kept) (place : place_of source < length c.versions) where
+module _ (a : App) (source : Source) (c : CacheState) (place : source_index source < length c.versions) where
   here : version_of (raised c source) source ≡ c.last + 1
-  here = get_or-set_same c.versions (place_of source) (c.last + 1) 0 place
+  here = get_or-set_same c.versions (source_index source) (c.last + 1) 0 place
 
-  there : (s : Source) → place_of s ≢ place_of source → version_of (raised c source) s ≡ version_of c s
-  there s n = get_or-set_other c.versions (place_of source) (place_of s) (c.last + 1) 0 n
+  there : (s : Source) → source_index s ≢ source_index source → version_of (raised c source) s ≡ version_of c s
+  there s n = get_or-set_other c.versions (source_index source) (source_index s) (c.last + 1) 0 n
 
   up : AreLow c → (s : Source) → version_of c s ≤ version_of (raised c source) s
-  up low s = elim (cases_eq (place_of s) (place_of source)) [
+  up low s = elim (cases_eq (source_index s) (source_index source)) [
     | inl e ↦
-        let is : version_of (raised c source) s ≡ c.last + 1 = ap (λ p. get_or (set c.versions (place_of source) (c.last + 1)) p 0) e ∙ here in
-        let under : version_of c s ≤ c.last = low.versions (place_of s) in
+        let is : version_of (raised c source) s ≡ c.last + 1 = ap (λ p. get_or (set c.versions (source_index source) (c.last + 1)) p 0) e ∙ here in
+        let under : version_of c s ≤ c.last = low.versions (source_index s) in
         omega (arith, is, under)
     | inr n ↦ let is = there s n in omega (arith, is)
   ]
 
-  capped : AreLow c → (p : ℕ) → get_or (set c.versions (place_of source) (c.last + 1)) p 0 ≤ c.last + 1
-  capped low p = elim (cases_eq p (place_of source)) [
+  capped : AreLow c → (p : ℕ) → get_or (set c.versions (source_index source) (c.last + 1)) p 0 ≤ c.last + 1
+  capped low p = elim (cases_eq p (source_index source)) [
     | inl e ↦
-        let is : get_or (set c.versions (place_of source) (c.last + 1)) p 0 ≡ c.last + 1 = ap (λ q. get_or (set c.versions (place_of source) (c.last + 1)) q 0) e ∙ here in
+        let is : get_or (set c.versions (source_index source) (c.last + 1)) p 0 ≡ c.last + 1 = ap (λ q. get_or (set c.versions (source_index source) (c.last + 1)) q 0) e ∙ here in
         omega (arith, is)
     | inr n ↦
-        let is : get_or (set c.versions (place_of source) (c.last + 1)) p 0 ≡ get_or c.versions p 0 = get_or-set_other c.versions (place_of source) p (c.last + 1) 0 n in
+        let is : get_or (set c.versions (source_index source) (c.last + 1)) p 0 ≡ get_or c.versions p 0 = get_or-set_other c.versions (source_index source) p (c.last + 1) 0 n in
         let under : get_or c.versions p 0 ≤ c.last = low.versions p in
         omega (arith, is, under)
   ]
@@ -49,7 +49,7 @@ module _ (a : App) (source : Source) (c : Kept) (place : place_of source < lengt
 
   on : (k n : ℕ) → (Reaches a k source → ⊥) → IsCurrent a c k n → IsCurrent a (raised c source) k n
   on k n far current s plain z =
-      let other : place_of s ≢ place_of source = λ e. far (subst (Reaches a k) (one_place s source e) z) in
+      let other : source_index s ≢ source_index source = λ e. far (subst (Reaches a k) (one_place s source e) z) in
       subst (λ v. v ≤ n) (sym (there s other)) (current s plain z)
 
   pub raised_order : is_cell source ≡ false → IsInOrder a c → IsInOrder a (raised c source)
@@ -57,7 +57,7 @@ module _ (a : App) (source : Source) (c : Kept) (place : place_of source < lengt
     few = o.few;
     stamps = o.stamps;
     values = o.values;
-    places = λ s h. let l = length-set c.versions (place_of source) (c.last + 1) in let before = o.places s h in subst (λ n. place_of s < n) (sym l) before;
+    places = λ s h. let l = length-set c.versions (source_index source) (c.last + 1) in let before = o.places s h in subst (λ n. source_index s < n) (sym l) before;
     fits = o.fits;
     bare = o.bare;
     alone = o.alone;

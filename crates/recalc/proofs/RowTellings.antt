@@ -10,7 +10,7 @@ use Rattle.fx_types.specs.Types.{Shape, tables}
 use Rattle.fx_types.specs.Values.{Data}
 use Rattle.fx_eval.proofs.of_fx_plan.Placing.{lawful_at}
 use Rattle.fx_env.specs.Queries.{AreValuesOf, KeepsTables}
-use Rattle.fx_env.specs.Telling.{Told, tables_told, values_told}
+use Rattle.fx_env.specs.Telling.{EnvState, tables_told, values_told}
 use Rattle.fx_semantics.specs.Sources.{FitsIn, Gives, IsTold}
 use Rattle.fx_core.specs.Lawful.{IsLawfulSchema, IsLawfulTable}
 use Rattle.fx_core.specs.SourceTypes.{columns_of}
@@ -21,10 +21,10 @@ use Rattle.fx_core.specs.declared.sources.Source.{Source}
 use Rattle.fx_value.specs.Fits.{fits_in}
 use Rattle.recalc.proofs.Tellings.{is_held, typed_fits}
 use Rattle.recalc.specs.Queries.{IsTableValue}
-use Rattle.recalc.specs.Reading.{Kept, cell_value, fixed_over, told_by, told_over, types_over}
-use Rattle.row_keeper.specs.Tables.{Tables, rows_of, rows_told}
+use Rattle.recalc.specs.Reading.{KeeperState, cell_value, fixed_over, told_by, told_over, types_over}
+use Rattle.row_keeper.specs.Tables.{Tables, rows_of_tables, rows_told}
 use Rattle.row_queries.specs.Laws.{RowsFit}
-use Rattle.row_queries.specs.TableRows.{table_of}
+use Rattle.row_queries.specs.TableRows.{rows_table}
 use Rattle.row_queries.specs.declared.rows.Row.{Row}
 use Rattle.session_state.specs.Changes.{IsOwn}
 use Rattle.session_state.specs.Sessions.{Holds, SessionState}
@@ -62,11 +62,11 @@ keeps_tables day n s values reads told limit loans mode b y lawful = record {
   values = λ w e. by y w e;
 }
   where
-    by : (y : Option Tables) (w : Told Kept) → option_map (told_over day n s values b) y ≡ Some w → AreValuesOf n.schema.tables w.values w.tables
+    by : (y : Option Tables) (w : EnvState KeeperState) → option_map (told_over day n s values b) y ≡ Some w → AreValuesOf n.schema.tables w.values w.tables
     by None w e = absurd cc
     by (Some a) w e =
         let same : told_over day n s values b a ≡ w = cc in
-        subst (λ (x : Told Kept). AreValuesOf n.schema.tables x.values x.tables) same (λ k t there. ap (λ (o : Option TableShape). table_told o (Some (rows_of a.states)) k) there)
+        subst (λ (x : EnvState KeeperState). AreValuesOf n.schema.tables x.values x.tables) same (λ k t there. ap (λ (o : Option TableShape). table_told o (Some (rows_of_tables a.states)) k) there)
 
 -- what a table gives
 pub table_given : RowsFit → (day : Data) (n : Names) (s : SessionState) (values : List Data) (reads : List Source) (told : Source → Data) (b y : Option Tables) (k : ℕ) (x : Source) (v : Data) →
@@ -85,7 +85,7 @@ table_given fit day n s values reads told b y k x v lawful e h =
 
     by : (y : Option Tables) → IsTableValue n.schema.tables (rows_told y) k v → IsTold (values_told (option_map (told_over day n s values b) y)) (source.Table k) v
     by None t = tt
-    by (Some a) t = t.is ∙ ap (table_of t.table) t.told_rows ∙ sym (ap (λ (o : Option TableShape). table_told o (Some (rows_of a.states)) k) t.is_table)
+    by (Some a) t = t.is ∙ ap (rows_table t.table) t.told_rows ∙ sym (ap (λ (o : Option TableShape). table_told o (Some (rows_of_tables a.states)) k) t.is_table)
 
 -- what another source gives
 told_same : (day : Data) (n : Names) (s : SessionState) (values : List Data) (rows : List (List Row)) (x : Source) → IsNoTable x → told_by day n s values x ≡ told_on day n s (Some rows) (cell_value values) x
@@ -115,4 +115,4 @@ other_given day n s values reads b y x v u h e =
   where
     by : (y : Option Tables) → IsTold (values_told (option_map (told_over day n s values b) y)) x v
     by None = tt
-    by (Some a) = e ∙ told_same day n s values (rows_of a.states) x u
+    by (Some a) = e ∙ told_same day n s values (rows_of_tables a.states) x u

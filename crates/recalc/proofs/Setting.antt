@@ -11,30 +11,30 @@ use Rattle.fx_value.specs.Fits.{fits_in}
 use Rattle.recalc.proofs.Asked.{heard_before}
 use Rattle.recalc.specs.Asking.{HasRead, IsHeardOf, Keeping, ToldRows}
 use Rattle.recalc.specs.Reading.{cell_value}
-use Rattle.recalc.specs.Values.{Values}
+use Rattle.recalc.specs.Values.{CellValues}
 use Rattle.recalc.specs.app_cells.declared.app.App.{App}
 use Rattle.recalc.specs.app_cells.declared.app.CellInfo.{CellInfo}
 use Rattle.recalc.specs.app_semantics.Fresh.{IsCellValue}
 use Rattle.recalc.specs.app_semantics.Needed.{is_alone}
 use Rattle.recalc.specs.app_semantics.Present.{present}
-use Rattle.recalc.specs.app_semantics.Sound.{IsSound}
+use Rattle.recalc.specs.app_semantics.Sound.{IsSoundApp}
 use Rattle.row_keeper.specs.Tables.{Tables}
 use Rattle.session_state.specs.Sessions.{SessionState}
 use Rattle.recalc.proofs.Places.{one_stamp, some_stamp}
 use Rattle.recalc.proofs.Stepping.{IsSet, stepped_order, stepped_right, with_one}
-use Rattle.recalc.specs.Kept.{IsClean, IsInOrder, IsRight, IsUnmoved, Kept, Leans, place_of, stamp_of, value_of}
+use Rattle.recalc.specs.Kept.{IsClean, IsInOrder, IsRight, IsUnmoved, CacheState, Leans, source_index, stamp_of, cached_value}
 use Rattle.recalc.specs.Outcomes.{IsRightOver}
 use Rattle.recalc.specs.Steps.{IsBrought, WasMoved, confirmed, kept_with}
 use Rattle.recalc.specs.declared.stamps.Stamp.{Stamp}
 
 -- the stamp and the values of a cell that was evaluated
-abbrev pub new_stamp : Kept → ℕ → Stamp
+abbrev pub new_stamp : CacheState → ℕ → Stamp
 new_stamp c n = record { checked = c.last + 1; moved = n }
 
-abbrev pub new_values : Kept → ℕ → Data → Values
+abbrev pub new_values : CacheState → ℕ → Data → CellValues
 new_values c k v = record { cells = set c.values.cells k v; day = c.values.day }
 
-pub kept_set : (a : App) (c : Kept) (k n : ℕ) (v : Data) → IsInOrder a c → k < length a.cells → WasMoved c k v n → IsSet c (c.last + 1) (set c.stamps k (Some (new_stamp c n))) (new_values c k v) k (new_stamp c n)
+pub kept_set : (a : App) (c : CacheState) (k n : ℕ) (v : Data) → IsInOrder a c → k < length a.cells → WasMoved c k v n → IsSet c (c.last + 1) (set c.stamps k (Some (new_stamp c n))) (new_values c k v) k (new_stamp c n)
 kept_set a c k n v o low was =
     let stamps = o.stamps in
     let values = o.values in
@@ -57,7 +57,7 @@ kept_set a c k n v o low was =
       ];
     }
 
-pub confirmed_set : (a : App) (c : Kept) (k : ℕ) (e : Stamp) → IsInOrder a c → k < length a.cells → stamp_of c k ≡ Some e →
+pub confirmed_set : (a : App) (c : CacheState) (k : ℕ) (e : Stamp) → IsInOrder a c → k < length a.cells → stamp_of c k ≡ Some e →
     IsSet c c.last (set c.stamps k (Some (record { checked = c.last; moved = e.moved }))) c.values k (record { checked = c.last; moved = e.moved })
 confirmed_set a c k e o low at =
     let stamps = o.stamps in
@@ -74,10 +74,10 @@ confirmed_set a c k e o low at =
     }
 
 -- a cell that was set was brought up to date
-pub set_brought : (a : App) (c : Kept) (now : ℕ) (stamps : List (Option Stamp)) (values : Values) (k : ℕ) (e : Stamp) → IsInOrder a c → values.day ≡ c.values.day → now ≤ c.last + 1 → IsSet c now stamps values k e →
+pub set_brought : (a : App) (c : CacheState) (now : ℕ) (stamps : List (Option Stamp)) (values : CellValues) (k : ℕ) (e : Stamp) → IsInOrder a c → values.day ≡ c.values.day → now ≤ c.last + 1 → IsSet c now stamps values k e →
     IsBrought a k c (with_one c now stamps values)
 set_brought a c now stamps values k e o day near h = record {
-  clean = (e, h.here, λ s plain z. let under = o.low.versions (place_of s) in let later = h.later in let is = h.checked in omega (arith, under, later, is));
+  clean = (e, h.here, λ s plain z. let under = o.low.versions (source_index s) in let later = h.later in let is = h.checked in omega (arith, under, later, is));
   others = h.there;
   values = h.others;
   emptied = refl;
@@ -92,7 +92,7 @@ set_brought a c now stamps values k e o day near h = record {
       | inl q ↦
           let mine : e ≡ y = one_stamp (slice_index_or stamps k None) e y h.here (subst (λ m. slice_index_or stamps m None ≡ Some y) q there) in
           let was : stamp_of c k ≡ Some x = subst (λ m. stamp_of c m ≡ Some x) q at in
-          let value : value_of c k ≡ cell_value values.cells k = subst (λ m. value_of c m ≡ cell_value values.cells m) q same in
+          let value : cached_value c k ≡ cell_value values.cells k = subst (λ m. cached_value c m ≡ cell_value values.cells m) q same in
           ap (λ (z : Stamp). z.moved) (sym mine) ∙ elim h.moved [
             | inl old ↦ old.3 ∙ ap (λ (z : Stamp). z.moved) (one_stamp (stamp_of c k) old.0 x old.1 was)
             | inr new ↦ absurd (new.0 x was value)
@@ -106,11 +106,11 @@ set_brought a c now stamps values k e o day near h = record {
 }
 
 -- what is heard of later is right as before
-pub right_on : (a : App) (s : SessionState) (m : ℕ) (c : Kept) (before after : Keeping) → HasRead before after → IsRightOver a s before.told m c → IsRightOver a s after.told m c
+pub right_on : (a : App) (s : SessionState) (m : ℕ) (c : CacheState) (before after : Keeping) → HasRead before after → IsRightOver a s before.told m c → IsRightOver a s after.told m c
 right_on a s m c before after read right = λ tables heard. right tables (heard_before before after read tables heard)
 
 -- ---- one cell, whose value doesn't stand while the values of all stand on which it leans
-module _ (a : App) (c : Kept) (k : ℕ) (i : CellInfo) (sound : IsSound a) (at : slice_get a.cells k ≡ Some i) (alone : is_alone a.cells k ≡ true) (unclean : IsClean a c k → ⊥)
+module _ (a : App) (c : CacheState) (k : ℕ) (i : CellInfo) (sound : IsSoundApp a) (at : slice_get a.cells k ≡ Some i) (alone : is_alone a.cells k ≡ true) (unclean : IsClean a c k → ⊥)
     (parts : (d : ℕ) → Leans a k d → IsClean a c d) (o : IsInOrder a c) where
   low : k < length a.cells
   low = slice_get_within a.cells k i at
@@ -133,11 +133,11 @@ module _ (a : App) (c : Kept) (k : ℕ) (i : CellInfo) (sound : IsSound a) (at :
     evaluated_order = stepped_order a c (c.last + 1) (set c.stamps k (Some (new_stamp c n))) (new_values c k v) k (new_stamp c n) i sound at alone unclean parts fitted is_set o
 
     pub evaluated_right : (s : SessionState) (m : ℕ) (before after : Keeping) → HasRead before after → IsRightOver a s before.told m c →
-        ((tables : ToldRows) → IsHeardOf after.told tables → IsCellValue (present a s tables m) (value_of c) i v) → IsRightOver a s after.told m (kept_with c k v n)
+        ((tables : ToldRows) → IsHeardOf after.told tables → IsCellValue (present a s tables m) (cached_value c) i v) → IsRightOver a s after.told m (kept_with c k v n)
     evaluated_right s m before after read right made = λ tables heard.
         stepped_right a c (c.last + 1) (set c.stamps k (Some (new_stamp c n))) (new_values c k v) k (new_stamp c n) i sound at alone unclean parts fitted is_set s tables m
         (right tables (heard_before before after read tables heard))
-        (subst (IsCellValue (present a s tables m) (value_of c) i) (sym value) (made tables heard))
+        (subst (IsCellValue (present a s tables m) (cached_value c) i) (sym value) (made tables heard))
 
     pub evaluated_brought : IsBrought a k c (kept_with c k v n)
     evaluated_brought = set_brought a c (c.last + 1) (set c.stamps k (Some (new_stamp c n))) (new_values c k v) k (new_stamp c n) o refl (omega arith) is_set

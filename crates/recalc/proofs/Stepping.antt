@@ -8,42 +8,42 @@ use Rattle.fx_value.specs.Fits.{fits_in}
 use Rattle.recalc.proofs.Kept.{moved}
 use Rattle.recalc.specs.Asking.{ToldRows}
 use Rattle.recalc.specs.Reading.{cell_value}
-use Rattle.recalc.specs.Values.{Values}
+use Rattle.recalc.specs.Values.{CellValues}
 use Rattle.recalc.specs.app_cells.Leaning.{LeansOn}
 use Rattle.recalc.specs.app_cells.declared.app.App.{App}
 use Rattle.recalc.specs.app_cells.declared.app.CellInfo.{CellInfo}
 use Rattle.recalc.specs.app_semantics.Fresh.{IsCellValue}
 use Rattle.recalc.specs.app_semantics.Needed.{is_alone}
 use Rattle.recalc.specs.app_semantics.Present.{present}
-use Rattle.recalc.specs.app_semantics.Sound.{IsSound}
+use Rattle.recalc.specs.app_semantics.Sound.{IsSoundApp}
 use Rattle.session_state.specs.Sessions.{SessionState}
 use Rattle.recalc.proofs.Agreeing.{not_itself}
-use Rattle.recalc.specs.Kept.{IsClean, IsInOrder, IsRight, IsUnmoved, Kept, Leans, stamp_of, value_of}
+use Rattle.recalc.specs.Kept.{IsClean, IsInOrder, IsRight, IsUnmoved, CacheState, Leans, stamp_of, cached_value}
 use Rattle.recalc.specs.declared.stamps.Stamp.{Stamp}
 
 -- a cache with another stamp and value of one cell
-abbrev pub with_one : Kept → ℕ → List (Option Stamp) → Values → Kept
+abbrev pub with_one : CacheState → ℕ → List (Option Stamp) → CellValues → CacheState
 with_one c now stamps values = record c { last = now; stamps = stamps; values = values }
 
 -- the cell has this stamp, by which it moved as before with the same value or moves after all that was; others are as before
-pub record IsSet (c : Kept) (now : ℕ) (stamps : List (Option Stamp)) (values : Values) (k : ℕ) (e : Stamp) : Type 0 where
+pub record IsSet (c : CacheState) (now : ℕ) (stamps : List (Option Stamp)) (values : CellValues) (k : ℕ) (e : Stamp) : Type 0 where
   pub here : slice_index_or stamps k None ≡ Some e
   pub there : (d : ℕ) → d ≢ k → slice_index_or stamps d None ≡ stamp_of c d
-  pub others : (d : ℕ) → d ≢ k → cell_value values.cells d ≡ value_of c d
+  pub others : (d : ℕ) → d ≢ k → cell_value values.cells d ≡ cached_value c d
   pub cells : length stamps ≡ length c.stamps
   pub long : length values.cells ≡ length c.values.cells
   pub later : c.last ≤ now
   pub checked : e.checked ≡ now
   pub low : e.moved ≤ now
-  pub moved : ((f : Stamp) × (stamp_of c k ≡ Some f) × (cell_value values.cells k ≡ value_of c k) × (e.moved ≡ f.moved)) ⊎ (((f : Stamp) → stamp_of c k ≡ Some f → value_of c k ≡ cell_value values.cells k → ⊥) × (c.last < e.moved))
+  pub moved : ((f : Stamp) × (stamp_of c k ≡ Some f) × (cell_value values.cells k ≡ cached_value c k) × (e.moved ≡ f.moved)) ⊎ (((f : Stamp) → stamp_of c k ≡ Some f → cached_value c k ≡ cell_value values.cells k → ⊥) × (c.last < e.moved))
 
 one_stamp : (o : Option Stamp) (e f : Stamp) → o ≡ Some e → o ≡ Some f → e ≡ f
 one_stamp o e f p q = let both : Some e ≡ Some f = sym p ∙ q in cc
 
-module _ (a : App) (c : Kept) (now : ℕ) (stamps : List (Option Stamp)) (values : Values) (k : ℕ) (e : Stamp) (i : CellInfo)
-    (sound : IsSound a) (at : slice_get a.cells k ≡ Some i) (alone : is_alone a.cells k ≡ true) (unclean : IsClean a c k → ⊥)
+module _ (a : App) (c : CacheState) (now : ℕ) (stamps : List (Option Stamp)) (values : CellValues) (k : ℕ) (e : Stamp) (i : CellInfo)
+    (sound : IsSoundApp a) (at : slice_get a.cells k ≡ Some i) (alone : is_alone a.cells k ≡ true) (unclean : IsClean a c k → ⊥)
     (parts : (d : ℕ) → Leans a k d → IsClean a c d) (fit : fits_in (cell_value values.cells k) (shape i.ty) ≡ true) (h : IsSet c now stamps values k e) where
-  new : Kept
+  new : CacheState
   new = with_one c now stamps values
 
   same_info : (j : ℕ) (i' : CellInfo) → j ≡ k → slice_get a.cells j ≡ Some i' → i ≡ i'
@@ -109,17 +109,17 @@ module _ (a : App) (c : Kept) (now : ℕ) (stamps : List (Option Stamp)) (values
   }
 
   -- a cell that another one finds settled at a number of before was so, with the same value
-  behind : (d n : ℕ) (g : Stamp) → n ≤ c.last → d ≡ k → slice_index_or stamps d None ≡ Some g → g.moved ≤ n → (f : Stamp) × (stamp_of c d ≡ Some f) × (f.moved ≤ n) × (cell_value values.cells d ≡ value_of c d)
+  behind : (d n : ℕ) (g : Stamp) → n ≤ c.last → d ≡ k → slice_index_or stamps d None ≡ Some g → g.moved ≤ n → (f : Stamp) × (stamp_of c d ≡ Some f) × (f.moved ≤ n) × (cell_value values.cells d ≡ cached_value c d)
   behind d n g low q there le =
       let is : g.moved ≡ e.moved = ap (λ (x : Stamp). x.moved) (sym (mine d g q there)) in
       elim h.moved [
         | inl old ↦
             let same = old.3 in
-            (old.0, subst (λ (m : ℕ). stamp_of c m ≡ Some old.0) (sym q) old.1, omega (arith, is, le, same), subst (λ m. cell_value values.cells m ≡ value_of c m) (sym q) old.2)
+            (old.0, subst (λ (m : ℕ). stamp_of c m ≡ Some old.0) (sym q) old.1, omega (arith, is, le, same), subst (λ m. cell_value values.cells m ≡ cached_value c m) (sym q) old.2)
         | inr late ↦ let l = late.1 in absurd (omega (arith, is, le, l, low))
       ]
 
-  pub stepped_right : (s : SessionState) (tables : ToldRows) (m : ℕ) → IsRight (present a s tables m) [] c → IsCellValue (present a s tables m) (value_of c) i (cell_value values.cells k) →
+  pub stepped_right : (s : SessionState) (tables : ToldRows) (m : ℕ) → IsRight (present a s tables m) [] c → IsCellValue (present a s tables m) (cached_value c) i (cell_value values.cells k) →
       IsRight (present a s tables m) [] (with_one c now stamps values)
   stepped_right s tables m r value = record {
     order = stepped_order r.order;
@@ -128,7 +128,7 @@ module _ (a : App) (c : Kept) (now : ℕ) (stamps : List (Option Stamp)) (values
           let same : i ≡ i' = same_info j i' q is in
           subst (λ n. IsCellValue (present a s tables m) (cell_value values.cells) i' (cell_value values.cells n)) (sym q)
           (subst (λ (x : CellInfo). IsCellValue (present a s tables m) (cell_value values.cells) x (cell_value values.cells k)) same
-          (moved (present a s tables m) (value_of c) (cell_value values.cells) i (cell_value values.cells k)
+          (moved (present a s tables m) (cached_value c) (cell_value values.cells) i (cell_value values.cells k)
           (λ d leans. sym (h.others d (λ p. not_itself a k i sound at (subst (LeansOn a.names i) p leans)))) value))
       | inr n ↦
           let low : f.checked ≤ c.last = r.order.low.checked j f (was j f n there) in
@@ -141,9 +141,9 @@ module _ (a : App) (c : Kept) (now : ℕ) (stamps : List (Option Stamp)) (values
                   | inr o ↦ (g.0, sym (h.there d o) ∙ g.1, g.2)
                 ];
           } in
-          let old : IsCellValue (present a s tables m) (value_of c) i' (value_of c j) = r.valid j f i' (was j f n there) is none before in
+          let old : IsCellValue (present a s tables m) (cached_value c) i' (cached_value c j) = r.valid j f i' (was j f n there) is none before in
           subst (IsCellValue (present a s tables m) (cell_value values.cells) i') (sym (h.others j n))
-          (moved (present a s tables m) (value_of c) (cell_value values.cells) i' (value_of c j)
+          (moved (present a s tables m) (cached_value c) (cell_value values.cells) i' (cached_value c j)
           (λ d leans. elim (cases_eq d k) [
             | inl p ↦
                 let g = unmoved.cells d leans (subst (λ x. is_alone a.cells x ≡ true) (sym p) alone) in

@@ -4,7 +4,7 @@ use Rattle.std.specs.Prelude.{option_map}
 use Rattle.app_semantics.specs.app_cells.declared.app.App.{App}
 use Rattle.app_semantics.proofs.Typings.{typed_read}
 use Rattle.app_semantics.specs.Fresh.{reads_table}
-use Rattle.app_semantics.specs.Sound.{IsSound, context_at}
+use Rattle.app_semantics.specs.Sound.{IsSoundApp, context_at}
 use Rattle.fx_types.specs.TypeView.{shape}
 use Rattle.fx_types.specs.Types.{Shape, tables}
 use Rattle.fx_core.specs.Reads.{IsAmong}
@@ -36,7 +36,7 @@ none_read n e (source.Chosen k ∷ rs) typed = none_read n e rs (λ s a. typed s
 none_read n e (source.Today ∷ rs) typed = none_read n e rs (λ s a. typed s (inr a))
 
 -- what a formula reads has a type
-pub reads_none : (a : App) → IsSound a → a.names.schema.tables ≡ [] → ReadsNone a
+pub reads_none : (a : App) → IsSoundApp a → a.names.schema.tables ≡ [] → ReadsNone a
 reads_none a sound e k c there =
     let cell = sound.cells k c there in
     none_read a.names e c.reads (λ s among. typed_read c.core (context_at a.names c.cell.item) (shape c.ty) s cell.typed ((cell.reads s).0 among))

@@ -7,18 +7,18 @@ use Rattle.std.proofs.lemmas.List.Sorted.{IsPermutation-refl}
 use Rattle.fx_eval.specs.fx_plan.Ranges.{everything}
 use Rattle.fx_value.specs.Keys.{key_bytes}
 use Rattle.fx_eval.proofs.of_fx_plan.Arranged.{by_number}
-use Rattle.fx_base.specs.Silence.{Goes}
+use Rattle.fx_base.specs.Silence.{MayFallSilent}
 use Rattle.fx_base.specs.Telling.{Stays}
 use Rattle.fx_types.specs.ValueView.{view}
 use Rattle.fx_types.specs.Values.{Data}
 use Rattle.fx_types.specs.declared.values.Value.{Value}
 use Rattle.fx_core.specs.declared.schema.TableShape.{TableShape}
 use Rattle.recalc.specs.Queries.{IsTableValue, whole_table}
-use Rattle.row_keeper.specs.Tables.{Tables, rows_of, rows_told}
+use Rattle.row_keeper.specs.Tables.{Tables, rows_of_tables, rows_told}
 use Rattle.row_keeper.specs.declared.keeper.KeeperEnd.{KeeperEnd}
 use Rattle.row_queries.specs.Answers.{IsScanValue, table_or_fault}
 use Rattle.row_queries.specs.Laws.{AskedOnce}
-use Rattle.row_queries.specs.Queries.{AreAsked, IsScanned, first_fault, given_of, lies, outcome_on, rows_or_fault}
+use Rattle.row_queries.specs.Queries.{AreAsked, IsScanned, first_outcome_fault, given_of, lies, outcome_on, rows_or_fault}
 use Rattle.row_queries.specs.Ranges.{in_ranges}
 use Rattle.row_queries.specs.TableRows.{AreInIdOrder, rows_at, value_at, values_of}
 use Rattle.row_queries.specs.Visits.{VisitsTold}
@@ -34,7 +34,7 @@ kept : (p : Row → Bool) → ((r : Row) → p r ≡ true) → (rows : List Row)
 kept p h [] = refl
 kept p h (r ∷ rs) = ap (λ b. if b then r ∷ filter p rs else filter p rs) (h r) ∙ ap (λ xs. r ∷ xs) (kept p h rs)
 
-none_failed : (k : ℕ) (rows : List Row) → first_fault (map (outcome_on (whole_table k)) rows) ≡ None
+none_failed : (k : ℕ) (rows : List Row) → first_outcome_fault (map (outcome_on (whole_table k)) rows) ≡ None
 none_failed k [] = refl
 none_failed k (r ∷ rs) = none_failed k rs
 
@@ -44,7 +44,7 @@ whole_is once k rows a order h =
     let all : filter (lies (whole_table k)) rows ≡ rows = kept (lies (whole_table k)) (λ r. holds_key (key_bytes (value_at (values_of r) 0))) rows in
     let own : AreAsked (whole_table k) rows rows = record { rearranged = subst (λ xs. IsPermutation xs rows) (sym all) (IsPermutation-refl rows); sorted = by_number rows order } in
     let same : h.0 ≡ rows = once (whole_table k) rows h.0 rows order h.1 own in
-    h.2 ∙ ap (λ xs. rows_or_fault (given_of (whole_table k) xs) (first_fault (map (outcome_on (whole_table k)) xs))) same
+    h.2 ∙ ap (λ xs. rows_or_fault (given_of (whole_table k) xs) (first_outcome_fault (map (outcome_on (whole_table k)) xs))) same
     ∙ ap (rows_or_fault (given_of (whole_table k) rows)) (none_failed k rows)
     ∙ ap (λ xs. rows_or_fault xs None) (kept (λ r. true) (λ r. refl) rows)
 
@@ -73,12 +73,12 @@ filter_short q (r ∷ rows) = by (lies q r) (filter_short q rows)
     by false l = omega (arith, l)
 
 -- a scan of a table visits no more than its rows
-pub told_whole : (k : ℕ) (q : Query) (x y : Option Tables) (before now : ℕ) (lost : Type 0) → q ≡ whole_table k → Goes lost Stays x y → VisitsTold (rows_told x) q before now →
+pub told_whole : (k : ℕ) (q : Query) (x y : Option Tables) (before now : ℕ) (lost : Type 0) → q ≡ whole_table k → MayFallSilent lost Stays x y → VisitsTold (rows_told x) q before now →
     IfSome (rows_told y) (λ rows. now ≤ before + length (rows_at rows k))
 told_whole k q x None before now lost e g h = tt
 told_whole k q None (Some t) before now lost e g h = absurd cc
 told_whole k q (Some s) (Some t) before now lost e g h =
     let same : q.table ≡ k = ap (λ (z : Query). z.table) e in
-    let short = filter_short q (rows_at (rows_of s.states) q.table) in
-    let at : length (rows_at (rows_of s.states) q.table) ≡ length (rows_at (rows_of t.states) k) = ap (λ j. length (rows_at (rows_of s.states) j)) same ∙ ap (λ (z : Tables). length (rows_at (rows_of z.states) k)) (sym g) in
+    let short = filter_short q (rows_at (rows_of_tables s.states) q.table) in
+    let at : length (rows_at (rows_of_tables s.states) q.table) ≡ length (rows_at (rows_of_tables t.states) k) = ap (λ j. length (rows_at (rows_of_tables s.states) j)) same ∙ ap (λ (z : Tables). length (rows_at (rows_of_tables z.states) k)) (sym g) in
     omega (arith, h, short, at)

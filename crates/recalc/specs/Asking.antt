@@ -3,7 +3,7 @@ use Rattle.std.specs.Prelude.{◌≡◌, ◌⊎◌, ◌≤◌, Bool, false, ℕ,
 use Rattle.app_semantics.specs.app_cells.declared.app.App.{App}
 use Rattle.app_semantics.specs.app_cells.declared.app.CellInfo.{CellInfo}
 use Rattle.app_semantics.specs.Fresh.{reads_table}
-use Rattle.fx_base.specs.Silence.{Goes, IsLater, IsLost, Marks}
+use Rattle.fx_base.specs.Silence.{MayFallSilent, IsLater, SilenceCause, Marks}
 use Rattle.fx_base.specs.Telling.{Stays}
 use Rattle.fx_env.specs.Telling.{IsHeard}
 use Rattle.fx_core.specs.declared.schema.Schema.{Schema}
@@ -25,8 +25,8 @@ keeping told began shaped in_transaction marks visited loan = record { told = to
 
 -- nothing changed, but that it may have fallen silent, and counted faults
 pub record HasRead (a b : Keeping) : Type 0 where
-  pub told : Goes (IsLost a.marks b.marks) Stays a.told b.told
-  pub began : Goes (IsLost a.marks b.marks) Stays a.began b.began
+  pub told : MayFallSilent (SilenceCause a.marks b.marks) Stays a.told b.told
+  pub began : MayFallSilent (SilenceCause a.marks b.marks) Stays a.began b.began
   pub shaped : b.shaped ≡ a.shaped
   pub mode : b.in_transaction ≡ a.in_transaction
   pub later : IsLater a.marks b.marks

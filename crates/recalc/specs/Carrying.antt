@@ -17,7 +17,7 @@ use Rattle.recalc.specs.app_semantics.Needed.{Needs, is_alone, stands_alone}
 use Rattle.recalc.specs.app_semantics.Present.{present}
 use Rattle.session_state.specs.Carrying.{AreAlike, carried, collection_was, variable_was, was_at}
 use Rattle.session_state.specs.Sessions.{SessionState}
-use Rattle.recalc.specs.Kept.{IsClean, IsInOrder, IsRight, Kept, Leans, stamp_of, value_of}
+use Rattle.recalc.specs.Kept.{IsClean, IsInOrder, IsRight, CacheState, Leans, stamp_of, cached_value}
 use Rattle.recalc.specs.declared.stamps.Stamp.{Stamp}
 
 -- an app that was edited: it has the tables, the screens and the controls that it had, and its limit
@@ -86,18 +86,18 @@ abbrev pub top_of : Term → Top
 top_of (of h ts) = h
 
 -- the trees under it
-abbrev pub parts_of : Term → Terms
-parts_of (of h ts) = ts
+abbrev pub subtrees : Term → Terms
+subtrees (of h ts) = ts
 
 -- the one at a place
-abbrev pub part_at : Terms → ℕ → Option Term
-part_at nil k = None
-part_at (cons t ts) zero = Some t
-part_at (cons t ts) (suc k) = part_at ts k
+abbrev pub subtree_at : Terms → ℕ → Option Term
+subtree_at nil k = None
+subtree_at (cons t ts) zero = Some t
+subtree_at (cons t ts) (suc k) = subtree_at ts k
 
 -- none stands after a place
 abbrev pub IsPast : ℕ → Terms → Type 0
-IsPast n ts = (k : ℕ) → n < k → part_at ts k ≡ None
+IsPast n ts = (k : ℕ) → n < k → subtree_at ts k ≡ None
 
 -- one part is the old one, or neither is there
 abbrev pub IsOldPart : (Source → Source → Type 0) → Option Term → Option Term → Type 0
@@ -137,30 +137,30 @@ pub record AreOldCells (old new : App) (cells : List (Option ℕ)) : Type 0 wher
   pub long : length cells ≡ length new.cells
 
 -- the value of a cell was taken out
-abbrev pub taken_from : Kept → ℕ → Kept
+abbrev pub taken_from : CacheState → ℕ → CacheState
 taken_from c k = record c { values = record c.values { cells = slice_set c.values.cells k blank } }
 
 -- a cell is kept with this value, which it has since this number, and was checked now
-abbrev pub received : Kept → ℕ → Data → ℕ → Kept
+abbrev pub received : CacheState → ℕ → Data → ℕ → CacheState
 received c k v moved = record c {
   stamps = slice_set c.stamps k (Some (record { checked = c.last; moved = moved }));
   values = record c.values { cells = slice_set c.values.cells k v };
 }
 
 -- all cells with a value by themselves on which one leans are kept
-abbrev pub AreHad : App → Kept → ℕ → Type 0
+abbrev pub AreHad : App → CacheState → ℕ → Type 0
 AreHad a c k = (d : ℕ) → Leans a k d → IsSome (stamp_of c d)
 
 -- ONE CELL went over: it was clean and all is kept there on which it leans, and the value went from the one cache to the other;
 -- or it was not so, and both are as they were
-abbrev pub IsCarriedAt : App → App → ℕ → ℕ → Kept → Kept → Kept → Kept → Type 0
+abbrev pub IsCarriedAt : App → App → ℕ → ℕ → CacheState → CacheState → CacheState → CacheState → Type 0
 IsCarriedAt old new j k from left before after =
-    ((e : Stamp) × (stamp_of from j ≡ Some e) × IsClean old from j × AreHad new before k × (left ≡ taken_from from j) × (after ≡ received before k (value_of from j) e.moved))
+    ((e : Stamp) × (stamp_of from j ≡ Some e) × IsClean old from j × AreHad new before k × (left ≡ taken_from from j) × (after ≡ received before k (cached_value from j) e.moved))
     ⊎ ((IsClean old from j → AreHad new before k → ⊥) × (left ≡ from) × (after ≡ before))
 
 -- CARRIED to an edited app: kept are the cells that were clean and that the edit left, with their values and since when they have
 -- them, and they are clean. No other cell is. Over the sessions that are carried what was right is right.
-pub record IsCarried (old new : App) (before after : Kept) : Type 0 where
+pub record IsCarried (old new : App) (before after : CacheState) : Type 0 where
   pub emptied : after.emptied ≡ before.emptied
   pub last : after.last ≡ before.last
   pub day : after.values.day ≡ before.values.day

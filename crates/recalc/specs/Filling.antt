@@ -8,11 +8,11 @@ use Rattle.recalc.specs.app_cells.declared.app.App.{App}
 use Rattle.recalc.specs.app_cells.declared.app.CellInfo.{CellInfo}
 use Rattle.recalc.specs.app_semantics.Needed.{is_alone}
 use Rattle.recalc.specs.Carrying.{AreHad, IsOldCell, cell_was}
-use Rattle.recalc.specs.Kept.{IsClean, IsInOrder, IsSourceOf, Kept, place_of, stamp_of, value_of}
+use Rattle.recalc.specs.Kept.{IsClean, IsInOrder, IsSourceOf, CacheState, source_index, stamp_of, cached_value}
 use Rattle.recalc.specs.declared.stamps.Stamp.{Stamp}
 
 -- of a cell that is kept: the cell that it was, which was clean, and whose value it has since that one had it
-pub record IsFrom (old new : App) (before after : Kept) (k : ℕ) (e : Stamp) : Type 0 where
+pub record IsFrom (old new : App) (before after : CacheState) (k : ℕ) (e : Stamp) : Type 0 where
   pub was : ℕ
   pub stamp : Stamp
   pub cell : IsOldCell old new was k
@@ -20,15 +20,15 @@ pub record IsFrom (old new : App) (before after : Kept) (k : ℕ) (e : Stamp) : 
   pub clean : IsClean old before was
   pub checked : e.checked ≡ after.last
   pub moved : e.moved ≡ stamp.moved
-  pub value : value_of after k ≡ value_of before was
+  pub value : cached_value after k ≡ cached_value before was
 
 -- a value that says nothing fits, and is blank where a formula has none by itself
-pub record IsIdle (a : App) (c : Kept) (k : ℕ) : Type 0 where
-  pub bare : is_alone a.cells k ≡ false → value_of c k ≡ blank
-  pub fits : (i : CellInfo) → slice_get a.cells k ≡ Some i → fits_in (value_of c k) (shape i.ty) ≡ true
+pub record IsIdle (a : App) (c : CacheState) (k : ℕ) : Type 0 where
+  pub bare : is_alone a.cells k ≡ false → cached_value c k ≡ blank
+  pub fits : (i : CellInfo) → slice_get a.cells k ≡ Some i → fits_in (cached_value c k) (shape i.ty) ≡ true
 
 -- FILLING: so many cells of the order were seen
-pub record IsFilling (old new : App) (before from : Kept) (i : ℕ) (after : Kept) : Type 0 where
+pub record IsFilling (old new : App) (before from : CacheState) (i : ℕ) (after : CacheState) : Type 0 where
   pub kept : (k : ℕ) (e : Stamp) → stamp_of after k ≡ Some e → IsFrom old new before after k e
   pub had : (k : ℕ) (e : Stamp) → stamp_of after k ≡ Some e → AreHad new after k
   pub unkept : (k : ℕ) → stamp_of after k ≡ None → IsIdle new after k
@@ -41,7 +41,7 @@ pub record IsFilling (old new : App) (before from : Kept) (i : ℕ) (after : Kep
   pub few : length new.cells ≤ 2000
   pub stamps : length after.stamps ≡ length new.cells
   pub values : length after.values.cells ≡ length new.cells
-  pub places : (s : Source) → IsSourceOf new.names s → place_of s < length after.versions
+  pub places : (s : Source) → IsSourceOf new.names s → source_index s < length after.versions
   pub same : (from.stamps ≡ before.stamps) × (from.versions ≡ before.versions)
-  pub left : (p j : ℕ) → i ≤ p → p < length new.order → cell_was old new (slice_index new.order p) ≡ Some j → value_of from j ≡ value_of before j
+  pub left : (p j : ℕ) → i ≤ p → p < length new.order → cell_was old new (slice_index new.order p) ≡ Some j → cached_value from j ≡ cached_value before j
   pub order : IsInOrder old from

@@ -9,7 +9,7 @@ use Rattle.recalc.specs.app_semantics.Fresh.{AreKnown}
 use Rattle.recalc.specs.app_semantics.Holding.{HoldsFitting}
 use Rattle.recalc.specs.app_semantics.Needed.{IsFreshAt}
 use Rattle.recalc.specs.app_semantics.Present.{Present, present}
-use Rattle.recalc.specs.app_semantics.Sound.{IsSound}
+use Rattle.recalc.specs.app_semantics.Sound.{IsSoundApp}
 use Rattle.recalc.specs.Visits.{FormulaVisits}
 use Rattle.row_queries.specs.declared.rows.Row.{Row}
 use Rattle.session_state.specs.Sessions.{SessionState}
@@ -27,6 +27,6 @@ IsLedFresh p values None = Unit {0}
 -- a formula visits one number of rows at most for an item, where all that is read is told, over whatever values are fresh for it
 abbrev pub OneItemVisits : Type 0
 OneItemVisits =
-    (a : App) (s : SessionState) (rows : List (List Row)) (m : ℕ) (values others : ℕ → Data) (item : Data) (o : Option ℕ) (n l : ℕ) → IsSound a → HoldsFitting a.names s → AreKnown a (Some rows) →
+    (a : App) (s : SessionState) (rows : List (List Row)) (m : ℕ) (values others : ℕ → Data) (item : Data) (o : Option ℕ) (n l : ℕ) → IsSoundApp a → HoldsFitting a.names s → AreKnown a (Some rows) →
     AreHeld (record { shapes = a.names.schema.tables; rows = rows }) → IsLedFresh (present a s (Some rows) m) values o → IsLedFresh (present a s (Some rows) m) others o →
     ItemVisits a s rows m values item o n → ItemVisits a s rows m others item o l → n ≡ l

@@ -4,7 +4,7 @@ use Rattle.fx_types.specs.Values.{Data}
 use Rattle.fx_eval.specs.fx_plan.Ranges.{everything}
 use Rattle.fx_core.specs.declared.schema.TableShape.{TableShape}
 use Rattle.row_queries.specs.Conditions.{always}
-use Rattle.row_queries.specs.TableRows.{AreHeldRows, rows_at, table_of}
+use Rattle.row_queries.specs.TableRows.{AreHeldRows, rows_at, rows_table}
 use Rattle.row_queries.specs.declared.queries.Query.{Query}
 use Rattle.row_queries.specs.declared.rows.Row.{Row}
 
@@ -19,4 +19,4 @@ pub record IsTableValue (shapes : List TableShape) (told : Option (List (List Ro
   pub rows : List Row
   pub held : AreHeldRows table rows
   pub told_rows : IfSome told (λ tables. rows ≡ rows_at tables k)
-  pub is : v ≡ table_of table rows
+  pub is : v ≡ rows_table table rows

@@ -10,6 +10,6 @@ stop_of end.Memory = stop.Memory
 stop_of end.Failed = stop.Keeper
 
 -- and the way back
-abbrev pub end_of : Stop → KeeperEnd
-end_of stop.Memory = end.Memory
-end_of stop.Keeper = end.Failed
+abbrev pub end_of_stop : Stop → KeeperEnd
+end_of_stop stop.Memory = end.Memory
+end_of_stop stop.Keeper = end.Failed

@@ -8,11 +8,11 @@ use Rattle.fx_value.specs.Fits.{fits_in}
 use Rattle.recalc.specs.Reading.{cell_value}
 
 -- the value of each cell by its number, and the day
-pub record Values : Type 0 where
+pub record CellValues : Type 0 where
   pub cells : List Data
   pub day : Data
 
-abbrev pub value_of : Values → ℕ → Data
+abbrev pub value_of : CellValues → ℕ → Data
 value_of v = cell_value v.cells
 
 -- each cell has a value that fits it

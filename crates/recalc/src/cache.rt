@@ -1,8 +1,8 @@
 //! A session's cache.
 ghost use Rattle.std.specs.Prelude.{◌≡◌, ◌+◌, ◌<◌, ◌≤◌, ◌^◌, ℕ, IfOk, IfSome, None, OnErr, length, slice_index, slice_index_or};
 ghost use Rattle.fx_core.specs.declared.sources.Source.{Source as Src};
-ghost use Rattle.recalc.specs.Clearing.{is_mark as is_mark_of, unmarked as unmarked_of};
-ghost use Rattle.recalc.specs.Kept.{IsSourceOf, place_of};
+ghost use Rattle.recalc.specs.Clearing.{is_mark_stamp as is_mark_of, stamp_unmarked as unmarked_of};
+ghost use Rattle.recalc.specs.Kept.{IsSourceOf, source_index};
 
 use crate::app_cells::App;
 use crate::stamps::Stamp;
@@ -58,9 +58,9 @@ impl Model for Cache {
     ghost use Rattle.std.specs.Prelude.{length};
     ghost use Rattle.std.specs.Coded.{codes};
     ghost use Rattle.fx_types.specs.ValueCode.{data_code};
-    ghost use Rattle.recalc.specs.Kept.{Kept};
+    ghost use Rattle.recalc.specs.Kept.{CacheState};
 
-    ghost Value = { Kept };
+    ghost Value = { CacheState };
 
     ghost coded = { Prim.hlevel (codes, data_code) };
 
@@ -76,7 +76,7 @@ impl Model for Cache {
 
 // How many places the sources under these names have.
 fn places_of(names: &Names) -> Option<usize>
-    ensures { IfSome result (λ n. (s : Src) → IsSourceOf names.now s → place_of s < n) }
+    ensures { IfSome result (λ n. (s : Src) → IsSourceOf names.now s → source_index s < n) }
 {
     let named = names.variables.len().max(names.collections.len());
     let shown = names.controls.len().max(names.schema.tables.len());
@@ -152,7 +152,7 @@ fn reset_versions(mut versions: Vec<u64>) -> Vec<u64>
 
 // The place of a source among versions.
 fn place(source: Source) -> usize
-    ensures { result ≡ place_of source }
+    ensures { result ≡ source_index source }
 {
     match source {
         Source::Cell(k) => k as usize * KINDS,
@@ -169,10 +169,10 @@ fn place(source: Source) -> usize
 impl Cache {
     ghost use Rattle.fx_types.specs.ValueView.{view};
     ghost use Rattle.recalc.specs.Changes.{on_day, raised};
-    ghost use Rattle.recalc.specs.Kept.{IsInOrder, IsRoomFor, Room, place_of, stamp_of, value_of, version_of};
+    ghost use Rattle.recalc.specs.Kept.{IsInOrder, IsRoomFor, CacheRoom, source_index, stamp_of, cached_value, version_of};
     ghost use Rattle.recalc.specs.Outcomes.{IsEmpty, IsEmptied, IsForgotten, IsRestarted, let_out};
     ghost use Rattle.recalc.specs.Carrying.{received, taken_from};
-    ghost use Rattle.recalc.specs.Clearing.{AreUnmarked, is_marked as is_marked_in, marked};
+    ghost use Rattle.recalc.specs.Clearing.{AreUnmarked, is_marked_cell as is_marked_in, marked};
     ghost use Rattle.recalc.specs.Steps.{confirmed, kept_with};
 
     /// A cache for a session of this app, on this day, in which nothing is kept.
@@ -205,7 +205,7 @@ impl Cache {
 
     /// Makes room beside what is kept for what will be kept of an edited app.
     pub fn make_room(&mut self, app: &App) -> Result<(), Memory>
-        ensures made { IfOk result (λ _. (r : Room) × IsRoomFor app.now r × (self.new ≡ record self.old { room = r })) }
+        ensures made { IfOk result (λ _. (r : CacheRoom) × IsRoomFor app.now r × (self.new ≡ record self.old { room = r })) }
         ensures stopped { OnErr result (self.new ≡ self.old) }
     {
         let count = app.cells.len();
@@ -286,7 +286,7 @@ impl Cache {
     /// Gives a source the next number as that of its last change.
     pub(crate) fn raise(&mut self, source: Source)
         requires room { self.old.last + 1 < 2 ^ 64 }
-        requires place { place_of source < length self.old.versions }
+        requires place { source_index source < length self.old.versions }
         ensures { self.new ≡ raised self.old source }
     {
         self.last += 1;
@@ -370,7 +370,7 @@ impl Cache {
     /// Takes the value of a cell out.
     pub(crate) fn take(&mut self, cell: u32) -> Value
         requires { cell < length self.old.values.cells }
-        ensures value { view result ≡ value_of self.old cell }
+        ensures value { view result ≡ cached_value self.old cell }
         ensures left { self.new ≡ taken_from self.old cell }
     {
         self.valued.take(cell)

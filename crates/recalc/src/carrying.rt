@@ -5,15 +5,15 @@ ghost use Rattle.fx_core.specs.declared.sources.Source.{Source as Src};
 ghost use Rattle.recalc.specs.app_cells.Leaning.{cell_behind as behind};
 ghost use Rattle.recalc.specs.app_semantics.Fresh.{reads_table as reads_any};
 ghost use Rattle.recalc.specs.app_semantics.Needed.{is_alone as is_alone_in, stands_alone as is_by_itself};
-ghost use Rattle.recalc.specs.app_semantics.Sound.{IsSound};
+ghost use Rattle.recalc.specs.app_semantics.Sound.{IsSoundApp};
 ghost use Rattle.recalc.specs.Filling.{IsFilling};
 ghost use Rattle.recalc.specs.Carrying.{AreOldCells, AreOldPlaces, IsCarried, IsCarriedAt, IsEditOf, IsLeft, IsOldCell};
-ghost use Rattle.recalc.specs.Kept.{IsInOrder, IsRoomFor, Kept, stamp_of};
+ghost use Rattle.recalc.specs.Kept.{IsInOrder, IsRoomFor, CacheState, stamp_of};
 
 use crate::app_cells::{App, CellInfo};
 use crate::cache::Cache;
 use crate::evaluating::reads_table;
-use crate::sources::cell_behind;
+use crate::session_sources::cell_behind;
 use crate::standing::is_alone;
 use crate::trees::{are_old_reads, is_old_tree, old_places, place_at};
 use crate::valued::stands_alone;
@@ -116,7 +116,7 @@ impl Cache {
     // Keeps here what another cache keeps of a cell under its number there, if it stands and all is kept here on which the formula
     // leans.
     fn carry_cell(&mut self, from: &mut Cache, old: &App, new: &App, cell: u32, was: u32)
-        requires was_sound { IsSound old.now }
+        requires was_sound { IsSoundApp old.now }
         requires was_in_order { IsInOrder old.now from.old }
         requires room { length self.old.stamps ≡ length new.now.cells }
         requires values { length self.old.values.cells ≡ length new.now.cells }
@@ -145,15 +145,15 @@ impl Cache {
         cells: &[Option<usize>],
         cell: u32,
     )
-        requires was_sound { IsSound old.now }
+        requires was_sound { IsSoundApp old.now }
         requires was_in_order { IsInOrder old.now from.old }
-        requires sound { IsSound new.now }
+        requires sound { IsSoundApp new.now }
         requires cells { AreOldCells old.now new.now cells.now }
         requires there { cell < length new.now.cells }
         requires room { length self.old.stamps ≡ length new.now.cells }
         requires values { length self.old.values.cells ≡ length new.now.cells }
         requires blank { stamp_of self.old cell ≡ None }
-        ensures { (before : Kept) (i : ℕ) → i < length new.now.order → slice_index new.now.order i ≡ cell → IsFilling old.now new.now before from.old i self.old → IsFilling old.now new.now before from.new (i + 1) self.new }
+        ensures { (before : CacheState) (i : ℕ) → i < length new.now.order → slice_index new.now.order i ≡ cell → IsFilling old.now new.now before from.old i self.old → IsFilling old.now new.now before from.new (i + 1) self.new }
     {
         if let Some(was) = place_at(cells, cell as usize) {
             self.carry_cell(from, old, new, cell, was as u32);
@@ -163,8 +163,8 @@ impl Cache {
     /// What is kept goes over to an edited app, as far as the edit leaves it, and the room is used up. `cells` are the old cells
     /// that the edit left. It takes no memory.
     pub fn carry(&mut self, old: &App, new: &App, cells: &[Option<usize>])
-        requires was_sound { IsSound old.now }
-        requires sound { IsSound new.now }
+        requires was_sound { IsSoundApp old.now }
+        requires sound { IsSoundApp new.now }
         requires edit { IsEditOf old.now new.now }
         requires was_in_order { IsInOrder old.now self.old }
         requires room { IsRoomFor new.now self.old.room }

@@ -5,9 +5,9 @@ ghost use Rattle.fx_types.specs.ValueView.{view};
 ghost use Rattle.fx_core.specs.declared.sources.Source.TheVariants.{Cell, Today};
 ghost use Rattle.recalc.specs.app_cells.declared.app.App.{App as AnApp};
 ghost use Rattle.recalc.specs.app_cells.Reach.{is_cell};
-ghost use Rattle.recalc.specs.app_semantics.Sound.{IsSound};
+ghost use Rattle.recalc.specs.app_semantics.Sound.{IsSoundApp};
 ghost use Rattle.recalc.specs.Changes.{IsCellTouched, IsTouched, on_day};
-ghost use Rattle.recalc.specs.Kept.{HasRoom, IsClean, IsInOrder, Kept, place_of};
+ghost use Rattle.recalc.specs.Kept.{HasNumbersLeft, IsClean, IsInOrder, CacheState, source_index};
 ghost use Rattle.recalc.specs.Outcomes.{HasNumbers};
 
 use crate::app_cells::App;
@@ -23,7 +23,7 @@ const NUMBERS: u64 = 2_001;
 impl Cache {
     /// Empties the cache where few numbers are left.
     pub(crate) fn make_numbers(&mut self)
-        ensures room { HasRoom self.new.last }
+        ensures room { HasNumbersLeft self.new.last }
         ensures places { length self.new.versions ≡ length self.old.versions }
         ensures numbers { (a : AnApp) → HasNumbers a self.old self.new }
     {
@@ -34,7 +34,7 @@ impl Cache {
 
     // Says that a source has changed, which is no cell.
     fn tell(&mut self, source: Source)
-        requires { place_of source < length self.old.versions }
+        requires { source_index source < length self.old.versions }
         ensures { (a : AnApp) → is_cell source ≡ false → IsTouched a source self.old self.new }
     {
         self.make_numbers();
@@ -44,9 +44,9 @@ impl Cache {
     /// Says that a source of the app has changed. The values of the cells that reach it don't stand any more, and all others do as
     /// before, unless the numbers ran out. What is kept of the cells that reach a cell goes. It takes no memory.
     pub fn touched(&mut self, app: &App, source: Source)
-        requires { is_cell source ≡ false → place_of source < length self.old.versions }
+        requires { is_cell source ≡ false → source_index source < length self.old.versions }
         ensures told { (a : AnApp) → is_cell source ≡ false → IsTouched a source self.old self.new }
-        ensures cell { (k : ℕ) → source ≡ Cell k → IsSound app.now → IsInOrder app.now self.old → IsCellTouched app.now k self.old self.new }
+        ensures cell { (k : ℕ) → source ≡ Cell k → IsSoundApp app.now → IsInOrder app.now self.old → IsCellTouched app.now k self.old self.new }
     {
         match source {
             Source::Cell(cell) => self.touch_cell(app, cell),
@@ -56,8 +56,8 @@ impl Cache {
 
     /// Says that another day has begun: `Today()` has changed.
     pub fn turn(&mut self, day: Value)
-        requires { place_of Today < length self.old.versions }
-        ensures { (told : Kept) × ((a : AnApp) → IsTouched a Today self.old told) × (self.new ≡ on_day told (view day)) }
+        requires { source_index Today < length self.old.versions }
+        ensures { (told : CacheState) × ((a : AnApp) → IsTouched a Today self.old told) × (self.new ≡ on_day told (view day)) }
     {
         self.tell(Source::Today);
         self.set_day(day);
@@ -65,7 +65,7 @@ impl Cache {
 
     /// The numbers of the cells whose values stand, in rising order.
     pub fn clean(&self, alloc: Global, app: &App) -> Result<Vec<u32>, Memory>
-        requires sound { IsSound app.now }
+        requires sound { IsSoundApp app.now }
         requires order { IsInOrder app.now self.now }
         ensures exact { IfOk result (λ v. (k : ℕ) → Contains v.items k ↔ IsClean app.now self.now k) }
         ensures rising { IfOk result (λ v. AllPairs (λ x y. x < y) v.items) }

@@ -4,14 +4,14 @@ ghost use Rattle.fx_core.specs.Reads.{IsAmong};
 ghost use Rattle.fx_core.specs.declared.sources.Source.{Source as Src};
 ghost use Rattle.recalc.specs.app_cells.Leaning.{LeansOn, cell_behind as behind};
 ghost use Rattle.recalc.specs.app_cells.declared.app.CellInfo.{CellInfo as Info};
-ghost use Rattle.recalc.specs.app_semantics.Sound.{IsSound};
+ghost use Rattle.recalc.specs.app_semantics.Sound.{IsSoundApp};
 ghost use Rattle.recalc.specs.Changes.{IsCellTouched};
-ghost use Rattle.recalc.specs.Clearing.{AreCleared, IsMarkedIf, is_marked as is_marked_in};
-ghost use Rattle.recalc.specs.Kept.{HasRoom, IsInOrder};
+ghost use Rattle.recalc.specs.Clearing.{AreCleared, IsMarkedIf, is_marked_cell as is_marked_in};
+ghost use Rattle.recalc.specs.Kept.{HasNumbersLeft, IsInOrder};
 
 use crate::app_cells::App;
 use crate::cache::Cache;
-use crate::sources::cell_behind;
+use crate::session_sources::cell_behind;
 use fx_core::Source;
 
 impl Cache {
@@ -60,7 +60,7 @@ impl Cache {
 
     // Takes the stamps of the cells away that reach one. By the order each stands behind those on which it leans.
     fn clear(&mut self, app: &App, cell: u32)
-        ensures { IsSound app.now → IsInOrder app.now self.old → HasRoom self.old.last → AreCleared app.now cell self.old self.new }
+        ensures { IsSoundApp app.now → IsInOrder app.now self.old → HasNumbersLeft self.old.last → AreCleared app.now cell self.old self.new }
     {
         let order = app.order.as_slice();
         for number in order {
@@ -71,7 +71,7 @@ impl Cache {
 
     /// Says that a cell has changed. What is kept of the cells that reach it goes.
     pub(crate) fn touch_cell(&mut self, app: &App, cell: u32)
-        ensures { IsSound app.now → IsInOrder app.now self.old → IsCellTouched app.now cell self.old self.new }
+        ensures { IsSoundApp app.now → IsInOrder app.now self.old → IsCellTouched app.now cell self.old self.new }
     {
         self.make_numbers();
         self.clear(app, cell);

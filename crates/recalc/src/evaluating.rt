@@ -3,17 +3,17 @@ ghost use Rattle.std.specs.Prelude.{◌≡◌, ◌+◌, ℕ, false, true, IfOk, 
 ghost use Rattle.app_semantics.specs.Fresh.{IsValueOf, reads_table as reads_any};
 ghost use Rattle.app_semantics.specs.Holding.{HoldsFitting};
 ghost use Rattle.app_semantics.specs.Present.{present};
-ghost use Rattle.app_semantics.specs.Sound.{IsSound, IsSoundCell, IsTaken};
+ghost use Rattle.app_semantics.specs.Sound.{IsSoundApp, IsSoundCell, IsLimitedTree};
 ghost use Rattle.fx_types.specs.TypeView.{shape};
 ghost use Rattle.fx_types.specs.ValueView.{view};
 ghost use Rattle.fx_scalar.specs.ScalarFunctions.{IsToday};
 ghost use Rattle.fx_semantics.specs.Sound.{IsItemFit};
-ghost use Rattle.fx_typing.specs.Typing.{item_of};
+ghost use Rattle.fx_typing.specs.Typing.{item_context};
 ghost use Rattle.fx_value.specs.Fits.{fits_in};
 ghost use Rattle.recalc.specs.Asking.{IsHeardOf, ToldRows};
 ghost use Rattle.recalc.specs.AskingOver.{HasRead};
 ghost use Rattle.recalc.specs.Reading.{cell_value};
-ghost use Rattle.recalc.specs.Stops.{end_of as end_by};
+ghost use Rattle.recalc.specs.Stops.{end_of_stop as end_by};
 ghost use Rattle.fx_eval.specs.Visits.{AtMost};
 ghost use Rattle.recalc.specs.Values.{CellsFit};
 ghost use Rattle.recalc.specs.Visits.{FormulaVisits, WhereTold};
@@ -67,13 +67,13 @@ pub(crate) fn formula_value<K: Keeper, L: Ledger>(
     item: Option<Value>,
     steps: &mut Steps<L>,
 ) -> Result<Value, KeeperEnd>
-    requires sound { IsSound app.now }
+    requires sound { IsSoundApp app.now }
     requires cell { IsSoundCell app.now.names info.now }
-    requires taken { IsTaken app.now.names.schema.tables app.now.limit info.now }
+    requires taken { IsLimitedTree app.now.names.schema.tables app.now.limit info.now }
     requires quiet { info.now.cell.acts ≡ false }
     requires holds { HoldsFitting app.now.names session.now }
     requires fits { CellsFit app.now (cell_value (map view values.now)) }
-    requires item { IsItemFit (option_map view item) (item_of app.now.names info.now.cell.item) }
+    requires item { IsItemFit (option_map view item) (item_context app.now.names info.now.cell.item) }
     requires day { (moment : ℕ) × IsToday moment (view day.now) }
     requires shaped { reads_any info.now.reads ≡ true → K.shaped keeper.old ≡ Some app.now.names.schema }
     ensures value { IfOk result (λ v. (moment : ℕ) (tables : ToldRows) → IsToday moment (view day.now) → IsHeardOf (K.told keeper.new) tables →
@@ -105,14 +105,14 @@ fn value_alone<L: Ledger>(
     item: Option<Value>,
     steps: &mut Steps<L>,
 ) -> Result<Value, Memory>
-    requires sound { IsSound app.now }
+    requires sound { IsSoundApp app.now }
     requires cell { IsSoundCell app.now.names info.now }
-    requires taken { IsTaken app.now.names.schema.tables app.now.limit info.now }
+    requires taken { IsLimitedTree app.now.names.schema.tables app.now.limit info.now }
     requires quiet { info.now.cell.acts ≡ false }
     requires no_tables { reads_any info.now.reads ≡ false }
     requires holds { HoldsFitting app.now.names session.now }
     requires fits { CellsFit app.now (cell_value (map view values.now)) }
-    requires item { IsItemFit (option_map view item) (item_of app.now.names info.now.cell.item) }
+    requires item { IsItemFit (option_map view item) (item_context app.now.names info.now.cell.item) }
     requires day { (moment : ℕ) × IsToday moment (view day.now) }
     ensures value { IfOk result (λ v. (moment : ℕ) (tables : ToldRows) → IsToday moment (view day.now) →
         IsValueOf (present app.now session.now tables moment) (cell_value (map view values.now)) (option_map view item) info.now (view v)) }
@@ -157,14 +157,14 @@ fn value_over_rows<'a, K: Keeper, L: Ledger>(
     item: Option<Value>,
     steps: &mut Steps<L>,
 ) -> Result<Value, KeeperEnd>
-    requires sound { IsSound app.now }
+    requires sound { IsSoundApp app.now }
     requires cell { IsSoundCell app.now.names info.now }
-    requires taken { IsTaken app.now.names.schema.tables app.now.limit info.now }
+    requires taken { IsLimitedTree app.now.names.schema.tables app.now.limit info.now }
     requires quiet { info.now.cell.acts ≡ false }
     requires tables { reads_any info.now.reads ≡ true }
     requires holds { HoldsFitting app.now.names session.now }
     requires fits { CellsFit app.now (cell_value (map view values.now)) }
-    requires item { IsItemFit (option_map view item) (item_of app.now.names info.now.cell.item) }
+    requires item { IsItemFit (option_map view item) (item_context app.now.names info.now.cell.item) }
     requires day { (moment : ℕ) × IsToday moment (view day.now) }
     requires shaped { K.shaped keeper.old ≡ Some app.now.names.schema }
     ensures value { IfOk result (λ v. (moment : ℕ) (tables : ToldRows) → IsToday moment (view day.now) → IsHeardOf (K.told keeper.new) tables →

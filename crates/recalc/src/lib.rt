@@ -2,21 +2,21 @@
 //! until something changes on which they stand.
 #![tactic(auto)]
 
-mod bringing;
 mod cache;
 mod carrying;
 mod changing;
-mod choosing;
+mod chosen_items;
 mod clearing;
+mod dirty_cells;
 pub mod evaluating;
-pub mod given;
 pub mod ids;
 pub mod laws;
-mod needing;
 mod reading;
+mod refresh;
 pub mod row_reading;
+pub mod session_sources;
 mod single;
-pub mod sources;
+pub mod source_values;
 pub mod stamps;
 mod standing;
 pub mod tables;
@@ -32,10 +32,10 @@ pub use evaluating::end_of;
 pub use fx_env::Steps;
 use fx_eval::fx_plan;
 pub use fx_semantics;
-pub use given::given_value;
 pub use ids::{id_name, item_id};
 pub use row_reading::stop_of;
-pub use sources::{cell_behind, cell_of_property};
+pub use session_sources::{cell_behind, cell_of_property};
+pub use source_values::given_value;
 pub use tables::table_value;
 pub use templates::{is_true, is_visible, is_visible_for_item, property_for_item};
 pub use valued::{Valued, evaluate, stands_alone};

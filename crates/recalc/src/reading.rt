@@ -3,11 +3,11 @@ ghost use Rattle.std.specs.Prelude.{◌≡◌, Some, length, map};
 ghost use Rattle.std.proofs.Math.Bool.{Bool-set};
 ghost use Rattle.app_semantics.specs.Holding.{HoldsFitting};
 ghost use Rattle.fx_types.specs.ValueView.{view};
-ghost use Rattle.fx_env.specs.Telling.{unmarked};
+ghost use Rattle.fx_env.specs.Telling.{no_marks};
 ghost use Rattle.recalc.specs.Holds.{holds_prop};
 ghost use Rattle.recalc.specs.Reading.{fixed_on, told_by, told_values};
 
-use crate::given::given_value;
+use crate::source_values::given_value;
 use fx_core::{Names, Schema, Source};
 use fx_env::Steps;
 use fx_env::environment::{Env, Stop};
@@ -39,7 +39,7 @@ impl Env for Reading<'_> {
 
     ghost told = { λ r. Some (told_values (told_by (view r.today.now) r.names.now r.session.now (map view r.values.now))) };
 
-    ghost marks = { λ r. unmarked };
+    ghost marks = { λ r. no_marks };
 
     ghost ticked = { λ r. 0 };
 

@@ -5,11 +5,11 @@ ghost use Rattle.app_semantics.specs.Holding.{HoldsFitting};
 ghost use Rattle.fx_types.specs.ValueView.{view};
 ghost use Rattle.fx_core.specs.Lawful.{IsLawfulSchema};
 ghost use Rattle.recalc.specs.Holds.{holds_prop};
-ghost use Rattle.recalc.specs.Reading.{Kept, fixed_over, loans_of, told_by, told_over};
+ghost use Rattle.recalc.specs.Reading.{KeeperState, fixed_over, loans_of, told_by, told_over};
 ghost use Rattle.recalc.specs.Schemas.{schema_prop, shaped_prop};
 ghost use Rattle.recalc.specs.Stops.{stop_of as stop_by};
 
-use crate::given::given_value;
+use crate::source_values::given_value;
 use crate::tables::table_value;
 use fx_core::{Names, Schema, Source};
 use fx_env::Steps;
@@ -51,7 +51,7 @@ pub fn stop_of(end: KeeperEnd) -> Stop
 }
 
 impl<K: Keeper> Env for RowReading<'_, K> {
-    ghost Beside = { Kept };
+    ghost Beside = { KeeperState };
 
     ghost fixed = { λ r. fixed_over r.names.now r.reads.now (told_by (view r.today.now) r.names.now r.session.now (map view r.values.now)) r.limit (loans_of r.keeper.ghost_name (K.loan r.keeper.now)) (K.in_transaction r.keeper.now) };
 

@@ -7,13 +7,13 @@ ghost use Rattle.recalc.specs.AskingOver.{HasRead};
 ghost use Rattle.recalc.specs.app_semantics.Holding.{HoldsFitting};
 ghost use Rattle.recalc.specs.app_semantics.Needed.{IsFreshAt, is_alone as is_alone_in};
 ghost use Rattle.recalc.specs.app_semantics.Present.{present};
-ghost use Rattle.recalc.specs.app_semantics.Sound.{IsSound};
+ghost use Rattle.recalc.specs.app_semantics.Sound.{IsSoundApp};
 ghost use Rattle.row_keeper.specs.Over.{HasCause};
 ghost use Rattle.row_keeper.specs.declared.keeper.KeeperEnd.TheVariants.{Failed};
-ghost use Rattle.recalc.specs.Changes.{IsLeftBut};
-ghost use Rattle.recalc.specs.Kept.{HasRoom, IsClean, IsInOrder, value_of as value_in};
+ghost use Rattle.recalc.specs.Changes.{StaysCleanExcept};
+ghost use Rattle.recalc.specs.Kept.{HasNumbersLeft, IsClean, IsInOrder, cached_value as value_in};
 ghost use Rattle.recalc.specs.Outcomes.{IsRightOver};
-ghost use Rattle.recalc.specs.Steps.{Leaves, OncePerCell};
+ghost use Rattle.recalc.specs.Steps.{KeepsClean, OncePerCell};
 ghost use Rattle.recalc.specs.Visits.{VisitsPerCell, WhereTold};
 
 use crate::Steps;
@@ -39,7 +39,7 @@ impl Cache {
         cell: u32,
         steps: &mut Steps<L>,
     ) -> Result<Value, KeeperEnd>
-        requires sound { IsSound app.now }
+        requires sound { IsSoundApp app.now }
         requires holds { HoldsFitting app.now.names session.now }
         requires day { IsToday moment self.old.values.day }
         requires asks { CanAsk app.now (K.shaped keeper.old) }
@@ -52,12 +52,12 @@ impl Cache {
         ensures made { OnOk result (IsClean app.now self.new cell) }
         ensures fresh { IsRightOver app.now session.now (K.told keeper.old) moment self.old → OnOk result ((tables : ToldRows) → IsHeardOf (K.told keeper.new) tables →
             IsFreshAt (present app.now session.now tables moment) (value_in self.new) cell) }
-        ensures left { HasRoom self.old.last → Leaves app.now self.old self.new }
-        ensures but { IsLeftBut app.now [] self.old self.new }
-        ensures ticks { HasRoom self.old.last → OnOk result (OncePerCell app.now (cell ∷ []) self.old self.new steps.old steps.new) }
-        ensures visits { IsRightOver app.now session.now (K.told keeper.old) moment self.old → HasRoom self.old.last → OnOk result (WhereTold (K.told keeper.new) (λ rows.
+        ensures left { HasNumbersLeft self.old.last → KeepsClean app.now self.old self.new }
+        ensures but { StaysCleanExcept app.now [] self.old self.new }
+        ensures ticks { HasNumbersLeft self.old.last → OnOk result (OncePerCell app.now (cell ∷ []) self.old self.new steps.old steps.new) }
+        ensures visits { IsRightOver app.now session.now (K.told keeper.old) moment self.old → HasNumbersLeft self.old.last → OnOk result (WhereTold (K.told keeper.new) (λ rows.
             VisitsPerCell app.now session.now rows moment (cell ∷ []) self.old self.new steps.old steps.new (K.visited keeper.old) (K.visited keeper.new))) }
-        ensures slow { HasRoom self.old.last → OnOk result (self.new.last + steps.old ≤ self.old.last + steps.new) }
+        ensures slow { HasNumbersLeft self.old.last → OnOk result (self.new.last + steps.old ≤ self.old.last + steps.new) }
         ensures read { HasRead K.Keeper keeper.old keeper.new }
         ensures cause { HasCause K.Keeper keeper.old keeper.new result }
         ensures alone { ReadsNone app.now → keeper.new ≡ keeper.old }

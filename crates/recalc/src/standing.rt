@@ -5,12 +5,12 @@ ghost use Rattle.fx_core.specs.declared.sources.Source.{Source as Src};
 ghost use Rattle.recalc.specs.app_cells.Leaning.{cell_behind as behind};
 ghost use Rattle.recalc.specs.app_cells.Reach.{is_cell as is_cell_of};
 ghost use Rattle.recalc.specs.app_semantics.Needed.{is_alone as is_alone_in};
-ghost use Rattle.recalc.specs.app_semantics.Sound.{IsSound};
+ghost use Rattle.recalc.specs.app_semantics.Sound.{IsSoundApp};
 ghost use Rattle.recalc.specs.Kept.{IsClean, IsInOrder, IsSettled, IsUnmoved, version_of};
 
 use crate::app_cells::{App, CellInfo};
 use crate::cache::Cache;
-use crate::sources::cell_behind;
+use crate::session_sources::cell_behind;
 use crate::valued::stands_alone;
 use fx_core::Source;
 
@@ -99,7 +99,7 @@ impl Cache {
 
     /// Whether the value of a cell is kept and stands.
     pub(crate) fn stands(&self, app: &App, cell: u32) -> bool
-        requires sound { IsSound app.now }
+        requires sound { IsSoundApp app.now }
         requires order { IsInOrder app.now self.now }
         ensures yes { IsTrue result → IsClean app.now self.now cell }
         ensures no { IsFalse result → IsClean app.now self.now cell → ⊥ }

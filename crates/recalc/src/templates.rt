@@ -6,13 +6,13 @@ ghost use Rattle.app_semantics.specs.Fresh.{IsValueOf};
 ghost use Rattle.app_semantics.specs.Holding.{HoldsFitting};
 ghost use Rattle.app_semantics.specs.Present.{present};
 ghost use Rattle.app_semantics.specs.Properties.{IsPropertyForItem, is_true as is_true_of, is_visible as is_visible_of};
-ghost use Rattle.app_semantics.specs.Sound.{IsSound};
+ghost use Rattle.app_semantics.specs.Sound.{IsSoundApp};
 ghost use Rattle.fx_types.specs.ValueView.{view};
 ghost use Rattle.fx_types.specs.Values.{Data, blank, boolean};
 ghost use Rattle.fx_scalar.specs.ScalarFunctions.{IsToday};
 ghost use Rattle.fx_semantics.specs.Around.{record_of};
 ghost use Rattle.fx_semantics.specs.Sound.{IsItemFit};
-ghost use Rattle.fx_typing.specs.Typing.{item_of};
+ghost use Rattle.fx_typing.specs.Typing.{item_context};
 ghost use Rattle.fx_eval.specs.Visits.{AtMost};
 ghost use Rattle.recalc.specs.Asking.{IsHeardOf, ToldRows};
 ghost use Rattle.recalc.specs.AskingOver.{HasRead};
@@ -24,7 +24,7 @@ ghost use Rattle.recalc.specs.Visits.{WhereTold};
 ghost use Rattle.row_keeper.specs.Over.{HasCause};
 
 use crate::app_cells::App;
-use crate::sources::cell_of_property;
+use crate::session_sources::cell_of_property;
 use crate::valued::Valued;
 use fx_core::Names;
 use fx_env::Steps;
@@ -65,12 +65,12 @@ pub fn is_visible_for_item<K: Keeper, L: Ledger>(
     row: &Fields,
     steps: &mut Steps<L>,
 ) -> Result<bool, KeeperEnd>
-    requires sound { IsSound app.now }
+    requires sound { IsSoundApp app.now }
     requires holds { HoldsFitting app.now.names session.now }
     requires fits { CellsFit app.now (value_of valued.now) }
     requires day { (moment : ℕ) × IsToday moment valued.now.day }
     requires stands { StandsIn app.now.names control gallery }
-    requires item { IsItemFit (Some (record_of row.now)) (item_of app.now.names (Some gallery)) }
+    requires item { IsItemFit (Some (record_of row.now)) (item_context app.now.names (Some gallery)) }
     requires shaped { K.shaped keeper.old ≡ Some app.now.names.schema }
     ensures shows { IfOk result (λ b. (moment : ℕ) (tables : ToldRows) → IsToday moment valued.now.day → IsHeardOf (K.told keeper.new) tables →
         (v : Data) × IsPropertyForItem (present app.now session.now tables moment) (value_of valued.now) (record_of row.now) control (codes "Visible") (boolean true) v × (b ≡ is_true_of v)) }
@@ -103,12 +103,12 @@ pub fn property_for_item<K: Keeper, L: Ledger>(
     unwritten: Value,
     steps: &mut Steps<L>,
 ) -> Result<Value, KeeperEnd>
-    requires sound { IsSound app.now }
+    requires sound { IsSoundApp app.now }
     requires holds { HoldsFitting app.now.names session.now }
     requires fits { CellsFit app.now (value_of valued.now) }
     requires day { (moment : ℕ) × IsToday moment valued.now.day }
     requires property { IsTemplateProperty app.now gallery (leaning.cell_of_property app.now.names control name.now) }
-    requires item { IsItemFit (Some (record_of row.now)) (item_of app.now.names (Some gallery)) }
+    requires item { IsItemFit (Some (record_of row.now)) (item_context app.now.names (Some gallery)) }
     requires shaped { K.shaped keeper.old ≡ Some app.now.names.schema }
     ensures shows { IfOk result (λ v. (moment : ℕ) (tables : ToldRows) → IsToday moment valued.now.day → IsHeardOf (K.told keeper.new) tables →
         IsPropertyForItem (present app.now session.now tables moment) (value_of valued.now) (record_of row.now) control name.now (view unwritten) (view v)) }
@@ -139,12 +139,12 @@ fn cell_for_item<K: Keeper, L: Ledger>(
     row: &Fields,
     steps: &mut Steps<L>,
 ) -> Result<Value, KeeperEnd>
-    requires sound { IsSound app.now }
+    requires sound { IsSoundApp app.now }
     requires holds { HoldsFitting app.now.names session.now }
     requires fits { CellsFit app.now (value_of valued.now) }
     requires day { (moment : ℕ) × IsToday moment valued.now.day }
     requires cell { IsTemplateProperty app.now gallery (Some cell) }
-    requires item { IsItemFit (Some (record_of row.now)) (item_of app.now.names (Some gallery)) }
+    requires item { IsItemFit (Some (record_of row.now)) (item_context app.now.names (Some gallery)) }
     requires shaped { K.shaped keeper.old ≡ Some app.now.names.schema }
     ensures shows { IfOk result (λ v. (moment : ℕ) (tables : ToldRows) → IsToday moment valued.now.day → IsHeardOf (K.told keeper.new) tables →
         (c : Info) × (slice_get app.now.cells cell ≡ Some c) × IsValueOf (present app.now session.now tables moment) (value_of valued.now) (Some (record_of row.now)) c (view v)) }

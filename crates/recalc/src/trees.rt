@@ -1,16 +1,16 @@
 // Whether trees of an edited app are the ones that they were.
 ghost use Rattle.std.specs.Prelude.{◌≡◌, ◌↔◌, ℕ, IfOk, IsTrue, MatchOption, None, Some, slice_index_or};
 ghost use Rattle.fx_types.specs.TypeView.{shape};
-ghost use Rattle.fx_core.specs.Term.{all, cons, names_of, nil, parts_of as parts_of_fields};
+ghost use Rattle.fx_core.specs.Term.{all, cons, term_field_names, nil, field_terms as parts_of_fields};
 ghost use Rattle.fx_core.specs.Reads.{IsAmong};
 ghost use Rattle.fx_core.specs.declared.sources.Source.{Source as Src};
 ghost use Rattle.recalc.specs.app_cells.Leaning.{cell_behind as behind};
-ghost use Rattle.recalc.specs.Carrying.{AreOldPlaces, IsOldBehind, IsOldOne, IsOldPart, IsOldSource, IsOldTop, IsOldTree, IsPast, part_at, parts_of, top_of};
+ghost use Rattle.recalc.specs.Carrying.{AreOldPlaces, IsOldBehind, IsOldOne, IsOldPart, IsOldSource, IsOldTop, IsOldTree, IsPast, subtree_at, subtrees, top_of};
 ghost use Rattle.recalc.specs.Carrying as carrying;
 ghost use Rattle.session_state.specs.Carrying as session_carrying;
 
 use crate::app_cells::{App, CellInfo};
-use crate::sources::cell_behind;
+use crate::session_sources::cell_behind;
 use crate::standing::is_alone;
 use fx_base::Memory;
 use fx_core::trees::{CoreArgs, CoreFields, CoreNode};
@@ -212,7 +212,7 @@ fn is_same_function(a: Fun, b: Fun) -> bool
 
 // Whether fields have the names of others, in order.
 fn have_same_names(fields: &CoreFields, others: &CoreFields) -> bool
-    ensures { IsTrue result ↔ (names_of fields.now ≡ names_of others.now) }
+    ensures { IsTrue result ↔ (term_field_names fields.now ≡ term_field_names others.now) }
 {
     let xs = fields.as_slice();
     let ys = others.as_slice();
@@ -263,7 +263,7 @@ fn is_old_top(old: &App, new: &App, places: &[Option<usize>], tree: &Core, was: 
 
 // The tree at a place among trees, counted from 0.
 fn listed_part(parts: &CoreArgs, place: usize) -> Option<&Core>
-    ensures { MatchOption result (part_at (all parts.now) place ≡ None) (λ t. part_at (all parts.now) place ≡ Some t.now) }
+    ensures { MatchOption result (subtree_at (all parts.now) place ≡ None) (λ t. subtree_at (all parts.now) place ≡ Some t.now) }
 {
     parts.get(place)
 }
@@ -271,7 +271,7 @@ fn listed_part(parts: &CoreArgs, place: usize) -> Option<&Core>
 // The same among fields.
 #[tactic(auto, using(crate::proofs::Parts::field_found, crate::proofs::Parts::field_end))]
 fn field_part(fields: &CoreFields, place: usize) -> Option<&Core>
-    ensures { MatchOption result (part_at (parts_of_fields fields.now) place ≡ None) (λ t. part_at (parts_of_fields fields.now) place ≡ Some t.now) }
+    ensures { MatchOption result (subtree_at (parts_of_fields fields.now) place ≡ None) (λ t. subtree_at (parts_of_fields fields.now) place ≡ Some t.now) }
 {
     match fields.get(place) {
         Some((_, part)) => Some(part),
@@ -281,14 +281,14 @@ fn field_part(fields: &CoreFields, place: usize) -> Option<&Core>
 
 // The same of a tree alone.
 fn only_part(part: &Core, place: usize) -> Option<&Core>
-    ensures { MatchOption result (part_at (cons part.now nil) place ≡ None) (λ t. part_at (cons part.now nil) place ≡ Some t.now) }
+    ensures { MatchOption result (subtree_at (cons part.now nil) place ≡ None) (λ t. subtree_at (cons part.now nil) place ≡ Some t.now) }
 {
     if place == 0 { Some(part) } else { None }
 }
 
 // The same of two trees.
 fn either_part<'a>(first: &'a Core, second: &'a Core, place: usize) -> Option<&'a Core>
-    ensures { MatchOption result (part_at (cons first.now (cons second.now nil)) place ≡ None) (λ t. part_at (cons first.now (cons second.now nil)) place ≡ Some t.now) }
+    ensures { MatchOption result (subtree_at (cons first.now (cons second.now nil)) place ≡ None) (λ t. subtree_at (cons first.now (cons second.now nil)) place ≡ Some t.now) }
 {
     if place == 0 {
         Some(first)
@@ -299,7 +299,7 @@ fn either_part<'a>(first: &'a Core, second: &'a Core, place: usize) -> Option<&'
 
 // The same of a tree before others.
 fn headed_part<'a>(head: &'a Core, parts: &'a CoreArgs, place: usize) -> Option<&'a Core>
-    ensures { MatchOption result (part_at (cons head.now (all parts.now)) place ≡ None) (λ t. part_at (cons head.now (all parts.now)) place ≡ Some t.now) }
+    ensures { MatchOption result (subtree_at (cons head.now (all parts.now)) place ≡ None) (λ t. subtree_at (cons head.now (all parts.now)) place ≡ Some t.now) }
 {
     if place == 0 {
         Some(head)
@@ -310,7 +310,7 @@ fn headed_part<'a>(head: &'a Core, parts: &'a CoreArgs, place: usize) -> Option<
 
 // The tree at a place under another.
 fn part(tree: &Core, place: usize) -> Option<&Core>
-    ensures { MatchOption result (part_at (parts_of tree.now) place ≡ None) (λ t. part_at (parts_of tree.now) place ≡ Some t.now) }
+    ensures { MatchOption result (subtree_at (subtrees tree.now) place ≡ None) (λ t. subtree_at (subtrees tree.now) place ≡ Some t.now) }
 {
     match &tree.node {
         CoreNode::Const(_)
@@ -337,7 +337,7 @@ fn part(tree: &Core, place: usize) -> Option<&Core>
 // A place after which no tree stands under another.
 #[tactic(auto, using(crate::proofs::Parts::past_none, crate::proofs::Parts::past_one, crate::proofs::Parts::past_two, crate::proofs::Parts::past_listed, crate::proofs::Parts::past_headed, crate::proofs::Parts::past_fields))]
 fn last_place(tree: &Core) -> usize
-    ensures { IsPast result (parts_of tree.now) }
+    ensures { IsPast result (subtrees tree.now) }
 {
     match &tree.node {
         CoreNode::Const(_)
@@ -397,7 +397,7 @@ fn is_old_part(
     place: usize,
 ) -> bool
     requires { AreOldPlaces old.now new.now places.now }
-    ensures { IsTrue result ↔ IsOldPart (IsOldSource old.now new.now) (part_at (parts_of tree.now) place) (part_at (parts_of was.now) place) }
+    ensures { IsTrue result ↔ IsOldPart (IsOldSource old.now new.now) (subtree_at (subtrees tree.now) place) (subtree_at (subtrees was.now) place) }
 {
     match (part(tree, place), part(was, place)) {
         (Some(one), Some(other)) => is_old_tree(old, new, places, one, other),

@@ -6,7 +6,7 @@ ghost use Rattle.app_semantics.specs.Fresh.{IsCellValue, IsFresh, IsValueOf};
 ghost use Rattle.app_semantics.specs.Holding.{HoldsFitting};
 ghost use Rattle.app_semantics.specs.Needed.{is_alone, stands_alone as is_by_itself};
 ghost use Rattle.app_semantics.specs.Present.{present};
-ghost use Rattle.app_semantics.specs.Sound.{IsSound};
+ghost use Rattle.app_semantics.specs.Sound.{IsSoundApp};
 ghost use Rattle.fx_types.specs.ValueView.{view};
 ghost use Rattle.fx_scalar.specs.ScalarFunctions.{IsToday};
 ghost use Rattle.fx_types.specs.Values.{blank};
@@ -19,7 +19,7 @@ ghost use Rattle.recalc.specs.Values.{CellsFit, value_of};
 
 use crate::app_cells::{App, CellInfo};
 use crate::evaluating::formula_value;
-use crate::sources;
+use crate::session_sources;
 use fx_base::Memory;
 use fx_core::Names;
 use fx_env::Steps;
@@ -44,9 +44,9 @@ impl Model for Valued {
     ghost use Rattle.std.specs.Coded.{codes};
     ghost use Rattle.fx_types.specs.ValueCode.{data_code};
     ghost use Rattle.fx_types.specs.ValueView.{view as value_view};
-    ghost use Rattle.recalc.specs.Values.{Values};
+    ghost use Rattle.recalc.specs.Values.{CellValues};
 
-    ghost Value = { Values };
+    ghost Value = { CellValues };
 
     ghost coded = { Prim.hlevel (codes, data_code) };
 
@@ -59,14 +59,14 @@ impl Valued {
     ghost use Rattle.app_semantics.specs.Holding.{HoldsFitting};
     ghost use Rattle.app_semantics.specs.Needed.{stands_alone as is_by_itself};
     ghost use Rattle.app_semantics.specs.Present.{input_of, items_of, present};
-    ghost use Rattle.app_semantics.specs.Sound.{IsSound};
+    ghost use Rattle.app_semantics.specs.Sound.{IsSoundApp};
     ghost use Rattle.fx_types.specs.TypeView.{shape};
     ghost use Rattle.fx_types.specs.ValueView.{view};
     ghost use Rattle.fx_types.specs.Values.{blank};
     ghost use Rattle.fx_scalar.specs.ScalarFunctions.{IsToday};
     ghost use Rattle.fx_semantics.specs.Sound.{IsItemFit};
     ghost use Rattle.fx_core.specs.declared.sources.Source.TheVariants as source;
-    ghost use Rattle.fx_typing.specs.Typing.{item_of};
+    ghost use Rattle.fx_typing.specs.Typing.{item_context};
     ghost use Rattle.fx_value.specs.Fits.{fits_in};
     ghost use Rattle.recalc.specs.Asking.{CanAsk, IsHeardOf, ReadsNone, ToldRows};
     ghost use Rattle.recalc.specs.AskingOver.{HasRead};
@@ -132,7 +132,7 @@ impl Valued {
     pub fn value(&self, alloc: Global, cell: u32) -> Result<Value, Memory>
         ensures { IfOk result (λ v. view v ≡ value_of self.now cell) }
     {
-        sources::value_of(alloc, self.values.as_slice(), cell)
+        session_sources::value_of(alloc, self.values.as_slice(), cell)
     }
 
     /// The value of an input: the user's, else that of the formula of its default, else that of its kind.
@@ -146,14 +146,14 @@ impl Valued {
         requires { Holds session.now (source.Input control) }
         ensures { IfOk result (λ v. view v ≡ input_of names.now session.now (value_of self.now) control) }
     {
-        sources::input(alloc, names, session, self.values.as_slice(), control)
+        session_sources::input(alloc, names, session, self.values.as_slice(), control)
     }
 
     /// The items of a gallery.
     pub fn items(&self, alloc: Global, names: &Names, gallery: u32) -> Result<Value, Memory>
         ensures { IfOk result (λ v. view v ≡ items_of names.now (value_of self.now) gallery) }
     {
-        sources::items(alloc, names, self.values.as_slice(), gallery)
+        session_sources::items(alloc, names, self.values.as_slice(), gallery)
     }
 
     /// The value of a formula that has one by itself, over those of the cells on which it leans, in one step. `Failed` only
@@ -167,7 +167,7 @@ impl Valued {
         info: &CellInfo,
         steps: &mut Steps<L>,
     ) -> Result<Value, KeeperEnd>
-        requires sound { IsSound app.now }
+        requires sound { IsSoundApp app.now }
         requires holds { HoldsFitting app.now.names session.now }
         requires fits { CellsFit app.now (value_of self.now) }
         requires day { (moment : ℕ) × IsToday moment self.now.day }
@@ -202,13 +202,13 @@ impl Valued {
         item: Value,
         steps: &mut Steps<L>,
     ) -> Result<Value, KeeperEnd>
-        requires sound { IsSound app.now }
+        requires sound { IsSoundApp app.now }
         requires holds { HoldsFitting app.now.names session.now }
         requires fits { CellsFit app.now (value_of self.now) }
         requires day { (moment : ℕ) × IsToday moment self.now.day }
         requires cell { (k : ℕ) × (slice_get app.now.cells k ≡ Some info.now) }
         requires quiet { info.now.cell.acts ≡ false }
-        requires item { IsItemFit (Some (view item)) (item_of app.now.names info.now.cell.item) }
+        requires item { IsItemFit (Some (view item)) (item_context app.now.names info.now.cell.item) }
         requires shaped { K.shaped keeper.old ≡ Some app.now.names.schema }
         ensures value { IfOk result (λ v. (moment : ℕ) (tables : ToldRows) → IsToday moment self.now.day → IsHeardOf (K.told keeper.new) tables →
             IsValueOf (present app.now session.now tables moment) (value_of self.now) (Some (view item)) info.now (view v)) }
@@ -246,7 +246,7 @@ pub fn evaluate<K: Keeper, L: Ledger>(
     moment: u64,
     steps: &mut Steps<L>,
 ) -> Result<Valued, KeeperEnd>
-    requires sound { IsSound app.now }
+    requires sound { IsSoundApp app.now }
     requires holds { HoldsFitting app.now.names session.now }
     requires asks { CanAsk app.now (K.shaped keeper.old) }
     ensures fresh { IfOk result (λ v. (tables : ToldRows) → IsHeardOf (K.told keeper.new) tables → IsFresh (present app.now session.now tables moment) (value_of v)) }
@@ -274,7 +274,7 @@ fn keep_values<K: Keeper, L: Ledger>(
     day: &Value,
     steps: &mut Steps<L>,
 ) -> Result<Vec<Value>, KeeperEnd>
-    requires sound { IsSound app.now }
+    requires sound { IsSoundApp app.now }
     requires holds { HoldsFitting app.now.names session.now }
     requires day { (moment : ℕ) × IsToday moment (view day.now) }
     requires asks { CanAsk app.now (K.shaped keeper.old) }
@@ -356,7 +356,7 @@ fn keep_value<K: Keeper, L: Ledger>(
     number: u32,
     steps: &mut Steps<L>,
 ) -> Result<(), KeeperEnd>
-    requires sound { IsSound app.now }
+    requires sound { IsSoundApp app.now }
     requires holds { HoldsFitting app.now.names session.now }
     requires day { (moment : ℕ) × IsToday moment (view day.now) }
     requires number { number < length app.now.cells }
@@ -396,7 +396,7 @@ fn keep_formula<K: Keeper, L: Ledger>(
     info: &CellInfo,
     steps: &mut Steps<L>,
 ) -> Result<(), KeeperEnd>
-    requires sound { IsSound app.now }
+    requires sound { IsSoundApp app.now }
     requires holds { HoldsFitting app.now.names session.now }
     requires day { (moment : ℕ) × IsToday moment (view day.now) }
     requires there { slice_get app.now.cells number ≡ Some info.now }

@@ -11,57 +11,57 @@ use Rattle.fx_types.specs.declared.aggregates.Totals.{Totals}
 use Rattle.fx_value.specs.Aggregates.{SumsUp, numbers_in}
 use Rattle.fx_core.specs.declared.schema.TableShape.{TableShape}
 use Rattle.row_queries.specs.Conditions.{Condition, ConditionList, all_of, also, always, any_of, compares, constant, contains, flag, is_blank, no_conditions, opposite, starts}
-use Rattle.row_queries.specs.Queries.{AreAsked, IsQuery, IsScanned, IsTotalled, lies, first_fault, first_of, given_of, outcome_on, rows_or_fault}
-use Rattle.row_queries.specs.RowTests.{CanAsk, CanAskAll, HasNoFaults, HaveNoFaults, IsFaultOr, IsNoFault, IsTruth, Outcome, all_outcome, and_then, any_outcome, decided, decided_by, failed, fault_in, is_met, met, or_else, outcome, reversed, unless_fault, unmet}
+use Rattle.row_queries.specs.Queries.{AreAsked, IsQuery, IsScanned, IsTotalled, lies, first_outcome_fault, first_of, given_of, outcome_on, rows_or_fault}
+use Rattle.row_queries.specs.RowTests.{CanAsk, CanAskAll, HasNoFaults, HaveNoFaults, IsFaultOr, IsNoFault, IsTruth, Outcome, all_outcome, and_outcome, any_outcome, decided, decided_by, failed, outcome_fault, is_met, met, or_outcome, outcome, reversed, unless_fault, unmet}
 use Rattle.row_queries.specs.TableRows.{IsRowOf, value_at, values_of}
 use Rattle.row_queries.specs.declared.queries.Query.{Query}
 use Rattle.row_queries.specs.declared.rows.Row.{Row}
-use Rattle.row_keeper.specs.Pages.{AreFirst, IsGiven, IsPage}
+use Rattle.row_keeper.specs.Pages.{AreFirstRows, QueryGives, IsPage}
 use Rattle.row_keeper.proofs.StoreLemmas.{shorter}
 
 -- ---- a test without errors as constants is no error on a row that it can be asked of
-truth : (d : Data) → IsTruth d → fault_in (decided_by d) ≡ None
+truth : (d : Data) → IsTruth d → outcome_fault (decided_by d) ≡ None
 truth (boolean true) h = refl
 truth (boolean false) h = refl
 truth blank h = refl
 truth d h = absurd h
 
-truth_at : (o : Option Data) → IsSomeAnd o IsTruth → fault_in (decided_by (unwrap_or o blank)) ≡ None
+truth_at : (o : Option Data) → IsSomeAnd o IsTruth → outcome_fault (decided_by (unwrap_or o blank)) ≡ None
 truth_at None h = absurd h
 truth_at (Some d) h = truth d h
 
-truth_given : (d : Data) → IsFaultOr IsTruth d → IsNoFault d → fault_in (decided_by d) ≡ None
+truth_given : (d : Data) → IsFaultOr IsTruth d → IsNoFault d → outcome_fault (decided_by d) ≡ None
 truth_given (fault k cs) h n = absurd n
 truth_given (boolean true) h n = refl
 truth_given (boolean false) h n = refl
 truth_given blank h n = refl
 truth_given d h n = absurd h
 
-decided_sound : (b : Bool) → fault_in (decided b) ≡ None
+decided_sound : (b : Bool) → outcome_fault (decided b) ≡ None
 decided_sound true = refl
 decided_sound false = refl
 
-unless_sound : (d : Data) (b : Bool) → IsNoFault d → fault_in (unless_fault d (decided b)) ≡ None
+unless_sound : (d : Data) (b : Bool) → IsNoFault d → outcome_fault (unless_fault d (decided b)) ≡ None
 unless_sound (fault k cs) b n = absurd n
 unless_sound d b n = decided_sound b
 
-reversed_sound : (o : Outcome) → fault_in o ≡ None → fault_in (reversed o) ≡ None
+reversed_sound : (o : Outcome) → outcome_fault o ≡ None → outcome_fault (reversed o) ≡ None
 reversed_sound met h = refl
 reversed_sound unmet h = refl
 reversed_sound (failed k cs) h = h
 
-and_sound : (o p : Outcome) → fault_in o ≡ None → fault_in p ≡ None → fault_in (and_then o p) ≡ None
+and_sound : (o p : Outcome) → outcome_fault o ≡ None → outcome_fault p ≡ None → outcome_fault (and_outcome o p) ≡ None
 and_sound met p h k = k
 and_sound unmet p h k = refl
 and_sound (failed kind cs) p h k = h
 
-or_sound : (o p : Outcome) → fault_in o ≡ None → fault_in p ≡ None → fault_in (or_else o p) ≡ None
+or_sound : (o p : Outcome) → outcome_fault o ≡ None → outcome_fault p ≡ None → outcome_fault (or_outcome o p) ≡ None
 or_sound met p h k = refl
 or_sound unmet p h k = k
 or_sound (failed kind cs) p h k = h
 
 mutual
-  no_fault : (row : List Data) (c : Condition) → CanAsk row c → HasNoFaults c → fault_in (outcome row c) ≡ None
+  no_fault : (row : List Data) (c : Condition) → CanAsk row c → HasNoFaults c → outcome_fault (outcome row c) ≡ None
   no_fault row always h n = refl
   no_fault row (flag k) h n = truth_at (slice_get row k) h
   no_fault row (constant d) h n = truth_given d h n
@@ -73,26 +73,26 @@ mutual
   no_fault row (any_of cs) h n = no_fault_any row cs h n
   no_fault row (opposite c) h n = reversed_sound (outcome row c) (no_fault row c h n)
 
-  no_fault_all : (row : List Data) (cs : ConditionList) → CanAskAll row cs → HaveNoFaults cs → fault_in (all_outcome row cs) ≡ None
+  no_fault_all : (row : List Data) (cs : ConditionList) → CanAskAll row cs → HaveNoFaults cs → outcome_fault (all_outcome row cs) ≡ None
   no_fault_all row no_conditions h n = refl
   no_fault_all row (also c cs) h n = and_sound (outcome row c) (all_outcome row cs) (no_fault row c h.0 n.0) (no_fault_all row cs h.1 n.1)
 
-  no_fault_any : (row : List Data) (cs : ConditionList) → CanAskAll row cs → HaveNoFaults cs → fault_in (any_outcome row cs) ≡ None
+  no_fault_any : (row : List Data) (cs : ConditionList) → CanAskAll row cs → HaveNoFaults cs → outcome_fault (any_outcome row cs) ≡ None
   no_fault_any row no_conditions h n = refl
   no_fault_any row (also c cs) h n = or_sound (outcome row c) (any_outcome row cs) (no_fault row c h.0 n.0) (no_fault_any row cs h.1 n.1)
 
-next_fault : (o : Outcome) (os : List Outcome) → fault_in o ≡ None → first_fault os ≡ None → first_fault (o ∷ os) ≡ None
+next_fault : (o : Outcome) (os : List Outcome) → outcome_fault o ≡ None → first_outcome_fault os ≡ None → first_outcome_fault (o ∷ os) ≡ None
 next_fault met os h k = k
 next_fault unmet os h k = k
 next_fault (failed kind cs) os h k = absurd cc
 
-pub no_faults : (q : Query) (rows : List Row) → AllByRecursion (λ (r : Row). CanAsk (values_of r) q.test) rows → HasNoFaults q.test → first_fault (map (outcome_on q) rows) ≡ None
+pub no_faults : (q : Query) (rows : List Row) → AllByRecursion (λ (r : Row). CanAsk (values_of r) q.test) rows → HasNoFaults q.test → first_outcome_fault (map (outcome_on q) rows) ≡ None
 no_faults q [] h n = refl
 no_faults q (r ∷ rows) h n = next_fault (outcome_on q r) (map (outcome_on q) rows) (no_fault (values_of r) q.test h.0 n) (no_faults q rows h.1 n)
 
 -- the rows that were judged, where there is no error
-pub judged_rows : (q : Query) (asked rows : List Row) (f : Option Fault) → first_fault (map (outcome_on q) asked) ≡ None
-    → MatchOption f ((first_fault (map (outcome_on q) asked) ≡ None) × (rows ≡ filter (λ r. is_met (outcome_on q r)) asked)) (λ x. first_fault (map (outcome_on q) asked) ≡ Some x)
+pub judged_rows : (q : Query) (asked rows : List Row) (f : Option Fault) → first_outcome_fault (map (outcome_on q) asked) ≡ None
+    → MatchOption f ((first_outcome_fault (map (outcome_on q) asked) ≡ None) × (rows ≡ filter (λ r. is_met (outcome_on q r)) asked)) (λ x. first_outcome_fault (map (outcome_on q) asked) ≡ Some x)
     → rows ≡ filter (λ r. is_met (outcome_on q r)) asked
 judged_rows q asked rows None n h = h.1
 judged_rows q asked rows (Some x) n h = absurd (let e : None ≡ Some x = sym n ∙ h in cc)
@@ -144,8 +144,8 @@ enough_met p asked most size (inr h) =
     let e = length-take size asked in
     ap (λ l. take most (filter p l)) (take_all size asked (omega (arith, e, h)))
 
-pub page_is : (q : Query) (rows first judged : List Row) (most size count found : ℕ) → IsPage q most → AreFirst q rows size first → ((asked : List Row) → AreAsked q rows asked → AllByRecursion (λ (r : Row). CanAsk (values_of r) q.test) asked)
-    → judged ≡ filter (λ r. is_met (outcome_on q r)) first → count ≡ length first → found ≡ length judged → (most ≤ found) ⊎ (count < size) → IsGiven q rows (first_of q.take judged) count
+pub page_is : (q : Query) (rows first judged : List Row) (most size count found : ℕ) → IsPage q most → AreFirstRows q rows size first → ((asked : List Row) → AreAsked q rows asked → AllByRecursion (λ (r : Row). CanAsk (values_of r) q.test) asked)
+    → judged ≡ filter (λ r. is_met (outcome_on q r)) first → count ≡ length first → found ≡ length judged → (most ≤ found) ⊎ (count < size) → QueryGives q rows (first_of q.take judged) count
 page_is q rows first judged most size count found is (asked, are, e) able j c m enough = record {
   asked = asked;
   are = are;
@@ -170,7 +170,7 @@ page_is q rows first judged most size count found is (asked, are, e) able j c m 
     passes : Row → Bool
     passes r = is_met (outcome_on q r)
 
-pub all_given : (q : Query) (rows asked given : List Row) (most count : ℕ) → IsPage q most → AreAsked q rows asked → AllByRecursion (λ (r : Row). CanAsk (values_of r) q.test) asked → given ≡ given_of q asked → count ≡ length asked → IsGiven q rows given count
+pub all_given : (q : Query) (rows asked given : List Row) (most count : ℕ) → IsPage q most → AreAsked q rows asked → AllByRecursion (λ (r : Row). CanAsk (values_of r) q.test) asked → given ≡ given_of q asked → count ≡ length asked → QueryGives q rows given count
 all_given q rows asked given most count is are able e c = record {
   asked = asked;
   are = are;
@@ -180,7 +180,7 @@ all_given q rows asked given most count is are able e c = record {
   most = let p = length_permutation (filter (lies q) rows) asked are.rearranged in omega (arith, p, c);
 }
 
-pub scanned_is : (q : Query) (rows given : List Row) (count : ℕ) → IsGiven q rows given count → IsScanned q rows (record { rows = given; fault = None })
+pub scanned_is : (q : Query) (rows given : List Row) (count : ℕ) → QueryGives q rows given count → IsScanned q rows (record { rows = given; fault = None })
 scanned_is q rows given count h = (h.asked, h.are, ap₂ rows_or_fault h.are_given (sym h.sound))
 
 pub first_fits : (o : Option TableShape) (q : Query) (first judged : List Row) → IsSomeAnd o (λ (t : TableShape). AllByRecursion (IsRowOf t) first) → judged ≡ filter (λ r. is_met (outcome_on q r)) first

@@ -24,9 +24,9 @@ use Rattle.row_queries.specs.declared.rows.Row.{Row}
 use Rattle.row_queries.specs.declared.ranges.KeyRange.{KeyRange}
 use Rattle.row_queries.specs.Ranges.{in_range}
 use Rattle.row_keeper.specs.declared.index.Mark.{Mark}
-use Rattle.row_keeper.specs.declared.slots.Slot.{Slot}
+use Rattle.row_keeper.specs.declared.row_slots.Slot.{Slot}
 use Rattle.row_keeper.specs.Covered.{Agrees, covers, has_entry, key_at, lie_in}
-use Rattle.row_keeper.specs.Entries.{Entry, Entries, entry_cmp, is_now, now_in, among, hits, hits_in, lies_at}
+use Rattle.row_keeper.specs.Entries.{IndexEntry, Entries, entry_cmp, is_now, now_in, among, hits, hits_in, lies_at}
 use Rattle.std.specs.Prelude.{option_to_list}
 use Rattle.row_keeper.specs.Found.{row_under, rows_of_ids}
 use Rattle.row_keeper.specs.Slots.{cells_now, now_at, now_in_slot, row_before, rows_now}
@@ -34,7 +34,7 @@ use Rattle.row_keeper.proofs.MarkLemmas.{entry_total, same_entry}
 use Rattle.fx_core.proofs.Spelled.{same_truth}
 
 -- an entry of a row now, in the range, is a hit
-hit_from : (column : ℕ) (r : KeyRange) (es : Entries) (q : Entry) → q.0.0 ≡ column → now_in es q ≡ true → in_range q.0.1 r ≡ true → hits column r es q.1 ≡ true
+hit_from : (column : ℕ) (r : KeyRange) (es : Entries) (q : IndexEntry) → q.0.0 ≡ column → now_in es q ≡ true → in_range q.0.1 r ≡ true → hits column r es q.1 ≡ true
 hit_from column r [] q c h g = absurd cc
 hit_from column r (e ∷ es) q c h g = go (λ f. hit_from column r es q c f g) (is_at (entry_cmp q) e.0) refl (lies_at column r e) refl
   where
@@ -43,14 +43,14 @@ hit_from column r (e ∷ es) q c h g = go (λ f. hit_from column r es q c f g) (
     rest false c f = f
 
     lies_here : q ≡ e.0 → lies_at column r e ≡ true
-    lies_here same = subst (λ (p : Entry). ((p.0.0 == column) && in_range p.0.1 r) ≡ true) same (ap₂ (λ x y. x && y) (eq-eqb q.0.0 column c) g)
+    lies_here same = subst (λ (p : IndexEntry). ((p.0.0 == column) && in_range p.0.1 r) ≡ true) same (ap₂ (λ x y. x && y) (eq-eqb q.0.0 column c) g)
 
     go : (now_in es q ≡ true → hits column r es q.1 ≡ true) → (t : Bool) → is_at (entry_cmp q) e.0 ≡ t → (u : Bool) → lies_at column r e ≡ u → among (cond u (e ∷ filter (lies_at column r) es) (filter (lies_at column r) es)) q.1 ≡ true
     go ih true f false u = absurd (let z : lies_at column r e ≡ true = lies_here (same_entry q e.0 f) in cc)
     go ih true f true u =
         let same : q ≡ e.0 = same_entry q e.0 f in
         let is : e.1.is ≡ true = subst (λ b. is_now (cond b (Some e.1) (lookup (is_at (entry_cmp q)) es)) ≡ true) f h in
-        let it : (e.0.1 == q.1) ≡ true = eq-eqb e.0.1 q.1 (sym (ap (λ (p : Entry). p.1) same)) in
+        let it : (e.0.1 == q.1) ≡ true = eq-eqb e.0.1 q.1 (sym (ap (λ (p : IndexEntry). p.1) same)) in
         ap₂ (λ x y. (x && y) || among (filter (lies_at column r) es) q.1) is it
     go ih false f true u = rest (e.1.is && (e.0.1 == q.1)) (hits column r es q.1) (ih (subst (λ b. is_now (cond b (Some e.1) (lookup (is_at (entry_cmp q)) es)) ≡ true) f h))
     go ih false f false u = ih (subst (λ b. is_now (cond b (Some e.1) (lookup (is_at (entry_cmp q)) es)) ≡ true) f h)

@@ -14,9 +14,9 @@ use Rattle.row_queries.specs.TableRows.{AreHeldRows, IsHeldRow, IsRowOf, rows_at
 use Rattle.row_queries.specs.declared.queries.Query.{Query}
 use Rattle.row_queries.specs.declared.rows.Row.{Row}
 use Rattle.row_keeper.specs.Kept.{columns_kept, columns_shaped}
-use Rattle.row_keeper.specs.Sound.{IsSound, IsSoundRow, IsSoundState}
+use Rattle.row_keeper.specs.Sound.{IsSoundTable, IsSoundRow, IsSoundState}
 use Rattle.row_keeper.specs.TableView.{TableView, states_now}
-use Rattle.row_keeper.specs.Tables.{TableState, rows_of}
+use Rattle.row_keeper.specs.Tables.{TableState, rows_of_tables}
 use Rattle.row_keeper.proofs.StoreLemmas.{at_map, fit_there}
 
 -- the numbers of rows are in the range of numbers
@@ -37,14 +37,14 @@ held_state : (t : TableShape) (s : TableState) → IsSoundState t.columns s → 
 held_state t s h = (h.rising, All-from_recursion (IsHeldRow t) s.rows (held_rows t s.last h.bounded s.rows h.given h.rows))
 
 -- the rows of the table at a place
-rows_there : (tables : List TableView) (i : ℕ) (v : TableView) → slice_get tables i ≡ Some v → rows_at (rows_of (states_now tables)) i ≡ v.now.rows
+rows_there : (tables : List TableView) (i : ℕ) (v : TableView) → slice_get tables i ≡ Some v → rows_at (rows_of_tables (states_now tables)) i ≡ v.now.rows
 rows_there tables i v h =
     ap (λ (o : Option (List Row)). unwrap_or o []) (at_map (λ (s : TableState). s.rows) (states_now tables) i v.now (at_map (λ (x : TableView). x.now) tables i v h))
 
 pub held_there : (shapes : List TableShape) (tables : List TableView) (i : ℕ) (t : TableShape) (v : TableView) → columns_kept tables ≡ columns_shaped shapes → slice_get shapes i ≡ Some t → slice_get tables i ≡ Some v →
-    IsSound v → IsSomeAnd (slice_get shapes i) (λ (x : TableShape). AreHeldRows x (rows_at (rows_of (states_now tables)) i))
+    IsSoundTable v → IsSomeAnd (slice_get shapes i) (λ (x : TableShape). AreHeldRows x (rows_at (rows_of_tables (states_now tables)) i))
 held_there shapes tables i t v e shaped there sound =
-    subst (λ (o : Option TableShape). IsSomeAnd o (λ (x : TableShape). AreHeldRows x (rows_at (rows_of (states_now tables)) i))) (sym shaped)
+    subst (λ (o : Option TableShape). IsSomeAnd o (λ (x : TableShape). AreHeldRows x (rows_at (rows_of_tables (states_now tables)) i))) (sym shaped)
     (subst (AreHeldRows t) (sym (rows_there tables i v there)) (held_state t v.now here))
   where
     same : v.columns ≡ t.columns

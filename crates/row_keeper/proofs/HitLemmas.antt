@@ -12,7 +12,7 @@ use Rattle.std.proofs.lemmas.List.Elements.{filter_agree}
 use Rattle.fx_value.proofs.ByteOrder.{R, le_trans, lt_is}
 use Rattle.row_queries.specs.declared.ranges.KeyRange.{KeyRange}
 use Rattle.row_queries.specs.Ranges.{in_range, is_before_end}
-use Rattle.row_keeper.specs.Entries.{Entry, Entries, entry_cmp, among, end_key, hits, lies_at}
+use Rattle.row_keeper.specs.Entries.{IndexEntry, Entries, entry_cmp, among, end_key, hits, lies_at}
 
 zero_first : (i : ℕ) → is_le (nat_cmp 0 i) ≡ true
 zero_first i = grind (arith, nat_tests)
@@ -31,7 +31,7 @@ empty_first [] = refl
 empty_first (x ∷ xs) = refl
 
 -- what lies between the beginning of a range and what it ends before
-abbrev kept_between : ℕ → List ℕ → ℕ × List ℕ → Entry → Bool
+abbrev kept_between : ℕ → List ℕ → ℕ × List ℕ → IndexEntry → Bool
 kept_between column from to e = is_le (ordering_then (ordering_then (nat_cmp column e.0.0) (R from e.0.1)) (nat_cmp 0 e.1)) && not (is_le (ordering_then (ordering_then (nat_cmp to.0 e.0.0) (R to.1 e.0.1)) (nat_cmp 0 e.1)))
 
 same_column : (o p : Ordering) (column c : ℕ) → nat_cmp column c ≡ o → (c == column) ≡ is_eq o
@@ -45,7 +45,7 @@ same_column o p column c h = ties_of c column ∙ ap is_eq (nat_flip c column) �
     flipped Equal = refl
     flipped Greater = refl
 
-between_key : (column : ℕ) (from to : List ℕ) (e : Entry) → kept_between column from (column, to) e ≡ ((e.0.0 == column) && in_range e.0.1 (record { from = from; upto = Some to }))
+between_key : (column : ℕ) (from to : List ℕ) (e : IndexEntry) → kept_between column from (column, to) e ≡ ((e.0.0 == column) && in_range e.0.1 (record { from = from; upto = Some to }))
 between_key column from to e =
     ap₂ (λ x y. x && not y) (from_low (ordering_then (nat_cmp column e.0.0) (R from e.0.1)) e.1) (from_low (ordering_then (nat_cmp column e.0.0) (R to e.0.1)) e.1)
     ∙ by (nat_cmp column e.0.0) refl
@@ -55,7 +55,7 @@ between_key column from to e =
     by Equal h = ap (λ b. is_le (R from e.0.1) && b) (sym (lt_is R nat_list_cmp_total e.0.1 to)) ∙ ap (λ b. b && in_range e.0.1 (record { from = from; upto = Some to })) (sym (same_column Equal Less column e.0.0 h))
     by Greater h = ap (λ b. b && in_range e.0.1 (record { from = from; upto = Some to })) (sym (same_column Greater Less column e.0.0 h))
 
-between_rest : (column : ℕ) (from : List ℕ) (e : Entry) → kept_between column from (column + 1, []) e ≡ ((e.0.0 == column) && in_range e.0.1 (record { from = from; upto = None }))
+between_rest : (column : ℕ) (from : List ℕ) (e : IndexEntry) → kept_between column from (column + 1, []) e ≡ ((e.0.0 == column) && in_range e.0.1 (record { from = from; upto = None }))
 between_rest column from e =
     ap₂ (λ x y. x && not y) (from_low (ordering_then (nat_cmp column e.0.0) (R from e.0.1)) e.1) (from_low (ordering_then (nat_cmp (column + 1) e.0.0) (R [] e.0.1)) e.1)
     ∙ by (nat_cmp column e.0.0) refl
@@ -83,7 +83,7 @@ between_rest column from e =
     by Equal h = ap (λ o. is_le (R from e.0.1) && not (is_le (ordering_then o (R [] e.0.1)))) (here h) ∙ ap (λ b. b && in_range e.0.1 (record { from = from; upto = None })) (sym (same_column Equal Less column e.0.0 h))
     by Greater h = ap (λ b. b && in_range e.0.1 (record { from = from; upto = None })) (sym (same_column Greater Less column e.0.0 h))
 
-kept_is : (column : ℕ) (r : KeyRange) (u : Option (List ℕ)) → r.upto ≡ u → (e : Entry) → kept_between column r.from (end_key column u) e ≡ ((e.0.0 == column) && in_range e.0.1 r)
+kept_is : (column : ℕ) (r : KeyRange) (u : Option (List ℕ)) → r.upto ≡ u → (e : IndexEntry) → kept_between column r.from (end_key column u) e ≡ ((e.0.0 == column) && in_range e.0.1 r)
 kept_is column r None f e = between_rest column r.from e ∙ ap (λ u. (e.0.0 == column) && (is_le (R r.from e.0.1) && is_before_end u e.0.1)) (sym f)
 kept_is column r (Some to) f e = between_key column r.from to e ∙ ap (λ u. (e.0.0 == column) && (is_le (R r.from e.0.1) && is_before_end u e.0.1)) (sym f)
 
@@ -130,7 +130,7 @@ nothing_between column r h es = none_kept _ (λ x. none x.0) es
             clash false q = absurd (let z : is_lt (R r.from to) ≡ true = lt_is R nat_list_cmp_total r.from to ∙ ap not q in let b : is_lt (R r.from to) ≡ false = below in cc)
             clash true q = absurd (let z : is_le (R to k) ≡ true = le_trans R nat_list_cmp_total to r.from k q f in let w : is_lt (R k to) ≡ false = lt_is R nat_list_cmp_total k to ∙ ap not z in cc)
 
-    none : (e : Entry) → ((e.0.0 == column) && in_range e.0.1 r) ≡ false
+    none : (e : IndexEntry) → ((e.0.0 == column) && in_range e.0.1 r) ≡ false
     none e = ap (λ b. (e.0.0 == column) && b) (ends r.upto h e.0.1) ∙ right (e.0.0 == column)
 
 pub none_between : (column : ℕ) (r : KeyRange) → is_lt (entry_cmp ((column, r.from), 0) (end_key column r.upto, 0)) ≡ false → (es : Entries) (i : ℕ) → hits column r es i ≡ false

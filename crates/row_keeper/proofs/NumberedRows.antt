@@ -12,14 +12,14 @@ use Rattle.std.proofs.lemmas.List.Sorted.{IsPermutation-refl}
 use Rattle.std.proofs.lemmas.List.Elements.{filter_agree}
 use Rattle.fx_value.specs.Keys.{key_bytes}
 use Rattle.row_queries.specs.Laws.{AskedOnce}
-use Rattle.row_queries.specs.Queries.{AreAsked, IsScanned, first_fault, given_of, lies, outcome_on, row_order, rows_or_fault}
+use Rattle.row_queries.specs.Queries.{AreAsked, IsScanned, first_outcome_fault, given_of, lies, outcome_on, row_order, rows_or_fault}
 use Rattle.row_queries.specs.TableRows.{AreInIdOrder, IsBelowAll, id_value, rows_at}
 use Rattle.row_queries.specs.declared.queries.Query.{Query}
 use Rattle.row_queries.specs.declared.rows.Row.{Row}
 use Rattle.row_queries.specs.Ranges.{in_ranges}
 use Rattle.row_queries.specs.RowTests.{decided, is_met}
 use Rattle.row_queries.specs.declared.rows.RowList.{RowList}
-use Rattle.row_keeper.specs.Tables.{TableState, has_id, rows_of, state_at}
+use Rattle.row_keeper.specs.Tables.{TableState, has_id, rows_of_tables, state_at}
 use Rattle.row_keeper.specs.Numbered.{one_row}
 use Rattle.row_keeper.specs.Rules.{only_key}
 use Rattle.row_keeper.proofs.RowLists.{order_less}
@@ -126,11 +126,11 @@ met_one table id r = met (is_eq (int_cmp (pos (r.id * 10000)) (pos (id * 10000))
     met true = refl
     met false = refl
 
-clear_one : (table id : ℕ) (rows : List Row) → first_fault (map (outcome_on (one_row table id)) rows) ≡ None
+clear_one : (table id : ℕ) (rows : List Row) → first_outcome_fault (map (outcome_on (one_row table id)) rows) ≡ None
 clear_one table id [] = refl
 clear_one table id (r ∷ rows) = by (is_eq (int_cmp (pos (r.id * 10000)) (pos (id * 10000)))) (clear_one table id rows)
   where
-    by : (b : Bool) → first_fault (map (outcome_on (one_row table id)) rows) ≡ None → first_fault (decided b ∷ map (outcome_on (one_row table id)) rows) ≡ None
+    by : (b : Bool) → first_outcome_fault (map (outcome_on (one_row table id)) rows) ≡ None → first_outcome_fault (decided b ∷ map (outcome_on (one_row table id)) rows) ≡ None
     by true ih = ih
     by false ih = ih
 
@@ -156,7 +156,7 @@ given_one law table id rows answer h (asked, is, answered) =
 
 -- ---- the rows of a table
 
-pub rows_are : (ss : List TableState) (k : ℕ) → rows_at (rows_of ss) k ≡ (state_at ss k).rows
+pub rows_are : (ss : List TableState) (k : ℕ) → rows_at (rows_of_tables ss) k ≡ (state_at ss k).rows
 rows_are [] k = refl
 rows_are (s ∷ ss) zero = refl
 rows_are (s ∷ ss) (suc k) = rows_are ss k

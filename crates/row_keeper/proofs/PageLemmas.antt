@@ -22,14 +22,14 @@ use Rattle.fx_types.specs.Values.{Data}
 use Rattle.fx_number.specs.Decimal.{IsInRange}
 use Rattle.fx_value.specs.Keys.{KeysOrder, key_bytes}
 use Rattle.fx_value.proofs.ByteOrder.{le_trans, lt_is}
-use Rattle.row_queries.specs.Ranges.{AreRising, EndsBeforeAll, in_range, is_before_end}
+use Rattle.row_queries.specs.Ranges.{AreRangesRising, EndsBeforeAll, in_range, is_before_end}
 use Rattle.row_queries.specs.TableRows.{id_value}
 use Rattle.row_queries.specs.declared.ranges.KeyRange.{KeyRange}
 use Rattle.row_queries.specs.declared.rows.Row.{Row}
 use Rattle.row_keeper.specs.declared.index.Mark.{Mark}
-use Rattle.row_keeper.specs.declared.slots.Slot.{Slot}
+use Rattle.row_keeper.specs.declared.row_slots.Slot.{Slot}
 use Rattle.row_keeper.specs.Covered.{Agrees, NoneAbove, covers, has_entry}
-use Rattle.row_keeper.specs.Entries.{Entry, Entries, among, entry_cmp, hits_in, ids_in, ids_of, lies_at, now_in}
+use Rattle.row_keeper.specs.Entries.{IndexEntry, Entries, among, entry_cmp, hits_in, ids_in, ids_of, lies_at, now_in}
 use Rattle.row_keeper.specs.Found.{row_under, rows_of_ids}
 use Rattle.row_keeper.specs.Slots.{now_at}
 use Rattle.row_keeper.proofs.FoundLemmas.{bytes_same, less_not_at}
@@ -47,7 +47,7 @@ ids_hit [] i = refl
 ids_hit (e ∷ es) i = go e.1.is (ids_hit es i)
   where
     go : (t : Bool) → list_any (is_at (nat_cmp i)) (ids_of es) ≡ among es i
-        → list_any (is_at (nat_cmp i)) (map (λ (x : Entry × Mark). x.0.1) (cond t (e ∷ filter (λ (x : Entry × Mark). x.1.is) es) (filter (λ (x : Entry × Mark). x.1.is) es))) ≡ ((t && (e.0.1 == i)) || among es i)
+        → list_any (is_at (nat_cmp i)) (map (λ (x : IndexEntry × Mark). x.0.1) (cond t (e ∷ filter (λ (x : IndexEntry × Mark). x.1.is) es) (filter (λ (x : IndexEntry × Mark). x.1.is) es))) ≡ ((t && (e.0.1 == i)) || among es i)
     go true ih = ap₂ (λ x y. x || y) (at_number i e.0.1) ih
     go false ih = ih
 
@@ -71,13 +71,13 @@ pub keys_go : KeysOrder → (i j : ℕ) → i < 2 ^ 32 → j < 2 ^ 32 → slice_
 keys_go law i j l m = law (id_value i) (id_value j) tt (number_fits i l) (number_fits j m) ∙ numbers_go i j
 
 -- ---- an entry now is that of a row, under the key of its number
-abbrev pub IsKeyed : List (ℕ × Slot) → Entry × Mark → Type 0
+abbrev pub IsKeyed : List (ℕ × Slot) → IndexEntry × Mark → Type 0
 IsKeyed rows e = (e.1.is ≡ true) → (e.0.0.0 ≡ 0) → (e.0.0.1 ≡ K e.0.1) × (e.0.1 < 2 ^ 32) × (is_some (now_at rows e.0.1) ≡ true)
 
 abbrev OwnMarks : Entries → Entries → Type 0
-OwnMarks es part = AllByRecursion (λ (x : Entry × Mark). lookup (is_at (entry_cmp x.0)) es ≡ Some x.1) part
+OwnMarks es part = AllByRecursion (λ (x : IndexEntry × Mark). lookup (is_at (entry_cmp x.0)) es ≡ Some x.1) part
 
-own_more : (e : Entry × Mark) (rest part : Entries) → AllByRecursion (λ y. entry_cmp e.0 y ≡ Less) (keys_of part) → OwnMarks rest part → OwnMarks (e ∷ rest) part
+own_more : (e : IndexEntry × Mark) (rest part : Entries) → AllByRecursion (λ y. entry_cmp e.0 y ≡ Less) (keys_of part) → OwnMarks rest part → OwnMarks (e ∷ rest) part
 own_more e rest [] below owns = tt
 own_more e rest (x ∷ part) below owns = (
   subst (λ b. cond b (Some e.1) (lookup (is_at (entry_cmp x.0)) rest) ≡ Some x.1) (sym (ap is_eq (entry_total.antisymm x.0 e.0) ∙ less_not_at (entry_cmp e.0 x.0) below.0)) owns.0,
@@ -91,7 +91,7 @@ own_marks (e ∷ rest) sorted = (
   own_more e rest rest (sorted_head entry_cmp e.0 (keys_of rest) sorted) (own_marks rest (sorted_tail entry_cmp e.0 (keys_of rest) sorted)),
 )
 
-keyed_one : (covered : List ℕ) (rows : List (ℕ × Slot)) (es : Entries) (last : ℕ) → Agrees covered rows es → NoneAbove last (now_at rows) → last < 2 ^ 32 → (e : Entry × Mark) → lookup (is_at (entry_cmp e.0)) es ≡ Some e.1 → IsKeyed rows e
+keyed_one : (covered : List ℕ) (rows : List (ℕ × Slot)) (es : Entries) (last : ℕ) → Agrees covered rows es → NoneAbove last (now_at rows) → last < 2 ^ 32 → (e : IndexEntry × Mark) → lookup (is_at (entry_cmp e.0)) es ≡ Some e.1 → IsKeyed rows e
 keyed_one covered rows es last agrees above few e own is zeroth =
     let now : now_in es e.0 ≡ true = ap is_now_of own ∙ is in
     let has : has_entry e.0 (now_at rows e.0.1) ≡ true = (and_parts (covers covered e.0.0.0) (has_entry e.0 (now_at rows e.0.1)) (sym (agrees.0 e.0) ∙ now)).1 in
@@ -149,7 +149,7 @@ rises_append (x ∷ xs) ys a b h = rises_more x (xs ++ ys) (all xs (sorted_head 
     all [] k = h.0
     all (z ∷ zs) k = (k.0, all zs k.1)
 
-before : KeysOrder → (e q : Entry) → e.0.0 ≡ 0 → q.0.0 ≡ 0 → e.0.1 ≡ K e.1 → q.0.1 ≡ K q.1 → e.1 < 2 ^ 32 → q.1 < 2 ^ 32 → entry_cmp e q ≡ Less → nat_cmp e.1 q.1 ≡ Less
+before : KeysOrder → (e q : IndexEntry) → e.0.0 ≡ 0 → q.0.0 ≡ 0 → e.0.1 ≡ K e.1 → q.0.1 ≡ K q.1 → e.1 < 2 ^ 32 → q.1 < 2 ^ 32 → entry_cmp e q ≡ Less → nat_cmp e.1 q.1 ≡ Less
 before law e q c d k m l n h = go (nat_cmp e.1 q.1) (sym (ap₂ (λ x y. ordering_then (ordering_then x y) (nat_cmp e.1 q.1)) (ap₂ nat_cmp c d) (ap₂ (slice_cmp nat_cmp) k m ∙ keys_go law e.1 q.1 l n)) ∙ h)
   where
     go : (o : Ordering) → ordering_then (ordering_then (nat_cmp 0 0) o) o ≡ Less → o ≡ Less
@@ -161,13 +161,13 @@ before law e q c d k m l n h = go (nat_cmp e.1 q.1) (sym (ap₂ (λ x y. orderin
 abbrev IsIn : List (ℕ × Slot) → KeyRange → ℕ → Type 0
 IsIn rows r i = (in_range (K i) r ≡ true) × (i < 2 ^ 32) × (is_some (now_at rows i) ≡ true)
 
-lies_zero : (r : KeyRange) (e : Entry × Mark) → lies_at 0 r e ≡ true → (e.0.0.0 ≡ 0) × (in_range e.0.0.1 r ≡ true)
+lies_zero : (r : KeyRange) (e : IndexEntry × Mark) → lies_at 0 r e ≡ true → (e.0.0.0 ≡ 0) × (in_range e.0.0.1 r ≡ true)
 lies_zero r e h = let b = and_parts (e.0.0.0 == 0) (in_range e.0.0.1 r) h in (eqb-true e.0.0.0 0 b.0, b.1)
 
 abbrev kept : KeyRange → Entries → List ℕ
 kept r es = ids_of (filter (lies_at 0 r) es)
 
-kept_is : (r : KeyRange) (e : Entry × Mark) (es : Entries) (u t : Bool) → lies_at 0 r e ≡ u → e.1.is ≡ t → kept r (e ∷ es) ≡ cond (u && t) (e.0.1 ∷ kept r es) (kept r es)
+kept_is : (r : KeyRange) (e : IndexEntry × Mark) (es : Entries) (u t : Bool) → lies_at 0 r e ≡ u → e.1.is ≡ t → kept r (e ∷ es) ≡ cond (u && t) (e.0.1 ∷ kept r es) (kept r es)
 kept_is r e es u t a b = ap (λ x. ids_of (cond x (e ∷ rest) rest)) a ∙ go u
   where
     rest : Entries
@@ -178,14 +178,14 @@ kept_is r e es u t a b = ap (λ x. ids_of (cond x (e ∷ rest) rest)) a ∙ go u
 
     go : (x : Bool) → ids_of (cond x (e ∷ rest) rest) ≡ cond (x && t) (e.0.1 ∷ kept r es) (kept r es)
     go false = refl
-    go true = ap (λ y. map (λ (p : Entry × Mark). p.0.1) (cond y (e ∷ still) still)) b ∙ by t
+    go true = ap (λ y. map (λ (p : IndexEntry × Mark). p.0.1) (cond y (e ∷ still) still)) b ∙ by t
       where
-        by : (y : Bool) → map (λ (p : Entry × Mark). p.0.1) (cond y (e ∷ still) still) ≡ cond y (e.0.1 ∷ kept r es) (kept r es)
+        by : (y : Bool) → map (λ (p : IndexEntry × Mark). p.0.1) (cond y (e ∷ still) still) ≡ cond y (e.0.1 ∷ kept r es) (kept r es)
         by true = refl
         by false = refl
 
 module _ (law : KeysOrder) (rows : List (ℕ × Slot)) where
-  below_kept : (r : KeyRange) (e : Entry × Mark) → e.0.0.0 ≡ 0 → e.0.0.1 ≡ K e.0.1 → e.0.1 < 2 ^ 32 → (es : Entries) → AllByRecursion (λ y. entry_cmp e.0 y ≡ Less) (keys_of es) → AllByRecursion (IsKeyed rows) es
+  below_kept : (r : KeyRange) (e : IndexEntry × Mark) → e.0.0.0 ≡ 0 → e.0.0.1 ≡ K e.0.1 → e.0.1 < 2 ^ 32 → (es : Entries) → AllByRecursion (λ y. entry_cmp e.0 y ≡ Less) (keys_of es) → AllByRecursion (IsKeyed rows) es
       → AllByRecursion (λ j. nat_cmp e.0.1 j ≡ Less) (kept r es)
   below_kept r e c k l [] below keys = tt
   below_kept r e c k l (x ∷ es) below keys = go (lies_at 0 r x) refl x.1.is refl (below_kept r e c k l es below.1 keys.1)
@@ -269,7 +269,7 @@ module _ (law : KeysOrder) (rows : List (ℕ × Slot)) where
               last (x ∷ xs) e = absurd e.0
           by (Some u) e f = all_weaker (IsFrom u) (λ j. nat_cmp i j ≡ Less) (λ j m. sym (keys_go law i j k.1 m.1) ∙ less_from (slice_cmp nat_cmp (K i) (K j)) (lt_le (K i) u (K j) f m.0)) (ids_in 0 rs es) (later u rs es keys e)
 
-  pub ids_rise : (rs : List KeyRange) (es : Entries) → AreRising rs → IsStrictlySortedBy entry_cmp (keys_of es) → AllByRecursion (IsKeyed rows) es → Rises (ids_in 0 rs es)
+  pub ids_rise : (rs : List KeyRange) (es : Entries) → AreRangesRising rs → IsStrictlySortedBy entry_cmp (keys_of es) → AllByRecursion (IsKeyed rows) es → Rises (ids_in 0 rs es)
   ids_rise [] es h sorted keys = rises_none
   ids_rise (r ∷ rs) es h sorted keys = rises_append (kept r es) (ids_in 0 rs es) (rising_kept r es sorted keys) (ids_rise rs es h.1 sorted keys) (cross r rs es keys h.0)
 

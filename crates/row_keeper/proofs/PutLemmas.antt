@@ -5,7 +5,7 @@ use Rattle.std.proofs.lemmas.Bool.Decides.{nat_tests}
 use Rattle.fx_types.specs.Values.{Data}
 use Rattle.fx_core.specs.declared.schema.Column.{Column}
 use Rattle.row_keeper.specs.Changes.{NamesItsColumn}
-use Rattle.row_keeper.specs.RowRules.{cells_weight, first_broken, first_of_two, in_column, is_full, lacks, others, repeats, rule_in, where_broken}
+use Rattle.row_keeper.specs.RowRules.{cells_weight, first_broken, first_of_two, in_column, is_table_full, lacks, others, repeats, rule_in, where_broken}
 use Rattle.row_keeper.specs.Tables.{TableState}
 use Rattle.row_keeper.specs.declared.rows.RowRefusal.{RowRefusal}
 use Rattle.row_keeper.specs.declared.rows.RowRule.{RowRule}
@@ -40,8 +40,8 @@ has_room columns s all cells h k =
     let required = in_column Required (first_broken lacks 1 columns cells) in
     let unique = in_column Unique (first_broken (repeats (others None s.rows)) 1 columns cells) in
     let size = where_broken Size (nat_lt 2048 (cells_weight cells)) in
-    let full = where_broken Full (is_none (let n : Option ℕ = None in n) && is_full s all) in
-    let open_ : is_full s all ≡ false = not_broken Full (is_full s all) (second_none size full (second_none unique (first_of_two size full) (second_none required (first_of_two unique (first_of_two size full)) h))) in
+    let full = where_broken Full (is_none (let n : Option ℕ = None in n) && is_table_full s all) in
+    let open_ : is_table_full s all ≡ false = not_broken Full (is_table_full s all) (second_none size full (second_none unique (first_of_two size full) (second_none required (first_of_two unique (first_of_two size full)) h))) in
     (not_last s.last (second_false (nat_le 500000 all) (s.last == 4294967295) (second_false (nat_le 200000 (length s.rows)) _ open_)) k, below_most (length s.rows) (first_false (nat_le 200000 (length s.rows)) _ open_))
 
 -- ---- which column a rule names
@@ -94,7 +94,7 @@ names columns s all id cells r h = at_required (first_or_second required (first_
     size = where_broken Size (nat_lt 2048 (cells_weight cells))
 
     full : Option RowRefusal
-    full = where_broken Full (is_none id && is_full s all)
+    full = where_broken Full (is_none id && is_table_full s all)
 
     at_size : (size ≡ Some r) ⊎ (full ≡ Some r) → Names columns r
     at_size (inl e) = size_names columns _ r e

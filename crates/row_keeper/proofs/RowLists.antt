@@ -17,7 +17,7 @@ use Rattle.row_queries.specs.TableRows.{AreInIdOrder, IsBelowAll}
 use Rattle.row_queries.specs.declared.rows.Row.{Row}
 use Rattle.row_keeper.specs.Slots.{cells_at, in_slot, row_before, rows_by}
 use Rattle.row_keeper.specs.Tables.{has_id}
-use Rattle.row_keeper.specs.declared.slots.Slot.{Slot}
+use Rattle.row_keeper.specs.declared.row_slots.Slot.{Slot}
 
 -- the cells of the row of a number
 abbrev pub row_at : ℕ → List Row → Option (List Data)

@@ -20,7 +20,7 @@ use Rattle.row_queries.specs.TableRows.{AreCellsOf, value_at}
 use Rattle.row_queries.specs.declared.rows.Row.{Row}
 use Rattle.row_keeper.specs.Covered.{covered_of, covers, indexed_from}
 use Rattle.row_keeper.specs.RowRules.{first_broken, has_value, others}
-use Rattle.row_keeper.specs.Rules.{FitsColumn, is_other, only_key}
+use Rattle.row_keeper.specs.Rules.{FitsColumn, is_other_row, only_key}
 use Rattle.row_keeper.specs.Sound.{IsSoundRow, lies_among}
 use Rattle.row_keeper.specs.Tables.{has_id}
 
@@ -133,7 +133,7 @@ lies_is law columns place d r sound fits proper =
 
 -- a value stands in another row exactly where one of those of its key is another
 pub repeated : KeysOrder → (columns : List Column) (place : ℕ) (d : Data) (id : Option ℕ) → FitsColumn columns place d → IsProper d → (rows : List Row) → AllByRecursion (IsSoundRow columns) rows
-    → list_any (is_other id) (filter (lies_among (suc place) (only_key (key_bytes d) ∷ [])) rows) ≡ list_any (has_value (suc place) d) (others id rows)
+    → list_any (is_other_row id) (filter (lies_among (suc place) (only_key (key_bytes d) ∷ [])) rows) ≡ list_any (has_value (suc place) d) (others id rows)
 repeated law columns place d id fits proper [] h = none id
   where
     none : (id : Option ℕ) → false ≡ list_any (has_value (suc place) d) (others id [])
@@ -144,24 +144,24 @@ repeated law columns place d id fits proper (r ∷ rows) h = by id (lies_is law 
     found : List Row
     found = filter (lies_among (suc place) (only_key (key_bytes d) ∷ [])) rows
 
-    by : (id : Option ℕ) → lies_among (suc place) (only_key (key_bytes d) ∷ []) r ≡ has_value (suc place) d r → list_any (is_other id) found ≡ list_any (has_value (suc place) d) (others id rows)
-        → list_any (is_other id) (cond (lies_among (suc place) (only_key (key_bytes d) ∷ []) r) (r ∷ found) found) ≡ list_any (has_value (suc place) d) (others id (r ∷ rows))
-    by None e ih = ap (λ b. list_any (is_other None) (cond b (r ∷ found) found)) e ∙ go (has_value (suc place) d r) ∙ ap (λ t. has_value (suc place) d r || t) ih
+    by : (id : Option ℕ) → lies_among (suc place) (only_key (key_bytes d) ∷ []) r ≡ has_value (suc place) d r → list_any (is_other_row id) found ≡ list_any (has_value (suc place) d) (others id rows)
+        → list_any (is_other_row id) (cond (lies_among (suc place) (only_key (key_bytes d) ∷ []) r) (r ∷ found) found) ≡ list_any (has_value (suc place) d) (others id (r ∷ rows))
+    by None e ih = ap (λ b. list_any (is_other_row None) (cond b (r ∷ found) found)) e ∙ go (has_value (suc place) d r) ∙ ap (λ t. has_value (suc place) d r || t) ih
       where
-        go : (b : Bool) → list_any (is_other None) (cond b (r ∷ found) found) ≡ (b || list_any (is_other None) found)
+        go : (b : Bool) → list_any (is_other_row None) (cond b (r ∷ found) found) ≡ (b || list_any (is_other_row None) found)
         go true = refl
         go false = refl
-    by (Some n) e ih = ap (λ b. list_any (is_other (Some n)) (cond b (r ∷ found) found)) e ∙ more (has_value (suc place) d r) refl (has_id n r) refl ih
+    by (Some n) e ih = ap (λ b. list_any (is_other_row (Some n)) (cond b (r ∷ found) found)) e ∙ more (has_value (suc place) d r) refl (has_id n r) refl ih
       where
         tail : List Row
         tail = others (Some n) rows
 
-        more : (v : Bool) → has_value (suc place) d r ≡ v → (t : Bool) → has_id n r ≡ t → list_any (is_other (Some n)) found ≡ list_any (has_value (suc place) d) tail
-            → list_any (is_other (Some n)) (cond v (r ∷ found) found) ≡ list_any (has_value (suc place) d) (cond (not t) (r ∷ tail) tail)
+        more : (v : Bool) → has_value (suc place) d r ≡ v → (t : Bool) → has_id n r ≡ t → list_any (is_other_row (Some n)) found ≡ list_any (has_value (suc place) d) tail
+            → list_any (is_other_row (Some n)) (cond v (r ∷ found) found) ≡ list_any (has_value (suc place) d) (cond (not t) (r ∷ tail) tail)
         more false g true f ih = ih
-        more true g true f ih = ap (λ t. not t || list_any (is_other (Some n)) found) f ∙ ih
+        more true g true f ih = ap (λ t. not t || list_any (is_other_row (Some n)) found) f ∙ ih
         more false g false f ih = ih ∙ ap (λ b. b || list_any (has_value (suc place) d) tail) (sym g)
-        more true g false f ih = ap (λ t. not t || list_any (is_other (Some n)) found) f ∙ sym (ap (λ b. b || list_any (has_value (suc place) d) tail) g)
+        more true g false f ih = ap (λ t. not t || list_any (is_other_row (Some n)) found) f ∙ sym (ap (λ b. b || list_any (has_value (suc place) d) tail) g)
 
 -- ---- an indexed or unique column is covered
 pub indexed_covered : (columns : List Column) (place k : ℕ) (c : Column) → slice_get columns place ≡ Some c → (c.indexed || c.unique) ≡ true → covers (indexed_from k columns) (k + place) ≡ true
@@ -180,9 +180,9 @@ pub covered_at : (columns : List Column) (place : ℕ) (c : Column) → slice_ge
 covered_at columns place c e u = or_right (0 == (place + 1)) (covers (indexed_from 1 columns) (place + 1)) (subst (λ n. covers (indexed_from 1 columns) n ≡ true) (let q : 1 + place ≡ place + 1 = omega arith in q) (indexed_covered columns place 1 c e (or_right c.indexed c.unique u)))
 
 pub repeated_at : KeysOrder → (columns : List Column) (place : ℕ) (d : Data) (id : Option ℕ) → FitsColumn columns place d → IsProper d → (rows : List Row) → AllByRecursion (IsSoundRow columns) rows
-    → list_any (is_other id) (filter (lies_among (place + 1) (only_key (key_bytes d) ∷ [])) rows) ≡ list_any (has_value (place + 1) d) (others id rows)
+    → list_any (is_other_row id) (filter (lies_among (place + 1) (only_key (key_bytes d) ∷ [])) rows) ≡ list_any (has_value (place + 1) d) (others id rows)
 repeated_at law columns place d id fits proper rows h =
-    subst (λ n. list_any (is_other id) (filter (lies_among n (only_key (key_bytes d) ∷ [])) rows) ≡ list_any (has_value n d) (others id rows)) (let q : suc place ≡ place + 1 = omega arith in q) (repeated law columns place d id fits proper rows h)
+    subst (λ n. list_any (is_other_row id) (filter (lies_among n (only_key (key_bytes d) ∷ [])) rows) ≡ list_any (has_value n d) (others id rows)) (let q : suc place ≡ place + 1 = omega arith in q) (repeated law columns place d id fits proper rows h)
 
 pub scalar_of : (columns : List Column) (place : ℕ) (d : Data) → FitsColumn columns place d → IsScalar d
 scalar_of [] place d h = absurd h

@@ -7,10 +7,10 @@ use Rattle.std.specs.BTreeMap.{is_at}
 use Rattle.std.specs.Ordering.{nat_cmp}
 use Rattle.std.proofs.lemmas.Bool.{eqb-true}
 use Rattle.fx_types.specs.Values.{Data}
-use Rattle.row_keeper.specs.declared.slots.Made.{Made}
-use Rattle.row_keeper.specs.declared.slots.Made.TheVariants.{Same, Gone, New}
-use Rattle.row_keeper.specs.declared.slots.Slot.{Slot}
-use Rattle.row_keeper.specs.Slots.{OthersStand, at_end, ended, is_gone, is_named, is_unchanged, now_of, now_at, now_in_slot, slot_at, then_at, then_in_slot, while_row}
+use Rattle.row_keeper.specs.declared.row_slots.Made.{Made}
+use Rattle.row_keeper.specs.declared.row_slots.Made.TheVariants.{Same, Gone, New}
+use Rattle.row_keeper.specs.declared.row_slots.Slot.{Slot}
+use Rattle.row_keeper.specs.Slots.{OtherSlotsStand, slot_at_end, slot_ended, is_no_row, has_number, is_unchanged, now_of, now_at, now_in_slot, slot_at, then_at, then_in_slot, while_row}
 
 pub same_number : (id i : ℕ) → is_at (nat_cmp id) i ≡ (id == i)
 same_number id i = sym (unsigned_ties id i)
@@ -23,7 +23,7 @@ pub told_at : (id i : ℕ) (w old new : Option Slot) → new ≡ cond (is_at (na
 told_at id i w old new e = e ∙ ap (λ b. cond b w old) (same_number id i)
 
 -- ---- a slot of no row is taken out
-pub void_out : (o : Option Slot) → is_gone o ≡ true → None ≡ while_row o
+pub void_out : (o : Option Slot) → is_no_row o ≡ true → None ≡ while_row o
 void_out None h = refl
 void_out (Some s) h = go s.was h
   where
@@ -31,7 +31,7 @@ void_out (Some s) h = go s.was h
     go None k = refl
     go (Some cs) k = absurd cc
 
-pub row_stays : (o : Option Slot) → is_gone o ≡ false → o ≡ while_row o
+pub row_stays : (o : Option Slot) → is_no_row o ≡ false → o ≡ while_row o
 row_stays None h = refl
 row_stays (Some s) h = go s.was h
   where
@@ -39,21 +39,21 @@ row_stays (Some s) h = go s.was h
     go None k = absurd cc
     go (Some cs) k = refl
 
-pub two_steps : (b : Bool) (o : Option Slot) → while_row (option_map (at_end b) o) ≡ ended b o
+pub two_steps : (b : Bool) (o : Option Slot) → while_row (option_map (slot_at_end b) o) ≡ slot_ended b o
 two_steps b None = refl
 two_steps b (Some s) = refl
 
 -- ---- a second end changes nothing
-pub end_twice : (b : Bool) (o : Option Slot) → ended b (ended b o) ≡ ended b o
+pub end_twice : (b : Bool) (o : Option Slot) → slot_ended b (slot_ended b o) ≡ slot_ended b o
 end_twice b None = refl
 end_twice true (Some s) = go (now_of s.was s.made)
   where
-    go : (w : Option (List Data)) → ended true (while_row (Some (record { was = w; made = Same }))) ≡ while_row (Some (record { was = w; made = Same }))
+    go : (w : Option (List Data)) → slot_ended true (while_row (Some (record { was = w; made = Same }))) ≡ while_row (Some (record { was = w; made = Same }))
     go None = refl
     go (Some cs) = refl
 end_twice false (Some s) = go s.was
   where
-    go : (w : Option (List Data)) → ended false (while_row (Some (record { was = w; made = Same }))) ≡ while_row (Some (record { was = w; made = Same }))
+    go : (w : Option (List Data)) → slot_ended false (while_row (Some (record { was = w; made = Same }))) ≡ while_row (Some (record { was = w; made = Same }))
     go None = refl
     go (Some cs) = refl
 
@@ -62,11 +62,11 @@ still : (w : Option (List Data)) → (now_in_slot (while_row (Some (record { was
 still None = (refl, refl, refl)
 still (Some cs) = (refl, refl, refl)
 
-settled_is : (o : Option Slot) → (now_in_slot (ended true o) ≡ now_in_slot o) × (then_in_slot (ended true o) ≡ now_in_slot o) × (is_unchanged (ended true o) ≡ true)
+settled_is : (o : Option Slot) → (now_in_slot (slot_ended true o) ≡ now_in_slot o) × (then_in_slot (slot_ended true o) ≡ now_in_slot o) × (is_unchanged (slot_ended true o) ≡ true)
 settled_is None = (refl, refl, refl)
 settled_is (Some s) = still (now_of s.was s.made)
 
-restored_is : (o : Option Slot) → (now_in_slot (ended false o) ≡ then_in_slot o) × (then_in_slot (ended false o) ≡ then_in_slot o) × (is_unchanged (ended false o) ≡ true)
+restored_is : (o : Option Slot) → (now_in_slot (slot_ended false o) ≡ then_in_slot o) × (then_in_slot (slot_ended false o) ≡ then_in_slot o) × (is_unchanged (slot_ended false o) ≡ true)
 restored_is None = (refl, refl, refl)
 restored_is (Some s) = still s.was
 
@@ -81,22 +81,22 @@ unchanged (Some s) h = go s.made h
     go (New cs) k = absurd cc
 
 abbrev Ends : Bool → List ℕ → List (ℕ × Slot) → List (ℕ × Slot) → Type 0
-Ends b touched rows rows' = (i : ℕ) → slot_at rows' i ≡ cond (is_named touched i) (ended b (slot_at rows i)) (slot_at rows i)
+Ends b touched rows rows' = (i : ℕ) → slot_at rows' i ≡ cond (has_number touched i) (slot_ended b (slot_at rows i)) (slot_at rows i)
 
 -- the end with the changes, at all numbers
-pub done : (touched : List ℕ) (rows rows' : List (ℕ × Slot)) → OthersStand touched rows → Ends true touched rows rows'
+pub done : (touched : List ℕ) (rows rows' : List (ℕ × Slot)) → OtherSlotsStand touched rows → Ends true touched rows rows'
     → (i : ℕ) → (now_at rows' i ≡ now_at rows i) × (then_at rows' i ≡ now_at rows i) × (is_unchanged (slot_at rows' i) ≡ true)
-done touched rows rows' others e i = by (is_named touched i) refl (e i)
+done touched rows rows' others e i = by (has_number touched i) refl (e i)
   where
-    by : (b : Bool) → is_named touched i ≡ b → slot_at rows' i ≡ cond b (ended true (slot_at rows i)) (slot_at rows i) → (now_at rows' i ≡ now_at rows i) × (then_at rows' i ≡ now_at rows i) × (is_unchanged (slot_at rows' i) ≡ true)
+    by : (b : Bool) → has_number touched i ≡ b → slot_at rows' i ≡ cond b (slot_ended true (slot_at rows i)) (slot_at rows i) → (now_at rows' i ≡ now_at rows i) × (then_at rows' i ≡ now_at rows i) × (is_unchanged (slot_at rows' i) ≡ true)
     by true h f = let s = settled_is (slot_at rows i) in (ap now_in_slot f ∙ s.0, ap then_in_slot f ∙ s.1, ap is_unchanged f ∙ s.2)
     by false h f = (ap now_in_slot f, ap then_in_slot f ∙ unchanged (slot_at rows i) (others i h), ap is_unchanged f ∙ others i h)
 
 -- the end without them
-pub back : (touched : List ℕ) (rows rows' : List (ℕ × Slot)) → OthersStand touched rows → Ends false touched rows rows'
+pub back : (touched : List ℕ) (rows rows' : List (ℕ × Slot)) → OtherSlotsStand touched rows → Ends false touched rows rows'
     → (i : ℕ) → (now_at rows' i ≡ then_at rows i) × (then_at rows' i ≡ then_at rows i) × (is_unchanged (slot_at rows' i) ≡ true)
-back touched rows rows' others e i = by (is_named touched i) refl (e i)
+back touched rows rows' others e i = by (has_number touched i) refl (e i)
   where
-    by : (b : Bool) → is_named touched i ≡ b → slot_at rows' i ≡ cond b (ended false (slot_at rows i)) (slot_at rows i) → (now_at rows' i ≡ then_at rows i) × (then_at rows' i ≡ then_at rows i) × (is_unchanged (slot_at rows' i) ≡ true)
+    by : (b : Bool) → has_number touched i ≡ b → slot_at rows' i ≡ cond b (slot_ended false (slot_at rows i)) (slot_at rows i) → (now_at rows' i ≡ then_at rows i) × (then_at rows' i ≡ then_at rows i) × (is_unchanged (slot_at rows' i) ≡ true)
     by true h f = let s = restored_is (slot_at rows i) in (ap now_in_slot f ∙ s.0, ap then_in_slot f ∙ s.1, ap is_unchanged f ∙ s.2)
     by false h f = (ap now_in_slot f ∙ sym (unchanged (slot_at rows i) (others i h)), ap then_in_slot f, ap is_unchanged f ∙ others i h)

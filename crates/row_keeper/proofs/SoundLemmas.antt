@@ -17,9 +17,9 @@ use Rattle.row_keeper.specs.Covered.{NoneAbove, covered_of, covers, lie_in}
 use Rattle.row_keeper.specs.Entries.{Entries, entry_cmp, hits_in}
 use Rattle.row_keeper.specs.Found.{rows_of_ids}
 use Rattle.row_keeper.specs.Slots.{cells_at, cells_now, cells_then, in_slot, row_before, rows_by, rows_now, rows_then}
-use Rattle.row_keeper.specs.Sound.{IsSound, IsSoundRow, IsSoundState, lies_among}
-use Rattle.row_keeper.specs.Whole.{IsGood, IsWhole}
-use Rattle.row_keeper.specs.declared.slots.Slot.{Slot}
+use Rattle.row_keeper.specs.Sound.{IsSoundTable, IsSoundRow, IsSoundState, lies_among}
+use Rattle.row_keeper.specs.Whole.{IsGood, IsWholeIndex}
+use Rattle.row_keeper.specs.declared.row_slots.Slot.{Slot}
 use Rattle.row_keeper.proofs.FoundLemmas.{hits_are, owns_all, rows_found}
 use Rattle.row_keeper.proofs.RowLists.{all_below, in_order, row_is}
 use Rattle.row_keeper.proofs.WholeLemmas.{scalar_at}
@@ -64,8 +64,8 @@ state_sound columns f es last sorted good above few bounded = record {
   few = few;
 }
 
-pub sound : (columns : List Column) (covered : List ℕ) (rows : List (ℕ × Slot)) (es : Entries) (last count first first_count : ℕ) → IsWhole columns covered rows es last count first first_count → IsStrictlySortedBy nat_cmp (keys_of rows) → last < 2 ^ 32 → first < 2 ^ 32
-    → IsSound (record { columns = columns; now = record { rows = rows_now rows; last = last }; then = record { rows = rows_then rows; last = first } })
+pub sound : (columns : List Column) (covered : List ℕ) (rows : List (ℕ × Slot)) (es : Entries) (last count first first_count : ℕ) → IsWholeIndex columns covered rows es last count first first_count → IsStrictlySortedBy nat_cmp (keys_of rows) → last < 2 ^ 32 → first < 2 ^ 32
+    → IsSoundTable (record { columns = columns; now = record { rows = rows_now rows; last = last }; then = record { rows = rows_then rows; last = first } })
 sound columns covered rows es last count first first_count w sorted most most_then = record {
   narrow = w.narrow;
   now = state_sound columns cells_now rows last sorted w.good w.tallied.above (let c : count ≡ length (rows_now rows) = w.tallied.counted in let f : count ≤ 200000 = w.tallied.few in omega (arith, c, f)) most;
@@ -74,7 +74,7 @@ sound columns covered rows es last count first first_count w sorted most most_th
 
 -- the rows that the index finds
 pub found : (columns : List Column) (covered : List ℕ) (column : ℕ) (rs : List KeyRange) (rows : List (ℕ × Slot)) (es : Entries) (last count first first_count : ℕ) (ids : List ℕ)
-    → IsWhole columns covered rows es last count first first_count → covers covered column ≡ true → IsStrictlySortedBy nat_cmp (keys_of rows) → IsStrictlySortedBy entry_cmp (keys_of es) → IsStrictlySortedBy nat_cmp ids
+    → IsWholeIndex columns covered rows es last count first first_count → covers covered column ≡ true → IsStrictlySortedBy nat_cmp (keys_of rows) → IsStrictlySortedBy entry_cmp (keys_of es) → IsStrictlySortedBy nat_cmp ids
     → ((i : ℕ) → list_any (is_at (nat_cmp i)) ids ≡ hits_in column rs es i) → rows_of_ids rows ids ≡ filter (lies_among column rs) (rows_now rows)
 found columns covered column rs rows es last count first first_count ids w has sorted ordered rising hit =
     rows_found (lie_in column rs) (lies_among column rs) (λ i. refl) (λ i cells. refl) rows ids sorted rising (λ i. hit i ∙ hits_are covered column rows es has w.agrees ordered rs i)
@@ -89,7 +89,7 @@ all_lie columns column rs every (r ∷ rows) h = ap₂ (λ b l. cond b (r ∷ l)
     scalar (suc k) = scalar_at columns r.cells h.0.fit k
 
 -- a column that the index doesn't cover is asked for all rows alone
-pub unfound : (columns : List Column) (covered : List ℕ) (column : ℕ) (rs : List KeyRange) (rows : List (ℕ × Slot)) (es : Entries) (last count first first_count : ℕ) → IsWhole columns covered rows es last count first first_count
+pub unfound : (columns : List Column) (covered : List ℕ) (column : ℕ) (rs : List KeyRange) (rows : List (ℕ × Slot)) (es : Entries) (last count first first_count : ℕ) → IsWholeIndex columns covered rows es last count first first_count
     → IsStrictlySortedBy nat_cmp (keys_of rows) → covers covered column ≡ false → ((covers (covered_of columns) column ≡ true) ⊎ HoldEveryKey rs) → filter (lies_among column rs) (rows_now rows) ≡ rows_now rows
 unfound columns covered column rs rows es last count first first_count w sorted hidden (inl h) = absurd (let e : covers covered column ≡ true = ap (λ v. covers v column) w.covered_is ∙ h in cc)
 unfound columns covered column rs rows es last count first first_count w sorted hidden (inr every) = all_lie columns column rs every (rows_now rows) (rows_sound columns cells_now rows sorted w.good)

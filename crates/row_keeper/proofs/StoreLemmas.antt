@@ -24,13 +24,13 @@ use Rattle.row_queries.specs.declared.rows.Row.{Row}
 use Rattle.row_keeper.specs.Changes.{Inserts, IsInserted, IsReplaced, Removes, Replaces, Shapes}
 use Rattle.row_keeper.specs.Covered.{covered_of, covers, indexed_from}
 use Rattle.row_keeper.specs.Kept.{IsKept, columns_kept, columns_shaped, empty_table}
-use Rattle.row_keeper.specs.OneTable.{ChangesAt, PutsNew, PutsOver, TakesOut, restored, settled, with_now}
-use Rattle.row_keeper.specs.Pages.{AreFirst}
+use Rattle.row_keeper.specs.OneTable.{ChangesAt, PutsNew, PutsOver, TakesOut, view_restored, view_settled, with_now}
+use Rattle.row_keeper.specs.Pages.{AreFirstRows}
 use Rattle.row_keeper.specs.RowRules.{rule_in}
 use Rattle.row_keeper.specs.Sameness.{HasColumnTypes}
-use Rattle.row_keeper.specs.Sound.{IsSound, IsSoundRow, IsSoundState, lies_among}
+use Rattle.row_keeper.specs.Sound.{IsSoundTable, IsSoundRow, IsSoundState, lies_among}
 use Rattle.row_keeper.specs.TableView.{TableView, states_now, states_then}
-use Rattle.row_keeper.specs.Tables.{AreStatesOf, IsStateOf, TableState, Tables, all_rows, columns_at, columns_in, filled, has_id, no_rows, rows_of, shapes_of, state_at, with_cells, with_row, with_state, without_row}
+use Rattle.row_keeper.specs.Tables.{AreStatesOf, IsStateOf, TableState, Tables, all_rows, columns_at, columns_in, filled_tables, has_id, no_rows, rows_of_tables, shapes_of, state_at, with_cells, with_row, with_state, without_row}
 use Rattle.row_keeper.specs.declared.rows.Put.{Put}
 use Rattle.row_keeper.specs.declared.rows.Put.TheVariants.{Id, NoRow, Refused}
 use Rattle.row_keeper.proofs.PutLemmas.{names}
@@ -188,38 +188,38 @@ module _ (schema : Option Schema) (tables tables' : List TableView) (place : ℕ
   removes id false c = (has_there id c.before c.is_there ∙ c.goes.0, same_told c.before c.after c.is_there c.goes.1 c.stands)
 
 -- ---- a transaction ends
-pub settled_now : (tables : List TableView) → states_now (map settled tables) ≡ states_now tables
+pub settled_now : (tables : List TableView) → states_now (map view_settled tables) ≡ states_now tables
 settled_now [] = refl
 settled_now (t ∷ ts) = ap (λ l. t.now ∷ l) (settled_now ts)
 
-pub settled_then : (tables : List TableView) → states_then (map settled tables) ≡ states_now tables
+pub settled_then : (tables : List TableView) → states_then (map view_settled tables) ≡ states_now tables
 settled_then [] = refl
 settled_then (t ∷ ts) = ap (λ l. t.now ∷ l) (settled_then ts)
 
-settled_columns : (tables : List TableView) → columns_kept (map settled tables) ≡ columns_kept tables
+settled_columns : (tables : List TableView) → columns_kept (map view_settled tables) ≡ columns_kept tables
 settled_columns [] = refl
 settled_columns (t ∷ ts) = ap (λ l. t.columns ∷ l) (settled_columns ts)
 
-pub restored_now : (tables : List TableView) → states_now (map restored tables) ≡ states_then tables
+pub restored_now : (tables : List TableView) → states_now (map view_restored tables) ≡ states_then tables
 restored_now [] = refl
 restored_now (t ∷ ts) = ap (λ l. t.then ∷ l) (restored_now ts)
 
-pub restored_then : (tables : List TableView) → states_then (map restored tables) ≡ states_then tables
+pub restored_then : (tables : List TableView) → states_then (map view_restored tables) ≡ states_then tables
 restored_then [] = refl
 restored_then (t ∷ ts) = ap (λ l. t.then ∷ l) (restored_then ts)
 
-restored_columns : (tables : List TableView) → columns_kept (map restored tables) ≡ columns_kept tables
+restored_columns : (tables : List TableView) → columns_kept (map view_restored tables) ≡ columns_kept tables
 restored_columns [] = refl
 restored_columns (t ∷ ts) = ap (λ l. t.columns ∷ l) (restored_columns ts)
 
-pub settled_kept : (schema : Option Schema) (tables : List TableView) (was is : Bool) → IsKept schema tables was → IsKept schema (map settled tables) is
+pub settled_kept : (schema : Option Schema) (tables : List TableView) (was is : Bool) → IsKept schema tables was → IsKept schema (map view_settled tables) is
 settled_kept schema tables was is k = record {
   columns = settled_columns tables ∙ k.columns;
   lawful = k.lawful;
   still = λ e. settled_then tables ∙ sym (settled_now tables);
 }
 
-pub restored_kept : (schema : Option Schema) (tables : List TableView) (was is : Bool) → IsKept schema tables was → IsKept schema (map restored tables) is
+pub restored_kept : (schema : Option Schema) (tables : List TableView) (was is : Bool) → IsKept schema tables was → IsKept schema (map view_restored tables) is
 restored_kept schema tables was is k = record {
   columns = restored_columns tables ∙ k.columns;
   lawful = k.lawful;
@@ -248,7 +248,7 @@ empty_columns : (shapes : List TableShape) → columns_kept (map empty_table sha
 empty_columns [] = refl
 empty_columns (s ∷ ss) = ap (λ l. s.columns ∷ l) (empty_columns ss)
 
-empty_now : (shapes : List TableShape) → states_now (map empty_table shapes) ≡ filled shapes []
+empty_now : (shapes : List TableShape) → states_now (map empty_table shapes) ≡ filled_tables shapes []
 empty_now [] = refl
 empty_now (s ∷ ss) = ap (λ l. no_rows ∷ l) (empty_now ss)
 
@@ -261,10 +261,10 @@ empty_kept s is_begun h = record { columns = empty_columns s.tables; lawful = h;
 
 -- no schema was kept, and there were no tables
 pub shapes_none : (s : Schema) (tables : List TableView) → columns_kept tables ≡ [] → Shapes s None (record { kept = None; states = states_now tables }) (record { kept = Some s; states = states_now (map empty_table s.tables) })
-shapes_none s tables h = (tt, ap (λ l. let x : Tables = record { kept = Some s; states = l } in x) (empty_now s.tables ∙ ap (λ ts. filled s.tables (states_now ts)) (sym (none_yet tables h))))
+shapes_none s tables h = (tt, ap (λ l. let x : Tables = record { kept = Some s; states = l } in x) (empty_now s.tables ∙ ap (λ ts. filled_tables s.tables (states_now ts)) (sym (none_yet tables h))))
 
 -- the tables are those of the schema already
-filled_same : (tables : List TableView) (shapes : List TableShape) → columns_kept tables ≡ columns_shaped shapes → filled shapes (states_now tables) ≡ states_now tables
+filled_same : (tables : List TableView) (shapes : List TableShape) → columns_kept tables ≡ columns_shaped shapes → filled_tables shapes (states_now tables) ≡ states_now tables
 filled_same [] [] e = refl
 filled_same [] (s ∷ ss) e = absurd cc
 filled_same (t ∷ ts) [] e = absurd cc
@@ -283,7 +283,7 @@ state_of s t e h = record {
   bounded = h.bounded;
 }
 
-pub states_of : (tables : List TableView) (shapes : List TableShape) → columns_kept tables ≡ columns_shaped shapes → AllByRecursion IsSound tables → AreStatesOf shapes (states_now tables)
+pub states_of : (tables : List TableView) (shapes : List TableShape) → columns_kept tables ≡ columns_shaped shapes → AllByRecursion IsSoundTable tables → AreStatesOf shapes (states_now tables)
 states_of [] [] e h = tt
 states_of [] (s ∷ ss) e h = absurd cc
 states_of (t ∷ ts) [] e h = absurd cc
@@ -329,22 +329,22 @@ module _ (shapes : List TableShape) (q : Query) (is : IsQuery shapes q) (tables 
   pub reaches : (covers (covered_of t.columns) q.column ≡ true) ⊎ HoldEveryKey q.ranges
   reaches = ⊎_elim (λ i. inl (ap (λ cs. covers (covered_of cs) q.column) (sym shaped) ∙ covered is.table q.column i)) (λ e. inr e) is.reaches
 
-  rows_there : rows_at (rows_of (states_now tables)) q.table ≡ t.now.rows
+  rows_there : rows_at (rows_of_tables (states_now tables)) q.table ≡ t.now.rows
   rows_there = ap (λ o. unwrap_or o []) (at_map (λ (s : TableState). s.rows) (states_now tables) q.table t.now (at_map (λ (x : TableView). x.now) tables q.table t there))
 
-  pub asked_is : (sorted : List Row) → IsPermutation (filter (lies q) t.now.rows) sorted → IsSorted (row_order q.order) sorted → AreAsked q (rows_at (rows_of (states_now tables)) q.table) sorted
+  pub asked_is : (sorted : List Row) → IsPermutation (filter (lies q) t.now.rows) sorted → IsSorted (row_order q.order) sorted → AreAsked q (rows_at (rows_of_tables (states_now tables)) q.table) sorted
   asked_is sorted p o = record { rearranged = subst (λ rows. IsPermutation (filter (lies q) rows) sorted) (sym rows_there) p; sorted = o }
 
-  pub asked_within : (sorted : List Row) → AreAsked q (rows_at (rows_of (states_now tables)) q.table) sorted → IsPermutation (filter (lies q) t.now.rows) sorted
+  pub asked_within : (sorted : List Row) → AreAsked q (rows_at (rows_of_tables (states_now tables)) q.table) sorted → IsPermutation (filter (lies q) t.now.rows) sorted
   asked_within sorted are = subst (λ rows. IsPermutation (filter (lies q) rows) sorted) rows_there are.rearranged
 
-  pub asked_fit : (sorted : List Row) → IsSound t → IsPermutation (filter (lies q) t.now.rows) sorted → IsSomeAnd (slice_get shapes q.table) (λ (s : TableShape). AllByRecursion (IsRowOf s) sorted)
+  pub asked_fit : (sorted : List Row) → IsSoundTable t → IsPermutation (filter (lies q) t.now.rows) sorted → IsSomeAnd (slice_get shapes q.table) (λ (s : TableShape). AllByRecursion (IsRowOf s) sorted)
   asked_fit sorted sound p =
       subst (λ o. IsSomeAnd o (λ (s : TableShape). AllByRecursion (IsRowOf s) sorted)) (sym is.is_table)
       (recursion_from_All (IsRowOf is.table) sorted (All-permutation (IsRowOf is.table) (filter (lies q) t.now.rows) sorted p
       (All-filter (lies q) (IsRowOf is.table) t.now.rows (state_of is.table t (sym shaped) sound.now).fit)))
 
-  pub asked_few : (sorted : List Row) → IsSound t → IsPermutation (filter (lies q) t.now.rows) sorted → length sorted ≤ 200000
+  pub asked_few : (sorted : List Row) → IsSoundTable t → IsPermutation (filter (lies q) t.now.rows) sorted → length sorted ≤ 200000
   asked_few sorted sound p =
       let n = length_permutation (filter (lies q) t.now.rows) sorted p in
       let m = shorter (lies q) t.now.rows in
@@ -361,7 +361,7 @@ module _ (shapes : List TableShape) (q : Query) (is : IsQuery shapes q) (tables 
   ascend : (rows : List Row) → AreInIdOrder rows → IsSorted (row_order None) rows
   ascend rows h k d low high = subst (λ n. is_lt (nat_cmp (slice_index_or rows n d).id (slice_index_or rows k d).id) ≡ false) (let e : suc k ≡ k + 1 = omega arith in e) (ids_ascend rows h k d (omega (arith, high)))
 
-  pub first_is : q.column ≡ 0 → q.order ≡ None → IsSound t → (most : ℕ) (first : List Row) → first ≡ take most (filter (lies_among 0 q.ranges) t.now.rows) → AreFirst q (rows_at (rows_of (states_now tables)) q.table) most first
+  pub first_is : q.column ≡ 0 → q.order ≡ None → IsSoundTable t → (most : ℕ) (first : List Row) → first ≡ take most (filter (lies_among 0 q.ranges) t.now.rows) → AreFirstRows q (rows_at (rows_of_tables (states_now tables)) q.table) most first
   first_is column order sound most first e =
       let asked = filter (lies q) t.now.rows in (
         asked,
@@ -369,7 +369,7 @@ module _ (shapes : List TableShape) (q : Query) (is : IsQuery shapes q) (tables 
         e ∙ ap (λ k. take most (filter (lies_among k q.ranges) t.now.rows)) (sym column),
       )
 
-  pub first_fit : q.column ≡ 0 → IsSound t → (most : ℕ) (first : List Row) → first ≡ take most (filter (lies_among 0 q.ranges) t.now.rows) → IsSomeAnd (slice_get shapes q.table) (λ (s : TableShape). AllByRecursion (IsRowOf s) first)
+  pub first_fit : q.column ≡ 0 → IsSoundTable t → (most : ℕ) (first : List Row) → first ≡ take most (filter (lies_among 0 q.ranges) t.now.rows) → IsSomeAnd (slice_get shapes q.table) (λ (s : TableShape). AllByRecursion (IsRowOf s) first)
   first_fit column sound most first e =
       subst (λ o. IsSomeAnd o (λ (s : TableShape). AllByRecursion (IsRowOf s) first)) (sym is.is_table)
       (subst (λ (rows : List Row). AllByRecursion (IsRowOf is.table) rows) (sym (e ∙ ap (λ k. take most (filter (lies_among k q.ranges) t.now.rows)) (sym column)))

@@ -13,11 +13,11 @@ use Rattle.fx_value.specs.Order.{IsScalar}
 use Rattle.row_queries.specs.TableRows.{AreCellsOf, AreInIdOrder, IsBelowAll, value_at}
 use Rattle.row_queries.specs.declared.rows.Row.{Row}
 use Rattle.row_keeper.specs.Covered.{NoneAbove, entries_of}
-use Rattle.row_keeper.specs.Entries.{Entry, Entries, is_one_of, now_in, then_in}
+use Rattle.row_keeper.specs.Entries.{IndexEntry, Entries, is_entry_among, now_in, then_in}
 use Rattle.row_keeper.specs.Slots.{cells_now, cells_then, now_at, rows_now, rows_then, then_at}
 use Rattle.row_keeper.specs.Tables.{has_id}
-use Rattle.row_keeper.specs.Whole.{IsGood, IsWhole}
-use Rattle.row_keeper.specs.declared.slots.Slot.{Slot}
+use Rattle.row_keeper.specs.Whole.{IsGood, IsWholeIndex}
+use Rattle.row_keeper.specs.declared.row_slots.Slot.{Slot}
 use Rattle.row_keeper.proofs.AgreeLemmas.{above_stays, change_marks, end_agrees, none_marks, put_marks, set_agrees, take_marks}
 use Rattle.row_keeper.proofs.RowLists.{all_below, changed, has_row, in_order, order_changed, order_less, order_more, row_changed, row_is, row_less, row_more, rows_are, same_rows}
 
@@ -68,11 +68,11 @@ none_inserted last at at' w h now i l = ap is_some (now i) ∙ by (last + 1 == i
     by false e = h i (omega (arith, l))
 
 pub inserted : (columns : List Column) (covered : List ℕ) (rows rows' : List (ℕ × Slot)) (es es1 es' : Entries) (last count first first_count : ℕ) (cells : List Data)
-    → IsWhole columns covered rows es last count first first_count → Sorted rows → Sorted rows' → count < 200000 → AreCellsOf columns cells → AllByRecursion IsProper cells
+    → IsWholeIndex columns covered rows es last count first first_count → Sorted rows → Sorted rows' → count < 200000 → AreCellsOf columns cells → AllByRecursion IsProper cells
     → ((i : ℕ) → now_at rows' i ≡ cond (last + 1 == i) (Some cells) (now_at rows i)) → ((i : ℕ) → then_at rows' i ≡ then_at rows i)
-    → ((q : Entry) → now_in es1 q ≡ now_in es q) → ((q : Entry) → now_in es' q ≡ cond (is_one_of (entries_of covered (last + 1) cells) q) true (now_in es1 q))
-    → ((q : Entry) → then_in es' q ≡ then_in es q)
-    → IsWhole columns covered rows' es' (last + 1) (count + 1) first first_count
+    → ((q : IndexEntry) → now_in es1 q ≡ now_in es q) → ((q : IndexEntry) → now_in es' q ≡ cond (is_entry_among (entries_of covered (last + 1) cells) q) true (now_in es1 q))
+    → ((q : IndexEntry) → then_in es' q ≡ then_in es q)
+    → IsWholeIndex columns covered rows' es' (last + 1) (count + 1) first first_count
 inserted columns covered rows rows' es es1 es' last count first first_count cells w s s' few fit proper now then room marked kept = record {
   narrow = w.narrow;
   covered_is = w.covered_is;
@@ -99,11 +99,11 @@ rows_replaced rows rows' id cells s s' there now =
     (λ i. now i ∙ ap (cond (id == i) (Some cells)) (sym (row_is cells_now rows s i)) ∙ sym (row_changed id cells (rows_now rows) i (ap is_some (row_is cells_now rows s id) ∙ there)))
 
 pub replaced : (columns : List Column) (covered : List ℕ) (rows rows' : List (ℕ × Slot)) (es es1 es2 es' : Entries) (last count first first_count id : ℕ) (old cells : List Data)
-    → IsWhole columns covered rows es last count first first_count → Sorted rows → Sorted rows' → now_at rows id ≡ Some old → AreCellsOf columns cells → AllByRecursion IsProper cells
+    → IsWholeIndex columns covered rows es last count first first_count → Sorted rows → Sorted rows' → now_at rows id ≡ Some old → AreCellsOf columns cells → AllByRecursion IsProper cells
     → ((i : ℕ) → now_at rows' i ≡ cond (id == i) (Some cells) (now_at rows i)) → ((i : ℕ) → then_at rows' i ≡ then_at rows i)
-    → ((q : Entry) → now_in es1 q ≡ now_in es q) → ((q : Entry) → now_in es2 q ≡ cond (is_one_of (entries_of covered id old) q) false (now_in es1 q))
-    → ((q : Entry) → now_in es' q ≡ cond (is_one_of (entries_of covered id cells) q) true (now_in es2 q)) → ((q : Entry) → then_in es' q ≡ then_in es q)
-    → IsWhole columns covered rows' es' last count first first_count
+    → ((q : IndexEntry) → now_in es1 q ≡ now_in es q) → ((q : IndexEntry) → now_in es2 q ≡ cond (is_entry_among (entries_of covered id old) q) false (now_in es1 q))
+    → ((q : IndexEntry) → now_in es' q ≡ cond (is_entry_among (entries_of covered id cells) q) true (now_in es2 q)) → ((q : IndexEntry) → then_in es' q ≡ then_in es q)
+    → IsWholeIndex columns covered rows' es' last count first first_count
 replaced columns covered rows rows' es es1 es2 es' last count first first_count id old cells w s s' there fit proper now then room out into kept =
     let is_there : is_some (now_at rows id) ≡ true = ap is_some there in record {
       narrow = w.narrow;
@@ -157,10 +157,10 @@ one_less id (r ∷ rows) o h = by (has_id id r) refl (one_less id rows o.1)
     by false e ih = let g = ih (ap (λ b. b || list_any (has_id id) rows) (sym e) ∙ h) in omega (arith, g)
 
 pub removed : (columns : List Column) (covered : List ℕ) (rows rows' : List (ℕ × Slot)) (es es' : Entries) (last count first first_count id : ℕ) (old : List Data)
-    → IsWhole columns covered rows es last count first first_count → Sorted rows → Sorted rows' → now_at rows id ≡ Some old
+    → IsWholeIndex columns covered rows es last count first first_count → Sorted rows → Sorted rows' → now_at rows id ≡ Some old
     → ((i : ℕ) → now_at rows' i ≡ cond (id == i) None (now_at rows i)) → ((i : ℕ) → then_at rows' i ≡ then_at rows i)
-    → ((q : Entry) → now_in es' q ≡ cond (is_one_of (entries_of covered id old) q) false (now_in es q)) → ((q : Entry) → then_in es' q ≡ then_in es q)
-    → IsWhole columns covered rows' es' last (count - 1) first first_count
+    → ((q : IndexEntry) → now_in es' q ≡ cond (is_entry_among (entries_of covered id old) q) false (now_in es q)) → ((q : IndexEntry) → then_in es' q ≡ then_in es q)
+    → IsWholeIndex columns covered rows' es' last (count - 1) first first_count
 removed columns covered rows rows' es es' last count first first_count id old w s s' there now then out kept =
     let is_there : is_some (now_at rows id) ≡ true = ap is_some there in record {
       narrow = w.narrow;
@@ -184,9 +184,9 @@ removed columns covered rows rows' es es' last count first first_count id old w 
 
 -- ---- nothing changes that is told
 pub same_whole : (columns : List Column) (covered : List ℕ) (rows rows' : List (ℕ × Slot)) (es es' : Entries) (last count first first_count : ℕ)
-    → IsWhole columns covered rows es last count first first_count → rows' ≡ rows → ((q : Entry) → now_in es' q ≡ now_in es q) → ((q : Entry) → then_in es' q ≡ then_in es q)
-    → IsWhole columns covered rows' es' last count first first_count
-same_whole columns covered rows rows' es es' last count first first_count w e now then = subst (λ r. IsWhole columns covered r es' last count first first_count) (sym e) (record {
+    → IsWholeIndex columns covered rows es last count first first_count → rows' ≡ rows → ((q : IndexEntry) → now_in es' q ≡ now_in es q) → ((q : IndexEntry) → then_in es' q ≡ then_in es q)
+    → IsWholeIndex columns covered rows' es' last count first first_count
+same_whole columns covered rows rows' es es' last count first first_count w e now then = subst (λ r. IsWholeIndex columns covered r es' last count first first_count) (sym e) (record {
   narrow = w.narrow;
   covered_is = w.covered_is;
   agrees = (λ q. now q ∙ w.agrees.0 q, λ q. then q ∙ w.agrees.1 q);
@@ -197,10 +197,10 @@ same_whole columns covered rows rows' es es' last count first first_count w e no
 
 -- ---- the ends of a transaction
 pub taken_back : (columns : List Column) (covered : List ℕ) (rows rows' : List (ℕ × Slot)) (es es' : Entries) (last count first first_count : ℕ)
-    → IsWhole columns covered rows es last count first first_count → Sorted rows → Sorted rows'
+    → IsWholeIndex columns covered rows es last count first first_count → Sorted rows → Sorted rows'
     → ((i : ℕ) → now_at rows' i ≡ then_at rows i) → ((i : ℕ) → then_at rows' i ≡ then_at rows i)
-    → ((q : Entry) → now_in es' q ≡ then_in es q) → ((q : Entry) → then_in es' q ≡ then_in es q)
-    → IsWhole columns covered rows' es' first first_count first first_count
+    → ((q : IndexEntry) → now_in es' q ≡ then_in es q) → ((q : IndexEntry) → then_in es' q ≡ then_in es q)
+    → IsWholeIndex columns covered rows' es' first first_count first first_count
 taken_back columns covered rows rows' es es' last count first first_count w s s' now then now_is then_is = record {
   narrow = w.narrow;
   covered_is = w.covered_is;
@@ -219,10 +219,10 @@ taken_back columns covered rows rows' es es' last count first first_count w s s'
 }
 
 pub ended : (columns : List Column) (covered : List ℕ) (rows rows' : List (ℕ × Slot)) (es es' : Entries) (last count first first_count : ℕ)
-    → IsWhole columns covered rows es last count first first_count → Sorted rows → Sorted rows'
+    → IsWholeIndex columns covered rows es last count first first_count → Sorted rows → Sorted rows'
     → ((i : ℕ) → now_at rows' i ≡ now_at rows i) → ((i : ℕ) → then_at rows' i ≡ now_at rows i)
-    → ((q : Entry) → now_in es' q ≡ now_in es q) → ((q : Entry) → then_in es' q ≡ now_in es q)
-    → IsWhole columns covered rows' es' last count last count
+    → ((q : IndexEntry) → now_in es' q ≡ now_in es q) → ((q : IndexEntry) → then_in es' q ≡ now_in es q)
+    → IsWholeIndex columns covered rows' es' last count last count
 ended columns covered rows rows' es es' last count first first_count w s s' now then now_is then_is = record {
   narrow = w.narrow;
   covered_is = w.covered_is;
@@ -256,7 +256,7 @@ scalars_in columns rows good i k = by (now_at rows i) (good i)
     by (Some cells) h = scalar_at columns cells h.1 k
 
 -- the row whose entries these are
-pub row_of_entries : (covered : List ℕ) (rows : List (ℕ × Slot)) (id : ℕ) (out : List Entry) → Some out ≡ option_map (entries_of covered id) (now_at rows id)
+pub row_of_entries : (covered : List ℕ) (rows : List (ℕ × Slot)) (id : ℕ) (out : List IndexEntry) → Some out ≡ option_map (entries_of covered id) (now_at rows id)
     → (old : List Data) × (now_at rows id ≡ Some old) × (out ≡ entries_of covered id old)
 row_of_entries covered rows id out e = by (now_at rows id) refl e
   where

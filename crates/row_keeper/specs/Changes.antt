@@ -10,7 +10,7 @@ use Rattle.row_queries.specs.TableRows.{rows_at}
 use Rattle.row_queries.specs.declared.queries.Query.{Query}
 use Rattle.row_queries.specs.declared.rows.RowList.{RowList}
 use Rattle.row_keeper.specs.RowRules.{rule_of}
-use Rattle.row_keeper.specs.Tables.{Tables, filled, has_id, rows_of, state_at, with_cells, with_row, with_state, without_row}
+use Rattle.row_keeper.specs.Tables.{Tables, filled_tables, has_id, rows_of_tables, state_at, with_cells, with_row, with_state, without_row}
 use Rattle.row_keeper.specs.declared.rows.Put.{Put}
 use Rattle.row_keeper.specs.declared.rows.Put.TheVariants.{Id, NoRow, Refused}
 use Rattle.row_keeper.specs.declared.rows.RowRule.{RowRule}
@@ -22,7 +22,7 @@ use Rattle.row_keeper.specs.declared.rows.RowRule.TheVariants.{Required, Unique,
 -- is kept from then on
 abbrev pub Shapes : Schema → Option Schema → Tables → Tables → Type 0
 Shapes schema (Some other) a b = (a.kept ≡ Some other) × (other ≢ schema) × (b ≡ a)
-Shapes schema None a b = IfSome a.kept (λ s. s ≡ schema) × (b ≡ record { kept = Some schema; states = filled schema.tables a.states })
+Shapes schema None a b = IfSome a.kept (λ s. s ≡ schema) × (b ≡ record { kept = Some schema; states = filled_tables schema.tables a.states })
 
 -- a new row gets the next number, or is refused by the first rule that it breaks
 abbrev pub Inserts : List Column → ℕ → List Data → Put → Tables → Tables → Type 0
@@ -48,13 +48,13 @@ Removes table id false a b = (list_any (has_id id) (state_at a.states table).row
 
 -- this is what a query gives, and nothing changes
 abbrev pub Scans : Query → RowList → Tables → Tables → Type 0
-Scans q answer a b = IsScanned q (rows_at (rows_of a.states) q.table) answer × (b ≡ a)
+Scans q answer a b = IsScanned q (rows_at (rows_of_tables a.states) q.table) answer × (b ≡ a)
 
-abbrev pub Counts : Query → ℕ → Tables → Tables → Type 0
-Counts q n a b = IsCounted q (rows_at (rows_of a.states) q.table) n × (b ≡ a)
+abbrev pub CountsQuery : Query → ℕ → Tables → Tables → Type 0
+CountsQuery q n a b = IsCounted q (rows_at (rows_of_tables a.states) q.table) n × (b ≡ a)
 
 abbrev pub TotalsUp : Query → ℕ → Totals → Tables → Tables → Type 0
-TotalsUp q column totals a b = IsTotalled q (rows_at (rows_of a.states) q.table) column totals × (b ≡ a)
+TotalsUp q column totals a b = IsTotalled q (rows_at (rows_of_tables a.states) q.table) column totals × (b ≡ a)
 
 -- ---- the answers, told or not
 

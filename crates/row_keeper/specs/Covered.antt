@@ -11,7 +11,7 @@ use Rattle.row_queries.specs.declared.ranges.KeyRange.{KeyRange}
 use Rattle.row_keeper.specs.Entries.{now_in, then_in}
 use Rattle.row_keeper.specs.Slots.{now_at, then_at}
 use Rattle.row_keeper.specs.declared.index.Mark.{Mark}
-use Rattle.row_keeper.specs.declared.slots.Slot.{Slot}
+use Rattle.row_keeper.specs.declared.row_slots.Slot.{Slot}
 
 -- the numbers of the columns that are indexed or unique, where the first is numbered k
 abbrev pub indexed_from : ℕ → List Column → List ℕ

@@ -12,8 +12,8 @@ use Rattle.row_queries.specs.declared.ranges.KeyRange.{KeyRange}
 use Rattle.row_keeper.specs.declared.index.Mark.{Mark}
 
 -- an entry: a column's number and a key, and the number of a row
-abbrev pub Entry : Type 0
-Entry = (ℕ × List ℕ) × ℕ
+abbrev pub IndexEntry : Type 0
+IndexEntry = (ℕ × List ℕ) × ℕ
 
 abbrev pub Entries : Type 0
 Entries = List (((ℕ × List ℕ) × ℕ) × Mark)
@@ -26,8 +26,8 @@ entry_cmp a b = ordering_then (ordering_then (nat_cmp a.0.0 b.0.0) (slice_cmp na
 abbrev pub is_entry : (ℕ × List ℕ) × ℕ → (ℕ × List ℕ) × ℕ → Bool
 is_entry q e = ((q.0.0 == e.0.0) && bytes_eq q.0.1 e.0.1) && (q.1 == e.1)
 
-abbrev pub is_one_of : List ((ℕ × List ℕ) × ℕ) → (ℕ × List ℕ) × ℕ → Bool
-is_one_of es q = list_any (λ e. is_entry e q) es
+abbrev pub is_entry_among : List ((ℕ × List ℕ) × ℕ) → (ℕ × List ℕ) × ℕ → Bool
+is_entry_among es q = list_any (λ e. is_entry e q) es
 
 abbrev pub is_now : Option Mark → Bool
 is_now None = false
@@ -48,21 +48,21 @@ abbrev pub mark_at : List (((ℕ × List ℕ) × ℕ) × Mark) → (ℕ × List 
 mark_at es q = lookup (is_at (entry_cmp q)) es
 
 -- an entry has a mark and is noted as touched, so that it can be marked without memory
-abbrev pub HasRoom : List ((ℕ × List ℕ) × ℕ) → List (((ℕ × List ℕ) × ℕ) × Mark) → (ℕ × List ℕ) × ℕ → Type 0
-HasRoom touched es q = (is_one_of touched q ≡ true) × (is_some (mark_at es q) ≡ true)
+abbrev pub HasEntryRoom : List ((ℕ × List ℕ) × ℕ) → List (((ℕ × List ℕ) × ℕ) × Mark) → (ℕ × List ℕ) × ℕ → Type 0
+HasEntryRoom touched es q = (is_entry_among touched q ≡ true) × (is_some (mark_at es q) ≡ true)
 
 -- entries other than these are as they were as the transaction began
-abbrev pub OthersStand : List ((ℕ × List ℕ) × ℕ) → List (((ℕ × List ℕ) × ℕ) × Mark) → Type 0
-OthersStand touched es = (q : (ℕ × List ℕ) × ℕ) → is_one_of touched q ≡ false → now_in es q ≡ then_in es q
+abbrev pub OtherEntriesStand : List ((ℕ × List ℕ) × ℕ) → List (((ℕ × List ℕ) × ℕ) × Mark) → Type 0
+OtherEntriesStand touched es = (q : (ℕ × List ℕ) × ℕ) → is_entry_among touched q ≡ false → now_in es q ≡ then_in es q
 
 -- a mark after the end of a transaction, with its change or without
-abbrev pub at_end : Bool → Mark → Mark
-at_end with_changes m = cond with_changes (record { was = m.is; is = m.is }) (record { was = m.was; is = m.was })
+abbrev pub mark_at_end : Bool → Mark → Mark
+mark_at_end with_changes m = cond with_changes (record { was = m.is; is = m.is }) (record { was = m.was; is = m.was })
 
 -- a mark of no entry
-abbrev pub is_gone : Option Mark → Bool
-is_gone None = false
-is_gone (Some m) = not m.was
+abbrev pub is_no_entry : Option Mark → Bool
+is_no_entry None = false
+is_no_entry (Some m) = not m.was
 
 -- a mark that still is one of an entry
 abbrev pub while_entry : Option Mark → Option Mark
@@ -70,9 +70,9 @@ while_entry None = None
 while_entry (Some m) = cond m.was (Some m) None
 
 -- what stands there after the end of a transaction
-abbrev pub ended : Bool → Option Mark → Option Mark
-ended with_changes None = None
-ended with_changes (Some m) = while_entry (Some (at_end with_changes m))
+abbrev pub entry_ended : Bool → Option Mark → Option Mark
+entry_ended with_changes None = None
+entry_ended with_changes (Some m) = while_entry (Some (mark_at_end with_changes m))
 
 -- whether one of the entries is that of a row of this number
 abbrev pub among : List (((ℕ × List ℕ) × ℕ) × Mark) → ℕ → Bool

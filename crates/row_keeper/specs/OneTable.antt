@@ -13,11 +13,11 @@ abbrev pub with_now : TableView → TableState → TableView
 with_now t s = record { columns = t.columns; now = s; then = t.then }
 
 -- a transaction ends, with its changes and without them
-abbrev pub settled : TableView → TableView
-settled t = record { columns = t.columns; now = t.now; then = t.now }
+abbrev pub view_settled : TableView → TableView
+view_settled t = record { columns = t.columns; now = t.now; then = t.now }
 
-abbrev pub restored : TableView → TableView
-restored t = record { columns = t.columns; now = t.then; then = t.then }
+abbrev pub view_restored : TableView → TableView
+view_restored t = record { columns = t.columns; now = t.then; then = t.then }
 
 -- a new row, where all tables have so many rows
 abbrev pub PutsNew : ℕ → List Data → Put → TableView → TableView → Type 0

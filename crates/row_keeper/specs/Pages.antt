@@ -1,7 +1,7 @@
 -- What queries give that take the first rows by their numbers.
 use Rattle.std.specs.Prelude.{◌≡◌, ℕ, ◌≤◌, List, length, map, take, None, Some}
 use Rattle.std.specs.List.{filter}
-use Rattle.row_queries.specs.Queries.{AreAsked, first_fault, given_of, lies, outcome_on}
+use Rattle.row_queries.specs.Queries.{AreAsked, first_outcome_fault, given_of, lies, outcome_on}
 use Rattle.row_queries.specs.RowTests.{HasNoFaults}
 use Rattle.row_queries.specs.declared.queries.Query.{Query}
 use Rattle.row_queries.specs.declared.rows.Row.{Row}
@@ -14,14 +14,14 @@ pub record IsPage (q : Query) (most : ℕ) : Type 0 where
   pub take : q.take ≡ Some most
 
 -- the first rows, at most so many, of those that a query asks
-abbrev pub AreFirst : Query → List Row → ℕ → List Row → Type 0
-AreFirst q rows most first = (asked : List Row) × AreAsked q rows asked × (first ≡ take most asked)
+abbrev pub AreFirstRows : Query → List Row → ℕ → List Row → Type 0
+AreFirstRows q rows most first = (asked : List Row) × AreAsked q rows asked × (first ≡ take most asked)
 
 -- what a query gives, whose test is no error on a row, and for which so many rows were asked
-pub record IsGiven (q : Query) (rows given : List Row) (count : ℕ) : Type 0 where
+pub record QueryGives (q : Query) (rows given : List Row) (count : ℕ) : Type 0 where
   pub asked : List Row
   pub are : AreAsked q rows asked
-  pub sound : first_fault (map (outcome_on q) asked) ≡ None
+  pub sound : first_outcome_fault (map (outcome_on q) asked) ≡ None
   pub are_given : given ≡ given_of q asked
   pub least : length given ≤ count
   pub most : count ≤ length (filter (lies q) rows)

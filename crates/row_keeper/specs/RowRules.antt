@@ -6,7 +6,7 @@ use Rattle.fx_types.specs.Values.{Data, blank}
 use Rattle.fx_core.specs.declared.schema.Column.{Column}
 use Rattle.fx_value.specs.Order.{order}
 use Rattle.fx_value.specs.Weight.{weight_of}
-use Rattle.row_queries.specs.RowTests.{is_empty}
+use Rattle.row_queries.specs.RowTests.{is_empty_value}
 use Rattle.row_queries.specs.TableRows.{value_at, values_of}
 use Rattle.row_queries.specs.declared.rows.Row.{Row}
 use Rattle.row_keeper.specs.Tables.{TableState, all_rows, has_id, state_at}
@@ -19,16 +19,16 @@ is_blank blank = true
 is_blank d = false
 
 -- the same value: the order doesn't tell them apart
-abbrev pub is_same : Data → Data → Bool
-is_same a b = is_eq (order a b)
+abbrev pub is_same_key : Data → Data → Bool
+is_same_key a b = is_eq (order a b)
 
 -- a required column is blank or ""
 abbrev pub lacks : Column → ℕ → Data → Bool
-lacks c k d = c.required && is_empty d
+lacks c k d = c.required && is_empty_value d
 
 -- a row has this value in the column of this number
 abbrev pub has_value : ℕ → Data → Row → Bool
-has_value k d r = is_same (value_at (values_of r) k) d
+has_value k d r = is_same_key (value_at (values_of r) k) d
 
 -- the value of a unique column, the one of this number, stands in another row; blank may stand in many
 abbrev pub repeats : List Row → Column → ℕ → Data → Bool
@@ -45,8 +45,8 @@ abbrev pub cells_weight : List Data → ℕ
 cells_weight cells = sum_by weight_of cells
 
 -- a table takes no new row: it has 200,000 rows, all tables have 500,000, or its last number is the greatest
-abbrev pub is_full : TableState → ℕ → Bool
-is_full state all = nat_le 200000 (length state.rows) || (nat_le 500000 all || state.last == 4294967295)
+abbrev pub is_table_full : TableState → ℕ → Bool
+is_table_full state all = nat_le 200000 (length state.rows) || (nat_le 500000 all || state.last == 4294967295)
 
 -- the rows of a table but the one of this number; a new row has none
 abbrev pub others : Option ℕ → List Row → List Row
@@ -75,7 +75,7 @@ rule_in columns state all id cells =
     first_of_two (in_column Required (first_broken lacks 1 columns cells))
     (first_of_two (in_column Unique (first_broken (repeats (others id state.rows)) 1 columns cells))
     (first_of_two (where_broken Size (nat_lt 2048 (cells_weight cells)))
-    (where_broken Full (is_none id && is_full state all))))
+    (where_broken Full (is_none id && is_table_full state all))))
 
 -- the same of one of several tables
 abbrev pub rule_of : List Column → List TableState → ℕ → Option ℕ → List Data → Option RowRefusal

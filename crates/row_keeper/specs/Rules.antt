@@ -17,9 +17,9 @@ abbrev pub only_key : List ℕ → KeyRange
 only_key key = record { from = key; upto = Some (key ++ 0 ∷ []) }
 
 -- the row isn't the one of this number
-abbrev pub is_other : Option ℕ → Row → Bool
-is_other None r = true
-is_other (Some id) r = not (has_id id r)
+abbrev pub is_other_row : Option ℕ → Row → Bool
+is_other_row None r = true
+is_other_row (Some id) r = not (has_id id r)
 
 -- a scalar of the type of the column at a place
 abbrev pub FitsColumn : List Column → ℕ → Data → Type 0

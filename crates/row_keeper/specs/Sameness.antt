@@ -6,9 +6,9 @@ use Rattle.fx_core.specs.declared.schema.Column.{Column}
 use Rattle.fx_core.specs.declared.schema.TableShape.{TableShape}
 
 -- an answer tells whether two are the same
-abbrev pub Tells : {A : Type 0} → Bool → A → A → Type 0
-Tells true a b = a ≡ b
-Tells false a b = a ≢ b
+abbrev pub IsSameAnswer : {A : Type 0} → Bool → A → A → Type 0
+IsSameAnswer true a b = a ≡ b
+IsSameAnswer false a b = a ≢ b
 
 -- columns have types that columns may have
 abbrev pub HasColumnTypes : TableShape → Type 0

@@ -7,9 +7,9 @@ use Rattle.std.specs.BTreeMap.{is_at}
 use Rattle.std.specs.Ordering.{nat_cmp}
 use Rattle.fx_types.specs.Values.{Data}
 use Rattle.row_queries.specs.declared.rows.Row.{Row}
-use Rattle.row_keeper.specs.declared.slots.Made.{Made}
-use Rattle.row_keeper.specs.declared.slots.Made.TheVariants.{Same, Gone, New}
-use Rattle.row_keeper.specs.declared.slots.Slot.{Slot}
+use Rattle.row_keeper.specs.declared.row_slots.Made.{Made}
+use Rattle.row_keeper.specs.declared.row_slots.Made.TheVariants.{Same, Gone, New}
+use Rattle.row_keeper.specs.declared.row_slots.Slot.{Slot}
 
 abbrev pub now_of : Option (List Data) → Made → Option (List Data)
 now_of was Same = was
@@ -70,8 +70,8 @@ abbrev pub slot_at : List (ℕ × Slot) → ℕ → Option Slot
 slot_at rows i = lookup (is_at (nat_cmp i)) rows
 
 -- a number is among others
-abbrev pub is_named : List ℕ → ℕ → Bool
-is_named ids i = list_any (λ n. n == i) ids
+abbrev pub has_number : List ℕ → ℕ → Bool
+has_number ids i = list_any (λ n. n == i) ids
 
 -- a transaction has made nothing of a row
 abbrev pub is_unmade : Made → Bool
@@ -83,17 +83,17 @@ is_unchanged None = true
 is_unchanged (Some s) = is_unmade s.made
 
 -- slots of other numbers than these are as they were
-abbrev pub OthersStand : List ℕ → List (ℕ × Slot) → Type 0
-OthersStand touched rows = (i : ℕ) → is_named touched i ≡ false → is_unchanged (slot_at rows i) ≡ true
+abbrev pub OtherSlotsStand : List ℕ → List (ℕ × Slot) → Type 0
+OtherSlotsStand touched rows = (i : ℕ) → has_number touched i ≡ false → is_unchanged (slot_at rows i) ≡ true
 
 -- a slot after the end of a transaction, with its change or without
-abbrev pub at_end : Bool → Slot → Slot
-at_end with_changes s = cond with_changes (settled s) (restored s)
+abbrev pub slot_at_end : Bool → Slot → Slot
+slot_at_end with_changes s = cond with_changes (settled s) (restored s)
 
 -- a slot of no row
-abbrev pub is_gone : Option Slot → Bool
-is_gone None = false
-is_gone (Some s) = is_none s.was
+abbrev pub is_no_row : Option Slot → Bool
+is_no_row None = false
+is_no_row (Some s) = is_none s.was
 
 -- a slot that still is one of a row
 abbrev pub while_row : Option Slot → Option Slot
@@ -101,6 +101,6 @@ while_row None = None
 while_row (Some s) = cond (is_some s.was) (Some s) None
 
 -- what stands there after the end of a transaction
-abbrev pub ended : Bool → Option Slot → Option Slot
-ended with_changes None = None
-ended with_changes (Some s) = while_row (Some (at_end with_changes s))
+abbrev pub slot_ended : Bool → Option Slot → Option Slot
+slot_ended with_changes None = None
+slot_ended with_changes (Some s) = while_row (Some (slot_at_end with_changes s))

@@ -24,7 +24,7 @@ pub record IsSoundState (columns : List Column) (s : TableState) : Type 0 where
   pub few : length s.rows ≤ 200000
 
 -- now, and as the transaction began
-pub record IsSound (t : TableView) : Type 0 where
+pub record IsSoundTable (t : TableView) : Type 0 where
   pub narrow : length t.columns ≤ 63
   pub now : IsSoundState t.columns t.now
   pub then : IsSoundState t.columns t.then

@@ -40,12 +40,12 @@ abbrev pub state_at : List TableState → ℕ → TableState
 state_at states table = unwrap_or (slice_get states table) no_rows
 
 -- the rows of each table
-abbrev pub rows_of : List TableState → List (List Row)
-rows_of states = map (λ (s : TableState). s.rows) states
+abbrev pub rows_of_tables : List TableState → List (List Row)
+rows_of_tables states = map (λ (s : TableState). s.rows) states
 
 -- the rows of each table, where they are told
 abbrev pub rows_told : Option Tables → Option (List (List Row))
-rows_told told = option_map (λ (t : Tables). rows_of t.states) told
+rows_told told = option_map (λ (t : Tables). rows_of_tables t.states) told
 
 -- how many rows all tables have
 abbrev pub all_rows : List TableState → ℕ
@@ -72,10 +72,10 @@ abbrev pub with_state : Tables → ℕ → TableState → Tables
 with_state t table s = record { kept = t.kept; states = set t.states table s }
 
 -- a table for each of the schema: the one that is there, or one without rows
-abbrev pub filled : List TableShape → List TableState → List TableState
-filled [] states = []
-filled (t ∷ ts) [] = no_rows ∷ filled ts []
-filled (t ∷ ts) (s ∷ ss) = s ∷ filled ts ss
+abbrev pub filled_tables : List TableShape → List TableState → List TableState
+filled_tables [] states = []
+filled_tables (t ∷ ts) [] = no_rows ∷ filled_tables ts []
+filled_tables (t ∷ ts) (s ∷ ss) = s ∷ filled_tables ts ss
 
 -- the rows fit the table, stand by rising numbers, and the last number that was given isn't below any and has 32 bits
 pub record IsStateOf (t : TableShape) (s : TableState) : Type 0 where

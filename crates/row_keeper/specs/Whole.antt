@@ -8,7 +8,7 @@ use Rattle.row_queries.specs.TableRows.{AreCellsOf}
 use Rattle.row_keeper.specs.Covered.{Agrees, NoneAbove, covered_of}
 use Rattle.row_keeper.specs.Slots.{now_at, rows_now, rows_then, then_at}
 use Rattle.row_keeper.specs.declared.index.Mark.{Mark}
-use Rattle.row_keeper.specs.declared.slots.Slot.{Slot}
+use Rattle.row_keeper.specs.declared.row_slots.Slot.{Slot}
 
 -- numbers begin at 1, cells fit the columns, and values are in their ranges
 abbrev pub IsGood : List Column → ℕ → Option (List Data) → Type 0
@@ -25,7 +25,7 @@ pub record IsTallied (rows : List (ℕ × Slot)) (last count first first_count :
   pub few : count ≤ 200000
   pub few_then : first_count ≤ 200000
 
-pub record IsWhole (columns : List Column) (covered : List ℕ) (rows : List (ℕ × Slot)) (es : List (((ℕ × List ℕ) × ℕ) × Mark)) (last count first first_count : ℕ) : Type 0 where
+pub record IsWholeIndex (columns : List Column) (covered : List ℕ) (rows : List (ℕ × Slot)) (es : List (((ℕ × List ℕ) × ℕ) × Mark)) (last count first first_count : ℕ) : Type 0 where
   pub narrow : length columns ≤ 63
   pub covered_is : covered ≡ covered_of columns
   pub agrees : Agrees covered rows es

@@ -4,7 +4,7 @@ ghost use Rattle.std.specs.BTreeMap.{IsOrdered};
 ghost use Rattle.std.specs.BTreeSet as set;
 ghost use Rattle.std.specs.Option.{is_some};
 ghost use Rattle.std.specs.Ordering.{nat_cmp};
-ghost use Rattle.row_keeper.specs.Entries.{Entry as EntryValue, HasRoom, OthersStand, among, at_end, end_key, ended, entry_cmp, hits, hits_in, ids_in, ids_of, is_entry, is_gone, is_one_of, lies_at, mark_at, now_in, then_in, while_entry};
+ghost use Rattle.row_keeper.specs.Entries.{IndexEntry as EntryValue, HasEntryRoom, OtherEntriesStand, among, mark_at_end, end_key, entry_ended, entry_cmp, hits, hits_in, ids_in, ids_of, is_entry, is_no_entry, is_entry_among, lies_at, mark_at, now_in, then_in, while_entry};
 
 use fx_base::Memory;
 use row_queries::{Key, KeyRange};
@@ -29,7 +29,7 @@ pub struct Index {
     /// The entries that the transaction may have changed, some of them more than once.
     // An entry is noted before it changes, so that neither end of a transaction takes memory, and looks at these alone.
     pub touched: Vec<((u16, Key), u32)>,
-    ghost kept: { OthersStand touched.items entries.entries },
+    ghost kept: { OtherEntriesStand touched.items entries.entries },
 }
 
 /// The same key.
@@ -83,7 +83,7 @@ fn end_of(alloc: Global, column: u16, range: &KeyRange) -> Result<(u16, Key), Me
 impl Mark {
     /// Ends a transaction, with its change or without.
     fn end(&mut self, with_changes: bool)
-        ensures { self.new ≡ at_end with_changes self.old }
+        ensures { self.new ≡ mark_at_end with_changes self.old }
     {
         if with_changes {
             self.was = self.is;
@@ -95,7 +95,7 @@ impl Mark {
 
 /// Ends a transaction in the mark of an entry, if it has one.
 fn end_mark(entries: &mut BTreeMap<((u16, Key), u32), Mark>, entry: &Entry, with_changes: bool)
-    ensures { (q : EntryValue) → mark_at entries.new.entries q ≡ cond (is_entry entry.now q) (option_map (at_end with_changes) (mark_at entries.old.entries q)) (mark_at entries.old.entries q) }
+    ensures { (q : EntryValue) → mark_at entries.new.entries q ≡ cond (is_entry entry.now q) (option_map (mark_at_end with_changes) (mark_at entries.old.entries q)) (mark_at entries.old.entries q) }
 {
     if let Some(mark) = entries.get_mut(entry) {
         mark.end(with_changes);
@@ -104,7 +104,7 @@ fn end_mark(entries: &mut BTreeMap<((u16, Key), u32), Mark>, entry: &Entry, with
 
 /// Whether an entry has a mark of no row, once a transaction has ended there.
 fn is_void(entries: &BTreeMap<((u16, Key), u32), Mark>, entry: &Entry) -> bool
-    ensures { result ≡ is_gone (mark_at entries.now.entries entry.now) }
+    ensures { result ≡ is_no_entry (mark_at entries.now.entries entry.now) }
 {
     match entries.get(entry) {
         Some(mark) => !mark.was,
@@ -123,7 +123,7 @@ fn drop_mark(entries: &mut BTreeMap<((u16, Key), u32), Mark>, entry: &Entry)
 
 /// Ends a transaction at an entry.
 fn end_at(entries: &mut BTreeMap<((u16, Key), u32), Mark>, entry: &Entry, with_changes: bool)
-    ensures { (q : EntryValue) → mark_at entries.new.entries q ≡ cond (is_entry entry.now q) (ended with_changes (mark_at entries.old.entries q)) (mark_at entries.old.entries q) }
+    ensures { (q : EntryValue) → mark_at entries.new.entries q ≡ cond (is_entry entry.now q) (entry_ended with_changes (mark_at entries.old.entries q)) (mark_at entries.old.entries q) }
 {
     end_mark(entries, entry, with_changes);
     drop_mark(entries, entry);
@@ -131,7 +131,7 @@ fn end_at(entries: &mut BTreeMap<((u16, Key), u32), Mark>, entry: &Entry, with_c
 
 /// Ends a transaction at the entries that it touched, and takes no memory.
 fn end_all(entries: &mut BTreeMap<((u16, Key), u32), Mark>, touched: &[Entry], with_changes: bool)
-    ensures { (q : EntryValue) → mark_at entries.new.entries q ≡ cond (is_one_of touched.now q) (ended with_changes (mark_at entries.old.entries q)) (mark_at entries.old.entries q) }
+    ensures { (q : EntryValue) → mark_at entries.new.entries q ≡ cond (is_entry_among touched.now q) (entry_ended with_changes (mark_at entries.old.entries q)) (mark_at entries.old.entries q) }
 {
     for entry in touched {
         end_at(entries, entry, with_changes);
@@ -151,8 +151,8 @@ impl Index {
     /// Notes an entry as touched.
     fn touch(&mut self, alloc: Global, entry: &Entry) -> Result<(), Memory>
         ensures entries { self.new.entries ≡ self.old.entries }
-        ensures more { (q : EntryValue) → is_one_of self.old.touched.items q ≡ true → is_one_of self.new.touched.items q ≡ true }
-        ensures ok { OnOk result (is_one_of self.new.touched.items entry.now ≡ true) }
+        ensures more { (q : EntryValue) → is_entry_among self.old.touched.items q ≡ true → is_entry_among self.new.touched.items q ≡ true }
+        ensures ok { OnOk result (is_entry_among self.new.touched.items entry.now ≡ true) }
     {
         self.touched.push(copy_entry(alloc, entry)?)?;
         Ok(())
@@ -162,8 +162,8 @@ impl Index {
     pub fn make_room(&mut self, alloc: Global, entry: &Entry) -> Result<(), Memory>
         ensures now { (q : EntryValue) → now_in self.new.entries.entries q ≡ now_in self.old.entries.entries q }
         ensures then { (q : EntryValue) → then_in self.new.entries.entries q ≡ then_in self.old.entries.entries q }
-        ensures more { (q : EntryValue) → HasRoom self.old.touched.items self.old.entries.entries q → HasRoom self.new.touched.items self.new.entries.entries q }
-        ensures room { OnOk result (HasRoom self.new.touched.items self.new.entries.entries entry.now) }
+        ensures more { (q : EntryValue) → HasEntryRoom self.old.touched.items self.old.entries.entries q → HasEntryRoom self.new.touched.items self.new.entries.entries q }
+        ensures room { OnOk result (HasEntryRoom self.new.touched.items self.new.entries.entries entry.now) }
     {
         self.touch(alloc, entry)?;
         make_mark(alloc, &mut self.entries, entry)
@@ -171,10 +171,10 @@ impl Index {
 
     /// Marks an entry that has room as one of a row, or as none.
     pub fn mark(&mut self, entry: &Entry, is: bool)
-        requires { HasRoom self.old.touched.items self.old.entries.entries entry.now }
+        requires { HasEntryRoom self.old.touched.items self.old.entries.entries entry.now }
         ensures now { (q : EntryValue) → now_in self.new.entries.entries q ≡ cond (is_entry entry.now q) is (now_in self.old.entries.entries q) }
         ensures then { (q : EntryValue) → then_in self.new.entries.entries q ≡ then_in self.old.entries.entries q }
-        ensures room { (q : EntryValue) → HasRoom self.old.touched.items self.old.entries.entries q → HasRoom self.new.touched.items self.new.entries.entries q }
+        ensures room { (q : EntryValue) → HasEntryRoom self.old.touched.items self.old.entries.entries q → HasEntryRoom self.new.touched.items self.new.entries.entries q }
     {
         if let Some(mark) = self.entries.get_mut(entry) {
             mark.is = is;
@@ -185,8 +185,8 @@ impl Index {
     pub fn make_rooms(&mut self, alloc: Global, entries: &[Entry]) -> Result<(), Memory>
         ensures now { (q : EntryValue) → now_in self.new.entries.entries q ≡ now_in self.old.entries.entries q }
         ensures then { (q : EntryValue) → then_in self.new.entries.entries q ≡ then_in self.old.entries.entries q }
-        ensures more { (q : EntryValue) → HasRoom self.old.touched.items self.old.entries.entries q → HasRoom self.new.touched.items self.new.entries.entries q }
-        ensures room { OnOk result ((q : EntryValue) → is_one_of entries.now q ≡ true → HasRoom self.new.touched.items self.new.entries.entries q) }
+        ensures more { (q : EntryValue) → HasEntryRoom self.old.touched.items self.old.entries.entries q → HasEntryRoom self.new.touched.items self.new.entries.entries q }
+        ensures room { OnOk result ((q : EntryValue) → is_entry_among entries.now q ≡ true → HasEntryRoom self.new.touched.items self.new.entries.entries q) }
     {
         for entry in entries {
             self.make_room(alloc, entry)?;
@@ -196,10 +196,10 @@ impl Index {
 
     /// Marks entries that have room as those of a row, or of none.
     pub fn mark_all(&mut self, entries: &[Entry], is: bool)
-        requires { (q : EntryValue) → is_one_of entries.now q ≡ true → HasRoom self.old.touched.items self.old.entries.entries q }
-        ensures now { (q : EntryValue) → now_in self.new.entries.entries q ≡ cond (is_one_of entries.now q) is (now_in self.old.entries.entries q) }
+        requires { (q : EntryValue) → is_entry_among entries.now q ≡ true → HasEntryRoom self.old.touched.items self.old.entries.entries q }
+        ensures now { (q : EntryValue) → now_in self.new.entries.entries q ≡ cond (is_entry_among entries.now q) is (now_in self.old.entries.entries q) }
         ensures then { (q : EntryValue) → then_in self.new.entries.entries q ≡ then_in self.old.entries.entries q }
-        ensures room { (q : EntryValue) → HasRoom self.old.touched.items self.old.entries.entries q → HasRoom self.new.touched.items self.new.entries.entries q }
+        ensures room { (q : EntryValue) → HasEntryRoom self.old.touched.items self.old.entries.entries q → HasEntryRoom self.new.touched.items self.new.entries.entries q }
     {
         for entry in entries {
             self.mark(entry, is);

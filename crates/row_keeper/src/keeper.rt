@@ -2,7 +2,7 @@
 ghost use Rattle.row_keeper.specs.declared.keeper.KeeperEnd.TheVariants.{Memory as OutOfMemory, Failed as CallFailed};
 ghost use Rattle.std.specs.Prelude.{◌≡◌, ◌≢◌, ℕ, ◌≤◌, Bool, true, false, List, length, Option, Some, None, slice_get, IfNone, IfOk, IfSome, IsSome, IsSomeAnd, OnErr, OnOk};
 ghost use Rattle.std.specs.List.{All};
-ghost use Rattle.fx_base.specs.Silence.{Goes, IsLater, IsLost, Marks};
+ghost use Rattle.fx_base.specs.Silence.{MayFallSilent, IsLater, SilenceCause, Marks};
 ghost use Rattle.fx_base.specs.Telling.{Stays};
 ghost use Rattle.fx_core.specs.Lawful.{IsLawfulSchema};
 ghost use Rattle.fx_core.specs.declared.schema.Schema.{Schema as KeptSchema};
@@ -12,7 +12,7 @@ ghost use Rattle.row_queries.specs.RowTests.{HasNoFaults};
 ghost use Rattle.row_queries.specs.TableRows.{AreCellsOf, IsRowOf};
 ghost use Rattle.row_queries.specs.Visits.{VisitsAtLeast, VisitsTold};
 ghost use Rattle.row_keeper.specs.Causes.{HasCause, end_of};
-ghost use Rattle.row_keeper.specs.Changes.{Counts, Inserts, IsInserted, IsReplaced, Removes, Replaces, Scans, Shapes, TotalsUp};
+ghost use Rattle.row_keeper.specs.Changes.{CountsQuery, Inserts, IsInserted, IsReplaced, Removes, Replaces, Scans, Shapes, TotalsUp};
 ghost use Rattle.row_keeper.specs.Tables.{AreStatesOf, Tables, columns_at, rows_told, shapes_of};
 
 use crate::rows::Put;
@@ -102,9 +102,9 @@ pub trait Keeper {
     /// Attaches the store of a name. It comes first.
     fn attach(&mut self, name: &str) -> Result<(), KeeperEnd>
         requires idle { in_transaction self.old ≡ false }
-        ensures attached { OnOk result (Goes (IsLost (marks self.old) (marks self.new)) (λ _ n. n ≡ Some name.now) (attached self.old) (attached self.new)) }
+        ensures attached { OnOk result (MayFallSilent (SilenceCause (marks self.old) (marks self.new)) (λ _ n. n ≡ Some name.now) (attached self.old) (attached self.new)) }
         ensures promised { OnOk result (attaches self.old name.now self.new) }
-        ensures err { OnErr result (Goes (IsLost (marks self.old) (marks self.new)) Stays (told self.old) (told self.new) × Goes (IsLost (marks self.old) (marks self.new)) Stays (attached self.old) (attached self.new)) }
+        ensures err { OnErr result (MayFallSilent (SilenceCause (marks self.old) (marks self.new)) Stays (told self.old) (told self.new) × MayFallSilent (SilenceCause (marks self.old) (marks self.new)) Stays (attached self.old) (attached self.new)) }
         ensures shaped { OnErr result (shaped self.new ≡ shaped self.old) }
         ensures idle { in_transaction self.new ≡ false }
         ensures cause { HasCause (marks self.old) (marks self.new) result }
@@ -117,14 +117,14 @@ pub trait Keeper {
     fn shape(&mut self, schema: &Schema) -> Result<Option<Schema>, KeeperEnd>
         requires idle { in_transaction self.old ≡ false }
         requires lawful { IsLawfulSchema schema.now }
-        ensures tables { IfOk result (λ other. Goes (IsLost (marks self.old) (marks self.new)) (Shapes schema.now other) (told self.old) (told self.new)) }
+        ensures tables { IfOk result (λ other. MayFallSilent (SilenceCause (marks self.old) (marks self.new)) (Shapes schema.now other) (told self.old) (told self.new)) }
         ensures another { IfOk result (λ other. IfSome other (λ s. s ≢ schema.now)) }
         ensures sound { IfOk result (λ other. IfNone other (IfSome (told self.new) (λ t. AreStatesOf schema.now.tables t.states))) }
         ensures shaped { IfOk result (λ other. IfNone other (shaped self.new ≡ Some schema.now)) }
         ensures unshaped { IfOk result (λ other. IsSome other → shaped self.new ≡ shaped self.old) }
-        ensures err { OnErr result (Goes (IsLost (marks self.old) (marks self.new)) Stays (told self.old) (told self.new)) }
+        ensures err { OnErr result (MayFallSilent (SilenceCause (marks self.old) (marks self.new)) Stays (told self.old) (told self.new)) }
         ensures err_shaped { OnErr result (shaped self.new ≡ shaped self.old) }
-        ensures attached { Goes (IsLost (marks self.old) (marks self.new)) Stays (attached self.old) (attached self.new) }
+        ensures attached { MayFallSilent (SilenceCause (marks self.old) (marks self.new)) Stays (attached self.old) (attached self.new) }
         ensures idle { in_transaction self.new ≡ false }
         ensures cause { HasCause (marks self.old) (marks self.new) result }
         ensures visited { visited self.old ≤ visited self.new }
@@ -134,10 +134,10 @@ pub trait Keeper {
     /// Begins a transaction.
     fn begin(&mut self) -> Result<(), KeeperEnd>
         requires idle { in_transaction self.old ≡ false }
-        ensures tables { Goes (IsLost (marks self.old) (marks self.new)) Stays (told self.old) (told self.new) }
+        ensures tables { MayFallSilent (SilenceCause (marks self.old) (marks self.new)) Stays (told self.old) (told self.new) }
         ensures ok { OnOk result ((in_transaction self.new ≡ true) × (began self.new ≡ told self.new)) }
         ensures err { OnErr result (in_transaction self.new ≡ false) }
-        ensures attached { Goes (IsLost (marks self.old) (marks self.new)) Stays (attached self.old) (attached self.new) }
+        ensures attached { MayFallSilent (SilenceCause (marks self.old) (marks self.new)) Stays (attached self.old) (attached self.new) }
         ensures shaped { shaped self.new ≡ shaped self.old }
         ensures cause { HasCause (marks self.old) (marks self.new) result }
         ensures visited { visited self.old ≤ visited self.new }
@@ -148,11 +148,11 @@ pub trait Keeper {
     fn insert(&mut self, table: u16, cells: &Cells) -> Result<Put, KeeperEnd>
         requires begun { in_transaction self.old ≡ true }
         requires fit { IsSomeAnd (slice_get (shapes_of (shaped self.old)) table) (λ t. AreCellsOf t.columns cells.now) }
-        ensures put { IfOk result (λ put. Goes (IsLost (marks self.old) (marks self.new)) (Inserts (columns_at (shapes_of (shaped self.old)) table) table cells.now put) (told self.old) (told self.new)) }
+        ensures put { IfOk result (λ put. MayFallSilent (SilenceCause (marks self.old) (marks self.new)) (Inserts (columns_at (shapes_of (shaped self.old)) table) table cells.now put) (told self.old) (told self.new)) }
         ensures sound { IfOk result (λ put. IsInserted (columns_at (shapes_of (shaped self.old)) table) put) }
-        ensures err { OnErr result (Goes (IsLost (marks self.old) (marks self.new)) Stays (told self.old) (told self.new)) }
-        ensures began { Goes (IsLost (marks self.old) (marks self.new)) Stays (began self.old) (began self.new) }
-        ensures attached { Goes (IsLost (marks self.old) (marks self.new)) Stays (attached self.old) (attached self.new) }
+        ensures err { OnErr result (MayFallSilent (SilenceCause (marks self.old) (marks self.new)) Stays (told self.old) (told self.new)) }
+        ensures began { MayFallSilent (SilenceCause (marks self.old) (marks self.new)) Stays (began self.old) (began self.new) }
+        ensures attached { MayFallSilent (SilenceCause (marks self.old) (marks self.new)) Stays (attached self.old) (attached self.new) }
         ensures shaped { shaped self.new ≡ shaped self.old }
         ensures mode { in_transaction self.new ≡ in_transaction self.old }
         ensures cause { HasCause (marks self.old) (marks self.new) result }
@@ -164,11 +164,11 @@ pub trait Keeper {
     fn replace(&mut self, table: u16, id: u32, cells: &Cells) -> Result<Put, KeeperEnd>
         requires begun { in_transaction self.old ≡ true }
         requires fit { IsSomeAnd (slice_get (shapes_of (shaped self.old)) table) (λ t. AreCellsOf t.columns cells.now) }
-        ensures put { IfOk result (λ put. Goes (IsLost (marks self.old) (marks self.new)) (Replaces (columns_at (shapes_of (shaped self.old)) table) table id cells.now put) (told self.old) (told self.new)) }
+        ensures put { IfOk result (λ put. MayFallSilent (SilenceCause (marks self.old) (marks self.new)) (Replaces (columns_at (shapes_of (shaped self.old)) table) table id cells.now put) (told self.old) (told self.new)) }
         ensures sound { IfOk result (λ put. IsReplaced (columns_at (shapes_of (shaped self.old)) table) id put) }
-        ensures err { OnErr result (Goes (IsLost (marks self.old) (marks self.new)) Stays (told self.old) (told self.new)) }
-        ensures began { Goes (IsLost (marks self.old) (marks self.new)) Stays (began self.old) (began self.new) }
-        ensures attached { Goes (IsLost (marks self.old) (marks self.new)) Stays (attached self.old) (attached self.new) }
+        ensures err { OnErr result (MayFallSilent (SilenceCause (marks self.old) (marks self.new)) Stays (told self.old) (told self.new)) }
+        ensures began { MayFallSilent (SilenceCause (marks self.old) (marks self.new)) Stays (began self.old) (began self.new) }
+        ensures attached { MayFallSilent (SilenceCause (marks self.old) (marks self.new)) Stays (attached self.old) (attached self.new) }
         ensures shaped { shaped self.new ≡ shaped self.old }
         ensures mode { in_transaction self.new ≡ in_transaction self.old }
         ensures cause { HasCause (marks self.old) (marks self.new) result }
@@ -180,10 +180,10 @@ pub trait Keeper {
     fn remove(&mut self, table: u16, id: u32) -> Result<bool, KeeperEnd>
         requires begun { in_transaction self.old ≡ true }
         requires table { IsSome (slice_get (shapes_of (shaped self.old)) table) }
-        ensures was { IfOk result (λ was. Goes (IsLost (marks self.old) (marks self.new)) (Removes table id was) (told self.old) (told self.new)) }
-        ensures err { OnErr result (Goes (IsLost (marks self.old) (marks self.new)) Stays (told self.old) (told self.new)) }
-        ensures began { Goes (IsLost (marks self.old) (marks self.new)) Stays (began self.old) (began self.new) }
-        ensures attached { Goes (IsLost (marks self.old) (marks self.new)) Stays (attached self.old) (attached self.new) }
+        ensures was { IfOk result (λ was. MayFallSilent (SilenceCause (marks self.old) (marks self.new)) (Removes table id was) (told self.old) (told self.new)) }
+        ensures err { OnErr result (MayFallSilent (SilenceCause (marks self.old) (marks self.new)) Stays (told self.old) (told self.new)) }
+        ensures began { MayFallSilent (SilenceCause (marks self.old) (marks self.new)) Stays (began self.old) (began self.new) }
+        ensures attached { MayFallSilent (SilenceCause (marks self.old) (marks self.new)) Stays (attached self.old) (attached self.new) }
         ensures shaped { shaped self.new ≡ shaped self.old }
         ensures mode { in_transaction self.new ≡ in_transaction self.old }
         ensures cause { HasCause (marks self.old) (marks self.new) result }
@@ -195,9 +195,9 @@ pub trait Keeper {
     /// those as it began.
     fn commit(&mut self) -> Result<(), KeeperEnd>
         requires begun { in_transaction self.old ≡ true }
-        ensures ok { OnOk result (Goes (IsLost (marks self.old) (marks self.new)) Stays (told self.old) (told self.new)) }
-        ensures err { OnErr result (Goes (IsLost (marks self.old) (marks self.new)) Stays (began self.old) (told self.new)) }
-        ensures attached { Goes (IsLost (marks self.old) (marks self.new)) Stays (attached self.old) (attached self.new) }
+        ensures ok { OnOk result (MayFallSilent (SilenceCause (marks self.old) (marks self.new)) Stays (told self.old) (told self.new)) }
+        ensures err { OnErr result (MayFallSilent (SilenceCause (marks self.old) (marks self.new)) Stays (began self.old) (told self.new)) }
+        ensures attached { MayFallSilent (SilenceCause (marks self.old) (marks self.new)) Stays (attached self.old) (attached self.new) }
         ensures shaped { shaped self.new ≡ shaped self.old }
         ensures idle { in_transaction self.new ≡ false }
         ensures cause { HasCause (marks self.old) (marks self.new) result }
@@ -208,8 +208,8 @@ pub trait Keeper {
     /// Ends the transaction, and the tables are those as it began. Where it fails it counts a fault.
     fn back(&mut self)
         requires begun { in_transaction self.old ≡ true }
-        ensures tables { Goes (IsLost (marks self.old) (marks self.new)) Stays (began self.old) (told self.new) }
-        ensures attached { Goes (IsLost (marks self.old) (marks self.new)) Stays (attached self.old) (attached self.new) }
+        ensures tables { MayFallSilent (SilenceCause (marks self.old) (marks self.new)) Stays (began self.old) (told self.new) }
+        ensures attached { MayFallSilent (SilenceCause (marks self.old) (marks self.new)) Stays (attached self.old) (attached self.new) }
         ensures shaped { shaped self.new ≡ shaped self.old }
         ensures idle { in_transaction self.new ≡ false }
         ensures later { IsLater (marks self.old) (marks self.new) }
@@ -221,14 +221,14 @@ pub trait Keeper {
     /// hold, even where none are told.
     fn scan(&mut self, query: &Query) -> Result<RowList, KeeperEnd>
         requires query { IsQuery (shapes_of (shaped self.old)) query.now }
-        ensures rows { IfOk result (λ answer. Goes (IsLost (marks self.old) (marks self.new)) (Scans query.now answer) (told self.old) (told self.new)) }
+        ensures rows { IfOk result (λ answer. MayFallSilent (SilenceCause (marks self.old) (marks self.new)) (Scans query.now answer) (told self.old) (told self.new)) }
         ensures answer { IfOk result (λ answer. IsScanAnswer (shapes_of (shaped self.old)) (rows_told (told self.new)) query.now answer) }
         ensures fit { IfOk result (λ answer. IsSomeAnd (slice_get (shapes_of (shaped self.old)) query.now.table) (λ t. All (IsRowOf t) answer.rows)) }
         ensures least { IfOk result (λ answer. VisitsAtLeast (length answer.rows) (visited self.old) (visited self.new)) }
         ensures most { VisitsTold (rows_told (told self.old)) query.now (visited self.old) (visited self.new) }
-        ensures err { OnErr result (Goes (IsLost (marks self.old) (marks self.new)) Stays (told self.old) (told self.new)) }
-        ensures began { Goes (IsLost (marks self.old) (marks self.new)) Stays (began self.old) (began self.new) }
-        ensures attached { Goes (IsLost (marks self.old) (marks self.new)) Stays (attached self.old) (attached self.new) }
+        ensures err { OnErr result (MayFallSilent (SilenceCause (marks self.old) (marks self.new)) Stays (told self.old) (told self.new)) }
+        ensures began { MayFallSilent (SilenceCause (marks self.old) (marks self.new)) Stays (began self.old) (began self.new) }
+        ensures attached { MayFallSilent (SilenceCause (marks self.old) (marks self.new)) Stays (attached self.old) (attached self.new) }
         ensures shaped { shaped self.new ≡ shaped self.old }
         ensures mode { in_transaction self.new ≡ in_transaction self.old }
         ensures cause { HasCause (marks self.old) (marks self.new) result }
@@ -242,11 +242,11 @@ pub trait Keeper {
         requires query { IsQuery (shapes_of (shaped self.old)) query.now }
         requires sound { HasNoFaults query.now.test }
         ensures answer { IfOk result (λ n. IsCountAnswer (shapes_of (shaped self.old)) (rows_told (told self.new)) query.now n) }
-        ensures number { IfOk result (λ n. Goes (IsLost (marks self.old) (marks self.new)) (Counts query.now n) (told self.old) (told self.new)) }
+        ensures number { IfOk result (λ n. MayFallSilent (SilenceCause (marks self.old) (marks self.new)) (CountsQuery query.now n) (told self.old) (told self.new)) }
         ensures most { VisitsTold (rows_told (told self.old)) query.now (visited self.old) (visited self.new) }
-        ensures err { OnErr result (Goes (IsLost (marks self.old) (marks self.new)) Stays (told self.old) (told self.new)) }
-        ensures began { Goes (IsLost (marks self.old) (marks self.new)) Stays (began self.old) (began self.new) }
-        ensures attached { Goes (IsLost (marks self.old) (marks self.new)) Stays (attached self.old) (attached self.new) }
+        ensures err { OnErr result (MayFallSilent (SilenceCause (marks self.old) (marks self.new)) Stays (told self.old) (told self.new)) }
+        ensures began { MayFallSilent (SilenceCause (marks self.old) (marks self.new)) Stays (began self.old) (began self.new) }
+        ensures attached { MayFallSilent (SilenceCause (marks self.old) (marks self.new)) Stays (attached self.old) (attached self.new) }
         ensures shaped { shaped self.new ≡ shaped self.old }
         ensures mode { in_transaction self.new ≡ in_transaction self.old }
         ensures cause { HasCause (marks self.old) (marks self.new) result }
@@ -261,11 +261,11 @@ pub trait Keeper {
         requires sound { HasNoFaults query.now.test }
         requires column { CanTotal (shapes_of (shaped self.old)) query.now column }
         ensures answer { IfOk result (λ totals. IsTotalAnswer (shapes_of (shaped self.old)) (rows_told (told self.new)) query.now column totals) }
-        ensures totals { IfOk result (λ totals. Goes (IsLost (marks self.old) (marks self.new)) (TotalsUp query.now column totals) (told self.old) (told self.new)) }
+        ensures totals { IfOk result (λ totals. MayFallSilent (SilenceCause (marks self.old) (marks self.new)) (TotalsUp query.now column totals) (told self.old) (told self.new)) }
         ensures most { VisitsTold (rows_told (told self.old)) query.now (visited self.old) (visited self.new) }
-        ensures err { OnErr result (Goes (IsLost (marks self.old) (marks self.new)) Stays (told self.old) (told self.new)) }
-        ensures began { Goes (IsLost (marks self.old) (marks self.new)) Stays (began self.old) (began self.new) }
-        ensures attached { Goes (IsLost (marks self.old) (marks self.new)) Stays (attached self.old) (attached self.new) }
+        ensures err { OnErr result (MayFallSilent (SilenceCause (marks self.old) (marks self.new)) Stays (told self.old) (told self.new)) }
+        ensures began { MayFallSilent (SilenceCause (marks self.old) (marks self.new)) Stays (began self.old) (began self.new) }
+        ensures attached { MayFallSilent (SilenceCause (marks self.old) (marks self.new)) Stays (attached self.old) (attached self.new) }
         ensures shaped { shaped self.new ≡ shaped self.old }
         ensures mode { in_transaction self.new ≡ in_transaction self.old }
         ensures cause { HasCause (marks self.old) (marks self.new) result }

@@ -8,15 +8,15 @@ pub mod keeper;
 pub mod keys;
 pub mod memory;
 mod pages;
-mod picked;
+mod picked_rows;
 mod puts;
+mod row_slots;
 pub mod row_tables;
 pub mod rows;
 pub mod rules;
 pub mod scan_values;
 pub mod scans;
 pub mod schemas;
-mod slots;
 mod store;
 mod table;
 

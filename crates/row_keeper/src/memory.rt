@@ -6,8 +6,8 @@ ghost use Rattle.row_queries.specs.TableRows.{IsRowOf, rows_at};
 ghost use Rattle.row_queries.specs.Visits.{VisitsAtLeast, VisitsItsRanges};
 ghost use Rattle.row_keeper.specs.InMemory.{unused};
 ghost use Rattle.row_keeper.specs.Pages.{IsPage};
-ghost use Rattle.row_keeper.specs.Skips.{passed};
-ghost use Rattle.row_keeper.specs.Tables.{rows_of, shapes_of};
+ghost use Rattle.row_keeper.specs.Skips.{numbers_passed};
+ghost use Rattle.row_keeper.specs.Tables.{rows_of_tables, shapes_of};
 
 use crate::answers::{answer, give_rows, values_in};
 use crate::keeper::{Keeper, KeeperEnd};
@@ -80,7 +80,7 @@ impl MemoryKeeper {
     /// its changes. So the end of the numbers can be tried.
     pub fn skip_to(&mut self, number: u32)
         requires { self.old.store.is_begun ≡ true }
-        ensures { self.new ≡ record self.old { store = record self.old.store { now = map (passed number) self.old.store.now } } }
+        ensures { self.new ≡ record self.old { store = record self.old.store { now = map (numbers_passed number) self.old.store.now } } }
     {
         self.store.skip_to(number);
     }
@@ -99,10 +99,10 @@ impl MemoryKeeper {
     fn page(&mut self, query: &Query, most: u32) -> Result<RowList, Memory>
         requires query { IsQuery (shapes_of self.old.store.schema) query.now }
         requires page { IsPage query.now most }
-        ensures rows { IfOk result (λ a. IsScanned query.now (rows_at (rows_of self.old.store.now) query.now.table) a) }
+        ensures rows { IfOk result (λ a. IsScanned query.now (rows_at (rows_of_tables self.old.store.now) query.now.table) a) }
         ensures fit { IfOk result (λ a. IsSomeAnd (slice_get (shapes_of self.old.store.schema) query.now.table) (λ t. All (IsRowOf t) a.rows)) }
         ensures least { IfOk result (λ a. VisitsAtLeast (length a.rows) self.old.visited self.new.visited) }
-        ensures most { VisitsItsRanges query.now (rows_at (rows_of self.old.store.now) query.now.table) self.old.visited self.new.visited }
+        ensures most { VisitsItsRanges query.now (rows_at (rows_of_tables self.old.store.now) query.now.table) self.old.visited self.new.visited }
         ensures later { self.old.visited ≤ self.new.visited }
         ensures same { self.new ≡ record self.old { visited = self.new.visited } }
     {
@@ -117,10 +117,10 @@ impl MemoryKeeper {
     /// What a query answers, over all rows that it asks.
     fn answer_all(&mut self, query: &Query) -> Result<RowList, Memory>
         requires { IsQuery (shapes_of self.old.store.schema) query.now }
-        ensures rows { IfOk result (λ a. IsScanned query.now (rows_at (rows_of self.old.store.now) query.now.table) a) }
+        ensures rows { IfOk result (λ a. IsScanned query.now (rows_at (rows_of_tables self.old.store.now) query.now.table) a) }
         ensures fit { IfOk result (λ a. IsSomeAnd (slice_get (shapes_of self.old.store.schema) query.now.table) (λ t. All (IsRowOf t) a.rows)) }
         ensures least { IfOk result (λ a. VisitsAtLeast (length a.rows) self.old.visited self.new.visited) }
-        ensures most { VisitsItsRanges query.now (rows_at (rows_of self.old.store.now) query.now.table) self.old.visited self.new.visited }
+        ensures most { VisitsItsRanges query.now (rows_at (rows_of_tables self.old.store.now) query.now.table) self.old.visited self.new.visited }
         ensures later { self.old.visited ≤ self.new.visited }
         ensures same { self.new ≡ record self.old { visited = self.new.visited } }
     {
@@ -131,10 +131,10 @@ impl MemoryKeeper {
     /// What a query answers.
     fn answer(&mut self, query: &Query) -> Result<RowList, Memory>
         requires { IsQuery (shapes_of self.old.store.schema) query.now }
-        ensures rows { IfOk result (λ a. IsScanned query.now (rows_at (rows_of self.old.store.now) query.now.table) a) }
+        ensures rows { IfOk result (λ a. IsScanned query.now (rows_at (rows_of_tables self.old.store.now) query.now.table) a) }
         ensures fit { IfOk result (λ a. IsSomeAnd (slice_get (shapes_of self.old.store.schema) query.now.table) (λ t. All (IsRowOf t) a.rows)) }
         ensures least { IfOk result (λ a. VisitsAtLeast (length a.rows) self.old.visited self.new.visited) }
-        ensures most { VisitsItsRanges query.now (rows_at (rows_of self.old.store.now) query.now.table) self.old.visited self.new.visited }
+        ensures most { VisitsItsRanges query.now (rows_at (rows_of_tables self.old.store.now) query.now.table) self.old.visited self.new.visited }
         ensures later { self.old.visited ≤ self.new.visited }
         ensures same { self.new ≡ record self.old { visited = self.new.visited } }
     {
@@ -147,11 +147,11 @@ impl MemoryKeeper {
     /// The rows that a query asks, in its order. They are counted as visited.
     fn ask(&mut self, query: &Query) -> Result<Vec<Row>, Memory>
         requires { IsQuery (shapes_of self.old.store.schema) query.now }
-        ensures asked { IfOk result (λ rows. AreAsked query.now (rows_at (rows_of self.old.store.now) query.now.table) rows.items) }
+        ensures asked { IfOk result (λ rows. AreAsked query.now (rows_at (rows_of_tables self.old.store.now) query.now.table) rows.items) }
         ensures fit { IfOk result (λ rows. IsSomeAnd (slice_get (shapes_of self.old.store.schema) query.now.table) (λ t. AllByRecursion (IsRowOf t) rows.items)) }
         ensures few { IfOk result (λ rows. length rows.items ≤ 200000) }
         ensures least { IfOk result (λ rows. VisitsAtLeast (length rows.items) self.old.visited self.new.visited) }
-        ensures most { VisitsItsRanges query.now (rows_at (rows_of self.old.store.now) query.now.table) self.old.visited self.new.visited }
+        ensures most { VisitsItsRanges query.now (rows_at (rows_of_tables self.old.store.now) query.now.table) self.old.visited self.new.visited }
         ensures later { self.old.visited ≤ self.new.visited }
         ensures same { self.new ≡ record self.old { visited = self.new.visited } }
     {
@@ -165,7 +165,7 @@ impl Keeper for MemoryKeeper {
     ghost use Rattle.std.specs.Prelude.{None, Some};
     ghost use Rattle.std.proofs.Common.{sym};
     ghost use Rattle.std.proofs.lemmas.Option.{none-some};
-    ghost use Rattle.row_keeper.specs.InMemory.{EndsAsPlanned, EndsWithoutMemory, IsPlanned, marks_of};
+    ghost use Rattle.row_keeper.specs.InMemory.{EndsAsPlanned, EndsWithoutMemory, EndsByPlan, memory_marks};
     ghost use Rattle.row_keeper.specs.StoreView.{tables_now, tables_then};
 
     ghost told = { λ k. Some (tables_now k.store) };
@@ -178,7 +178,7 @@ impl Keeper for MemoryKeeper {
 
     ghost in_transaction = { λ k. k.store.is_begun };
 
-    ghost marks = { marks_of };
+    ghost marks = { memory_marks };
 
     ghost visited = { λ k. k.visited };
 
@@ -186,9 +186,9 @@ impl Keeper for MemoryKeeper {
 
     ghost attaches = { λ k name l. l.store ≡ k.store };
 
-    ghost ends = { λ k l end. IsPlanned EndsAsPlanned k.plan l.plan end };
+    ghost ends = { λ k l end. EndsByPlan EndsAsPlanned k.plan l.plan end };
 
-    ghost commits = { λ k l end. IsPlanned EndsWithoutMemory k.plan l.plan end };
+    ghost commits = { λ k l end. EndsByPlan EndsWithoutMemory k.plan l.plan end };
 
     ghost backs = { λ k l. l.plan ≡ k.plan };
 

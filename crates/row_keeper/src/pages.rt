@@ -3,8 +3,8 @@ ghost use Rattle.std.specs.Prelude.{◌≡◌, ◌≤◌, ◌<◌, ◌⊎◌, tr
 ghost use Rattle.std.specs.List.{All};
 ghost use Rattle.row_queries.specs.Queries.{IsQuery};
 ghost use Rattle.row_queries.specs.TableRows.{IsRowOf, rows_at};
-ghost use Rattle.row_keeper.specs.Pages.{IsGiven, IsPage};
-ghost use Rattle.row_keeper.specs.Tables.{rows_of, shapes_of};
+ghost use Rattle.row_keeper.specs.Pages.{QueryGives, IsPage};
+ghost use Rattle.row_keeper.specs.Tables.{rows_of_tables, shapes_of};
 
 use crate::answers::give_rows;
 use crate::constants::is_sound;
@@ -51,7 +51,7 @@ fn give_first(
 ) -> Result<Option<Page>, Memory>
     requires query { IsQuery (shapes_of store.now.schema) query.now }
     requires page { IsPage query.now most }
-    ensures given { IfOk result (λ o. IfSome o (λ p. IsGiven query.now (rows_at (rows_of store.now.now) query.now.table) p.rows.items p.asked)) }
+    ensures given { IfOk result (λ o. IfSome o (λ p. QueryGives query.now (rows_at (rows_of_tables store.now.now) query.now.table) p.rows.items p.asked)) }
     ensures fit { IfOk result (λ o. IfSome o (λ p. IsSomeAnd (slice_get (shapes_of store.now.schema) query.now.table) (λ t. All (IsRowOf t) p.rows.items))) }
 {
     let first = store.first(query, size)?;
@@ -71,7 +71,7 @@ fn give_first(
 fn give_all(alloc: Global, store: &Store, query: &Query, most: u32) -> Result<Page, Memory>
     requires query { IsQuery (shapes_of store.now.schema) query.now }
     requires page { IsPage query.now most }
-    ensures given { IfOk result (λ p. IsGiven query.now (rows_at (rows_of store.now.now) query.now.table) p.rows.items p.asked) }
+    ensures given { IfOk result (λ p. QueryGives query.now (rows_at (rows_of_tables store.now.now) query.now.table) p.rows.items p.asked) }
     ensures fit { IfOk result (λ p. IsSomeAnd (slice_get (shapes_of store.now.schema) query.now.table) (λ t. All (IsRowOf t) p.rows.items)) }
 {
     let all = store.ask(query)?;
@@ -85,7 +85,7 @@ fn give_all(alloc: Global, store: &Store, query: &Query, most: u32) -> Result<Pa
 pub fn give_page(alloc: Global, store: &Store, query: &Query, most: u32) -> Result<Page, Memory>
     requires query { IsQuery (shapes_of store.now.schema) query.now }
     requires page { IsPage query.now most }
-    ensures given { IfOk result (λ p. IsGiven query.now (rows_at (rows_of store.now.now) query.now.table) p.rows.items p.asked) }
+    ensures given { IfOk result (λ p. QueryGives query.now (rows_at (rows_of_tables store.now.now) query.now.table) p.rows.items p.asked) }
     ensures fit { IfOk result (λ p. IsSomeAnd (slice_get (shapes_of store.now.schema) query.now.table) (λ t. All (IsRowOf t) p.rows.items)) }
 {
     // At first as many as are wanted, and then eight times as many each time: a test that few rows meet costs hardly

@@ -2,9 +2,9 @@
 ghost use Rattle.std.specs.Prelude.{◌≡◌, map, slice_get, IfOk, IsSome, IsSomeAnd, OnErr};
 ghost use Rattle.std.specs.List.{AllByRecursion};
 ghost use Rattle.row_queries.specs.TableRows.{AreCellsOf};
-ghost use Rattle.row_keeper.specs.OneTable.{ChangesAt, PutsNew, PutsOver, TakesOut, restored, settled};
+ghost use Rattle.row_keeper.specs.OneTable.{ChangesAt, PutsNew, PutsOver, TakesOut, view_restored, view_settled};
 ghost use Rattle.row_keeper.specs.Skips.{passed_now};
-ghost use Rattle.row_keeper.specs.Sound.{IsSound};
+ghost use Rattle.row_keeper.specs.Sound.{IsSoundTable};
 ghost use Rattle.row_keeper.specs.TableView.{states_now};
 ghost use Rattle.row_keeper.specs.Tables.{all_rows as all_rows_of};
 
@@ -114,7 +114,7 @@ pub fn skip_all(tables: &mut [Table], number: u32)
 
 /// Ends a transaction of all tables with its changes, and takes no memory.
 pub fn settle_all(tables: &mut [Table])
-    ensures { tables.new ≡ map settled tables.old }
+    ensures { tables.new ≡ map view_settled tables.old }
 {
     for table in tables.iter_mut() {
         table.settle();
@@ -123,7 +123,7 @@ pub fn settle_all(tables: &mut [Table])
 
 /// Ends a transaction of all tables without its changes, and takes no memory.
 pub fn restore_all(tables: &mut [Table])
-    ensures { tables.new ≡ map restored tables.old }
+    ensures { tables.new ≡ map view_restored tables.old }
 {
     for table in tables.iter_mut() {
         table.restore();
@@ -132,7 +132,7 @@ pub fn restore_all(tables: &mut [Table])
 
 /// A fact about the rows of all tables, and no work.
 pub fn are_sound(tables: &[Table])
-    ensures { AllByRecursion IsSound tables.now }
+    ensures { AllByRecursion IsSoundTable tables.now }
 {
     for table in tables {
         table.is_sound();

@@ -4,7 +4,7 @@ ghost use Rattle.std.specs.List.{AllByRecursion};
 ghost use Rattle.fx_types.specs.ValueView.{view};
 ghost use Rattle.fx_types.specs.Values.{blank};
 ghost use Rattle.fx_core.specs.Lawful.{IsLawfulTable, id_name};
-ghost use Rattle.row_queries.specs.TableRows.{IsRowOf, id_value, table_of};
+ghost use Rattle.row_queries.specs.TableRows.{IsRowOf, id_value, rows_table};
 
 use crate::scans::number_of;
 use fx_base::Memory;
@@ -18,7 +18,7 @@ use std::alloc::Global;
 pub fn table(alloc: Global, shape: &TableShape, rows: &[Row]) -> Result<Value, Memory>
     requires lawful { IsLawfulTable shape.now }
     requires fit { AllByRecursion (IsRowOf shape.now) rows.now }
-    ensures { IfOk result (λ v. view v ≡ table_of shape.now rows.now) }
+    ensures { IfOk result (λ v. view v ≡ rows_table shape.now rows.now) }
 {
     let columns = shape.columns.as_slice();
     let mut records = number_rows(alloc, rows)?;

@@ -5,14 +5,14 @@ ghost use Rattle.fx_types.specs.ValueView.{view};
 ghost use Rattle.fx_types.specs.Values.{text as text_data};
 ghost use Rattle.fx_value.specs.Keys.{key_bytes};
 ghost use Rattle.fx_value.specs.Order.{IsScalar};
-ghost use Rattle.row_queries.specs.RowTests.{is_empty as is_empty_data};
+ghost use Rattle.row_queries.specs.RowTests.{is_empty_value as is_empty_data};
 ghost use Rattle.row_queries.specs.TableRows.{AreCellsOf};
 ghost use Rattle.row_keeper.specs.Covered.{covered_of, covers};
-ghost use Rattle.row_keeper.specs.RowRules.{cells_weight, first_broken as first_broken_of, first_of_two, has_value, in_column, is_blank as is_blank_data, is_full as is_full_state, others, rule_in, where_broken};
+ghost use Rattle.row_keeper.specs.RowRules.{cells_weight, first_broken as first_broken_of, first_of_two, has_value, in_column, is_blank as is_blank_data, is_table_full as is_full_state, others, rule_in, where_broken};
 ghost use Rattle.row_keeper.specs.TableView.{states_now};
 ghost use Rattle.row_keeper.specs.Tables.{all_rows as all_rows_of};
 ghost use Rattle.row_keeper.specs.declared.rows.RowRule.TheVariants.{Full, Size};
-ghost use Rattle.row_keeper.specs.Rules.{FitsColumn, breaks_by, is_other as is_other_row, only_key};
+ghost use Rattle.row_keeper.specs.Rules.{FitsColumn, breaks_by, is_other_row, only_key};
 
 use crate::rows::{RowRefusal, RowRule};
 use crate::table::Table;

@@ -6,7 +6,7 @@ ghost use Rattle.fx_types.specs.ValueView.{view};
 ghost use Rattle.fx_core.specs.Lawful.{IsLawfulSchema, IsLawfulTable};
 ghost use Rattle.row_keeper.specs.Over.{AttachedStays, Becomes, BeganStays, HasCause};
 ghost use Rattle.row_keeper.specs.Tables.{rows_told};
-ghost use Rattle.row_queries.specs.Answers.{IsScanValue, rows_in, table_or_fault};
+ghost use Rattle.row_queries.specs.Answers.{IsScanValue, rows_counted, table_or_fault};
 ghost use Rattle.row_queries.specs.Queries.{IsQuery};
 ghost use Rattle.row_queries.specs.TableRows.{IsRowOf};
 ghost use Rattle.row_queries.specs.Visits.{VisitsAtLeast, VisitsTold};
@@ -38,7 +38,7 @@ pub fn scan<K: Keeper>(
     ensures mode { K.in_transaction keeper.new ≡ K.in_transaction keeper.old }
     ensures cause { HasCause K.Keeper keeper.old keeper.new result }
     ensures visited { K.visited keeper.old ≤ K.visited keeper.new }
-    ensures least { IfOk result (λ v. VisitsAtLeast (rows_in (view v)) (K.visited keeper.old) (K.visited keeper.new)) }
+    ensures least { IfOk result (λ v. VisitsAtLeast (rows_counted (view v)) (K.visited keeper.old) (K.visited keeper.new)) }
     ensures most { VisitsTold (rows_told (K.told keeper.old)) query.now (K.visited keeper.old) (K.visited keeper.new) }
     ensures loan { K.loan keeper.new ≡ K.loan keeper.old }
 {

@@ -5,7 +5,7 @@ ghost use Rattle.std.specs.List.Sorted.{IsPermutation, IsSorted};
 ghost use Rattle.fx_types.specs.ValueView.{view};
 ghost use Rattle.fx_types.specs.Values.{blank as blank_data};
 ghost use Rattle.fx_value.specs.Order.{order};
-ghost use Rattle.row_queries.specs.Queries.{first_fault, first_of, lies, outcome_on, row_order};
+ghost use Rattle.row_queries.specs.Queries.{first_outcome_fault, first_of, lies, outcome_on, row_order};
 ghost use Rattle.row_queries.specs.RowTests.{CanAsk, held_of, is_met};
 ghost use Rattle.row_queries.specs.TableRows.{id_value, value_at, values_of};
 
@@ -102,8 +102,8 @@ fn test_row(alloc: Global, query: &Query, row: &Row) -> Result<Held, Memory>
 pub fn judge(alloc: Global, asked: Vec<Row>, query: &Query) -> Result<Judged, Memory>
     requires { AllByRecursion (λ (r : Row). CanAsk (values_of r) query.now.test) asked.items }
     ensures { IfOk result (λ j. MatchOption j.fault
-        ((first_fault (map (outcome_on query.now) asked.items) ≡ None) × (j.rows.items ≡ filter (λ r. is_met (outcome_on query.now r)) asked.items))
-        (λ f. first_fault (map (outcome_on query.now) asked.items) ≡ Some f)) }
+        ((first_outcome_fault (map (outcome_on query.now) asked.items) ≡ None) × (j.rows.items ≡ filter (λ r. is_met (outcome_on query.now r)) asked.items))
+        (λ f. first_outcome_fault (map (outcome_on query.now) asked.items) ≡ Some f)) }
 {
     let mut rows = Vec::new(alloc);
     for row in asked {

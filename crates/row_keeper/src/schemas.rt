@@ -3,7 +3,7 @@ ghost use Rattle.std.specs.Prelude.{◌≡◌, IfOk};
 ghost use Rattle.fx_core.specs.Lawful.{IsColumnType};
 ghost use Rattle.std.specs.List.{AllByRecursion};
 ghost use Rattle.fx_core.specs.declared.schema.Column.{Column as ColumnValue};
-ghost use Rattle.row_keeper.specs.Sameness.{HasColumnTypes, Tells};
+ghost use Rattle.row_keeper.specs.Sameness.{HasColumnTypes, IsSameAnswer};
 
 use fx_base::{InOrder, Memory};
 use fx_core::{Column, ColumnList, Schema, TableList, TableShape};
@@ -67,7 +67,7 @@ pub fn copy_schema(alloc: Global, schema: &Schema) -> Result<Schema, Memory>
 fn is_same_type(a: &Ty, b: &Ty) -> bool
     requires a { IsColumnType a.now }
     requires b { IsColumnType b.now }
-    ensures { Tells result a.now b.now }
+    ensures { IsSameAnswer result a.now b.now }
 {
     match a {
         Ty::Number => matches!(b, Ty::Number),
@@ -81,7 +81,7 @@ fn is_same_type(a: &Ty, b: &Ty) -> bool
 fn is_same_column(a: &Column, b: &Column) -> bool
     requires a { IsColumnType a.now.ty }
     requires b { IsColumnType b.now.ty }
-    ensures { Tells result a.now b.now }
+    ensures { IsSameAnswer result a.now b.now }
 {
     if !a.name.is(&b.name) {
         return false;
@@ -102,7 +102,7 @@ fn is_same_column(a: &Column, b: &Column) -> bool
 fn are_same_columns(a: &[Column], b: &[Column]) -> bool
     requires a { AllByRecursion (λ (c : ColumnValue). IsColumnType c.ty) a.now }
     requires b { AllByRecursion (λ (c : ColumnValue). IsColumnType c.ty) b.now }
-    ensures { Tells result a.now b.now }
+    ensures { IsSameAnswer result a.now b.now }
 {
     if a.len() != b.len() {
         return false;
@@ -119,7 +119,7 @@ fn are_same_columns(a: &[Column], b: &[Column]) -> bool
 fn is_same_table(a: &TableShape, b: &TableShape) -> bool
     requires a { AllByRecursion (λ (c : ColumnValue). IsColumnType c.ty) a.now.columns }
     requires b { AllByRecursion (λ (c : ColumnValue). IsColumnType c.ty) b.now.columns }
-    ensures { Tells result a.now b.now }
+    ensures { IsSameAnswer result a.now b.now }
 {
     if !a.name.is(&b.name) {
         return false;
@@ -131,7 +131,7 @@ fn is_same_table(a: &TableShape, b: &TableShape) -> bool
 fn are_same_tables(a: &[TableShape], b: &[TableShape]) -> bool
     requires a { AllByRecursion HasColumnTypes a.now }
     requires b { AllByRecursion HasColumnTypes b.now }
-    ensures { Tells result a.now b.now }
+    ensures { IsSameAnswer result a.now b.now }
 {
     if a.len() != b.len() {
         return false;
@@ -148,7 +148,7 @@ fn are_same_tables(a: &[TableShape], b: &[TableShape]) -> bool
 pub fn is_same_schema(a: &Schema, b: &Schema) -> bool
     requires a { AllByRecursion HasColumnTypes a.now.tables }
     requires b { AllByRecursion HasColumnTypes b.now.tables }
-    ensures { Tells result a.now b.now }
+    ensures { IsSameAnswer result a.now b.now }
 {
     are_same_tables(a.tables.as_slice(), b.tables.as_slice())
 }

@@ -9,10 +9,10 @@ ghost use Rattle.row_queries.specs.TableRows.{AreCellsOf, AreHeldRows, IsRowOf, 
 ghost use Rattle.row_queries.specs.declared.rows.Row.{Row as RowValue};
 ghost use Rattle.row_keeper.specs.Changes.{Inserts, IsInserted, IsReplaced, Removes, Replaces, Shapes};
 ghost use Rattle.row_keeper.specs.Kept.{empty_table};
-ghost use Rattle.row_keeper.specs.Pages.{AreFirst};
-ghost use Rattle.row_keeper.specs.Skips.{passed};
+ghost use Rattle.row_keeper.specs.Pages.{AreFirstRows};
+ghost use Rattle.row_keeper.specs.Skips.{numbers_passed};
 ghost use Rattle.row_keeper.specs.StoreView.{no_store, tables_now, tables_then};
-ghost use Rattle.row_keeper.specs.Tables.{AreStatesOf, columns_at, rows_of, shapes_of};
+ghost use Rattle.row_keeper.specs.Tables.{AreStatesOf, columns_at, rows_of_tables, shapes_of};
 
 use crate::puts::{are_sound, insert_at, remove_at, replace_at, restore_all, settle_all, skip_all};
 use crate::rows::Put;
@@ -158,7 +158,7 @@ impl Store {
     /// Passes over the numbers up to this one in all tables.
     pub fn skip_to(&mut self, number: u32)
         requires { self.old.is_begun ≡ true }
-        ensures { self.new ≡ record self.old { now = map (passed number) self.old.now } }
+        ensures { self.new ≡ record self.old { now = map (numbers_passed number) self.old.now } }
     {
         skip_all(&mut self.tables, number);
     }
@@ -184,9 +184,9 @@ impl Store {
         requires query { IsQuery (shapes_of self.now.schema) query.now }
         requires column { query.now.column ≡ 0 }
         requires order { query.now.order ≡ None }
-        ensures first { IfOk result (λ rows. AreFirst query.now (rows_at (rows_of self.now.now) query.now.table) most rows.items) }
+        ensures first { IfOk result (λ rows. AreFirstRows query.now (rows_at (rows_of_tables self.now.now) query.now.table) most rows.items) }
         ensures fit { IfOk result (λ rows. IsSomeAnd (slice_get (shapes_of self.now.schema) query.now.table) (λ t. AllByRecursion (IsRowOf t) rows.items)) }
-        ensures able { OnOk result ((asked : List RowValue) → AreAsked query.now (rows_at (rows_of self.now.now) query.now.table) asked → AllByRecursion (λ (r : RowValue). CanAsk (values_of r) query.now.test) asked) }
+        ensures able { OnOk result ((asked : List RowValue) → AreAsked query.now (rows_at (rows_of_tables self.now.now) query.now.table) asked → AllByRecursion (λ (r : RowValue). CanAsk (values_of r) query.now.test) asked) }
     {
         let table = &self.tables[query.table as usize];
         table.is_sound();
@@ -196,7 +196,7 @@ impl Store {
     /// A fact about the rows of a query's table, and no work.
     pub fn are_held(&self, query: &Query)
         requires { IsQuery (shapes_of self.now.schema) query.now }
-        ensures { IsSomeAnd (slice_get (shapes_of self.now.schema) query.now.table) (λ t. AreHeldRows t (rows_at (rows_of self.now.now) query.now.table)) }
+        ensures { IsSomeAnd (slice_get (shapes_of self.now.schema) query.now.table) (λ t. AreHeldRows t (rows_at (rows_of_tables self.now.now) query.now.table)) }
     {
         let table = &self.tables[query.table as usize];
         table.is_sound();
@@ -205,7 +205,7 @@ impl Store {
     /// The rows that a query asks, in its order.
     pub fn ask(&self, query: &Query) -> Result<Vec<Row>, Memory>
         requires { IsQuery (shapes_of self.now.schema) query.now }
-        ensures asked { IfOk result (λ rows. AreAsked query.now (rows_at (rows_of self.now.now) query.now.table) rows.items) }
+        ensures asked { IfOk result (λ rows. AreAsked query.now (rows_at (rows_of_tables self.now.now) query.now.table) rows.items) }
         ensures fit { IfOk result (λ rows. IsSomeAnd (slice_get (shapes_of self.now.schema) query.now.table) (λ t. AllByRecursion (IsRowOf t) rows.items)) }
         ensures few { IfOk result (λ rows. length rows.items ≤ 200000) }
     {

@@ -7,15 +7,15 @@ ghost use Rattle.fx_value.specs.Order.{IsScalar};
 ghost use Rattle.row_queries.specs.TableRows.{AreCellsOf, value_at};
 ghost use Rattle.row_keeper.specs.Covered.{covered_of, covers, entries_of};
 ghost use Rattle.row_keeper.specs.Slots.{now_at, rows_now, rows_then};
-ghost use Rattle.row_queries.specs.Ranges.{AreRising, HoldEveryKey};
+ghost use Rattle.row_queries.specs.Ranges.{AreRangesRising, HoldEveryKey};
 ghost use Rattle.row_keeper.specs.Skips.{passed_now};
-ghost use Rattle.row_keeper.specs.Sound.{IsSound, lies_among};
+ghost use Rattle.row_keeper.specs.Sound.{IsSoundTable, lies_among};
 ghost use Rattle.row_keeper.specs.Tables.{has_id, no_rows, with_cells, with_row, without_row};
 
 use crate::index::{Entry, Index};
 use crate::keys::{cells_are_proper, key_in};
-use crate::picked::{all_rows, rows_at, rows_of};
-use crate::slots::{Made, Slots};
+use crate::picked_rows::{all_rows, rows_at, rows_of};
+use crate::row_slots::{Made, Slots};
 use fx_base::Memory;
 use fx_core::ColumnList;
 use fx_value::keys_order;
@@ -43,7 +43,7 @@ pub struct Table {
 impl Model for Table {
     ghost use Rattle.row_keeper.specs.Slots.{rows_now, rows_then};
     ghost use Rattle.row_keeper.specs.TableView.{TableView};
-    ghost use Rattle.row_keeper.specs.Whole.{IsWhole};
+    ghost use Rattle.row_keeper.specs.Whole.{IsWholeIndex};
     ghost use Rattle.std.specs.Coded.{codes};
     ghost use Rattle.fx_core.specs.contracts.schema.Column.{the_row as column_row};
     ghost use Rattle.row_queries.specs.contracts.rows.Row.{the_row as row_row};
@@ -58,7 +58,7 @@ impl Model for Table {
       then = record { rows = rows_then t.slots.by_id.entries; last = t.first };
     } };
 
-    ghost invariant = { λ t. IsWhole t.columns t.covered.items t.slots.by_id.entries t.index.entries.entries t.last t.count t.first t.first_count };
+    ghost invariant = { λ t. IsWholeIndex t.columns t.covered.items t.slots.by_id.entries t.index.entries.entries t.last t.count t.first t.first_count };
 }
 
 /// The columns that are indexed: `ID`, and each that is indexed or unique.
@@ -209,7 +209,7 @@ impl Table {
 
     /// A fact about its rows, and no work.
     pub fn is_sound(&self)
-        ensures { IsSound self.now }
+        ensures { IsSoundTable self.now }
     {
         let _len = self.slots.by_id.len();
         let (_last, _first) = (self.last, self.first);
@@ -231,7 +231,7 @@ impl Table {
 
     /// The first rows, at most so many, by rising numbers, of those whose numbers have keys in ranges.
     pub fn first(&self, ranges: &[KeyRange], most: usize) -> Result<Vec<Row>, Memory>
-        requires { AreRising ranges.now }
+        requires { AreRangesRising ranges.now }
         ensures { IfOk result (λ rows. rows.items ≡ take most (filter (lies_among 0 ranges.now) self.now.now.rows)) }
     {
         // It is called for what it says: keys of numbers go as the numbers do, which the last of them bounds.

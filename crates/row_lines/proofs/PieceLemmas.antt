@@ -3,18 +3,18 @@ use Rattle.std.proofs.Common.{◌≡◌, ◌∙◌, ◌+◌, ◌<◌, ◌≤◌,
 use Rattle.std.proofs.lemmas.List.{drop_at, length-append, take_at}
 use Rattle.std.proofs.lemmas.Nat.{from_be_bytes-to_be_bytes_4}
 use Rattle.std.specs.List.{AllByRecursion}
-use Rattle.row_lines.specs.Bodies.{piece}
+use Rattle.row_lines.specs.Bodies.{length_prefixed}
 use Rattle.row_lines.specs.FromBytes.{behind_piece, first_length, first_piece, items_in}
 use Rattle.row_lines.specs.Laws.{IsShort}
 
-pub first_length-piece : (bytes rest : List ℕ) → IsShort bytes → first_length (piece bytes ++ rest) ≡ length bytes
+pub first_length-piece : (bytes rest : List ℕ) → IsShort bytes → first_length (length_prefixed bytes ++ rest) ≡ length bytes
 first_length-piece bytes rest h = from_be_bytes-to_be_bytes_4 (length bytes) h
 
-pub first_piece-piece : (bytes rest : List ℕ) → IsShort bytes → first_piece (piece bytes ++ rest) ≡ bytes
-first_piece-piece bytes rest h = take_at bytes rest (first_length (piece bytes ++ rest)) (sym (first_length-piece bytes rest h))
+pub first_piece-piece : (bytes rest : List ℕ) → IsShort bytes → first_piece (length_prefixed bytes ++ rest) ≡ bytes
+first_piece-piece bytes rest h = take_at bytes rest (first_length (length_prefixed bytes ++ rest)) (sym (first_length-piece bytes rest h))
 
-pub behind_piece-piece : (bytes rest : List ℕ) → IsShort bytes → behind_piece (piece bytes ++ rest) ≡ rest
-behind_piece-piece bytes rest h = drop_at bytes rest (first_length (piece bytes ++ rest)) (sym (first_length-piece bytes rest h))
+pub behind_piece-piece : (bytes rest : List ℕ) → IsShort bytes → behind_piece (length_prefixed bytes ++ rest) ≡ rest
+behind_piece-piece bytes rest h = drop_at bytes rest (first_length (length_prefixed bytes ++ rest)) (sym (first_length-piece bytes rest h))
 
 -- a list of things each of which can be read where it comes first can be read as a whole
 module _ {A : Type 0} (first : List ℕ → A) (behind : List ℕ → List ℕ) where

@@ -10,7 +10,7 @@ use Rattle.fx_core.specs.Lawful.{IsColumnType, IsLawfulSchema, IsLawfulTable}
 use Rattle.fx_core.specs.declared.schema.Column.{Column}
 use Rattle.fx_core.specs.declared.schema.Schema.{Schema}
 use Rattle.fx_core.specs.declared.schema.TableShape.{TableShape}
-use Rattle.row_lines.specs.Bodies.{column_bytes, piece, schema_bytes, table_bytes, truth_byte, type_byte}
+use Rattle.row_lines.specs.Bodies.{column_bytes, length_prefixed, schema_bytes, table_bytes, truth_byte, type_byte}
 use Rattle.row_lines.specs.FromBytes.{behind_column, behind_piece, first_column, first_piece, items_in, schema_in, table_in, truth_in, type_in}
 use Rattle.row_lines.specs.Laws.{HasShortName, HasTypeByte, HasTypeBytes, HaveTypeBytes, IsShortName, IsShortTable}
 use Rattle.row_lines.proofs.PieceLemmas.{behind_piece-piece, first_piece-piece, items_tell}
@@ -23,7 +23,7 @@ both : {A : Type 0} (P Q : A → Type 0) (xs : List A) → AllByRecursion P xs �
 both P Q [] p q = tt
 both P Q (x ∷ xs) p q = ((p.0, q.0), both P Q xs p.1 q.1)
 
-name_tells : (name rest : List ℕ) → IsShortName name → chars (first_piece (piece (encode_utf8_all name) ++ rest)) ≡ name
+name_tells : (name rest : List ℕ) → IsShortName name → chars (first_piece (length_prefixed (encode_utf8_all name) ++ rest)) ≡ name
 name_tells name rest h = ap chars (first_piece-piece (encode_utf8_all name) rest h.1) ∙ chars-encodes name h.0
 
 -- ---- columns
@@ -43,13 +43,13 @@ column_with name marks = record {
 abbrev IsToldColumn : Column → Type 0
 IsToldColumn c = HasTypeByte c × HasShortName c
 
-name_then : (c : Column) (rest : List ℕ) → column_bytes c ++ rest ≡ piece (encode_utf8_all c.name) ++ (marks_of c ++ rest)
-name_then c rest = append_assoc (piece (encode_utf8_all c.name)) (marks_of c) rest
+name_then : (c : Column) (rest : List ℕ) → column_bytes c ++ rest ≡ length_prefixed (encode_utf8_all c.name) ++ (marks_of c ++ rest)
+name_then c rest = append_assoc (length_prefixed (encode_utf8_all c.name)) (marks_of c) rest
 
 first_column-is : (c : Column) (rest : List ℕ) → IsToldColumn c → first_column (column_bytes c ++ rest) ≡ c
 first_column-is c rest h =
     let marks = marks_of c ++ rest in
-    let bytes = piece (encode_utf8_all c.name) ++ marks in
+    let bytes = length_prefixed (encode_utf8_all c.name) ++ marks in
     ap first_column (name_then c rest)
     ∙ ap (λ name. column_with name (behind_piece bytes)) (name_tells c.name marks h.1)
     ∙ ap (λ ms. column_with c.name ms) (behind_piece-piece (encode_utf8_all c.name) marks h.1.1)
@@ -63,7 +63,7 @@ behind_column-is c rest h =
     ap behind_column (name_then c rest) ∙ ap (λ ms. drop 4 ms) (behind_piece-piece (encode_utf8_all c.name) (marks_of c ++ rest) h.1.1)
 
 some_column : (c : Column) → 0 < length (column_bytes c)
-some_column c = omega (arith, length-append (piece (encode_utf8_all c.name)) (marks_of c))
+some_column c = omega (arith, length-append (length_prefixed (encode_utf8_all c.name)) (marks_of c))
 
 columns_tell : (cs : List Column) → AllByRecursion IsToldColumn cs → items_in first_column behind_column (length (flat_map column_bytes cs)) (flat_map column_bytes cs) ≡ cs
 columns_tell cs h = items_tell first_column behind_column column_bytes IsToldColumn first_column-is behind_column-is some_column cs (length (flat_map column_bytes cs)) h (omega arith)
@@ -89,7 +89,7 @@ abbrev first_table : List ℕ → TableShape
 first_table bytes = table_in (first_piece bytes)
 
 abbrev piece_of : TableShape → List ℕ
-piece_of t = piece (table_bytes t)
+piece_of t = length_prefixed (table_bytes t)
 
 pub schemas_tell : (s : Schema) → HaveTypeBytes s → AllByRecursion IsShortTable s.tables → schema_in (schema_bytes s) ≡ s
 schemas_tell s k h =

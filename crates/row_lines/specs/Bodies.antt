@@ -10,12 +10,12 @@ use Rattle.fx_core.specs.declared.schema.TableShape.{TableShape}
 use Rattle.fx_value.specs.Keys.{key_bytes}
 
 -- four bytes of length, and then the bytes
-abbrev pub piece : List ℕ → List ℕ
-piece bytes = to_be_bytes w32 (length bytes) ++ bytes
+abbrev pub length_prefixed : List ℕ → List ℕ
+length_prefixed bytes = to_be_bytes w32 (length bytes) ++ bytes
 
 -- a line's body: the key of each cell as a piece
 abbrev pub line_bytes : List Data → List ℕ
-line_bytes cells = flat_map (λ d. piece (key_bytes d)) cells
+line_bytes cells = flat_map (λ d. length_prefixed (key_bytes d)) cells
 
 abbrev pub type_byte : Ty → ℕ
 type_byte ty.Number = 0
@@ -29,12 +29,12 @@ truth_byte b = if b then 1 else 0
 
 -- a column: its name, its type, and whether it is required, unique and indexed
 abbrev pub column_bytes : Column → List ℕ
-column_bytes c = piece (encode_utf8_all c.name) ++ (type_byte c.ty ∷ truth_byte c.required ∷ truth_byte c.unique ∷ truth_byte c.indexed ∷ [])
+column_bytes c = length_prefixed (encode_utf8_all c.name) ++ (type_byte c.ty ∷ truth_byte c.required ∷ truth_byte c.unique ∷ truth_byte c.indexed ∷ [])
 
 -- a table: its name, and its columns
 abbrev pub table_bytes : TableShape → List ℕ
-table_bytes t = piece (encode_utf8_all t.name) ++ flat_map column_bytes t.columns
+table_bytes t = length_prefixed (encode_utf8_all t.name) ++ flat_map column_bytes t.columns
 
 -- the body of a schema: its tables
 abbrev pub schema_bytes : Schema → List ℕ
-schema_bytes s = flat_map (λ t. piece (table_bytes t)) s.tables
+schema_bytes s = flat_map (λ t. length_prefixed (table_bytes t)) s.tables

@@ -6,7 +6,7 @@ ghost use Rattle.fx_types.specs.Values.{Data};
 ghost use Rattle.fx_value.specs.Keys.{key_bytes};
 ghost use Rattle.fx_value.specs.Order.{IsScalar};
 ghost use Rattle.row_queries.specs.TableRows.{AreCellsOf, IsHeldRow};
-ghost use Rattle.row_lines.specs.Bodies.{line_bytes, piece};
+ghost use Rattle.row_lines.specs.Bodies.{line_bytes, length_prefixed};
 ghost use Rattle.row_lines.specs.FromBytes.{cells_in};
 ghost use Rattle.row_lines.specs.Laws.{HasShortKey};
 
@@ -23,7 +23,7 @@ use std::alloc::Global;
 /// Adds the key of a cell as a piece.
 fn push_cell(alloc: Global, body: &mut Vec<u8>, cell: &Value) -> Result<(), Memory>
     requires { IsScalar (view cell.now) }
-    ensures ok { OnOk result (body.new.items ≡ body.old.items ++ piece (key_bytes (view cell.now))) }
+    ensures ok { OnOk result (body.new.items ≡ body.old.items ++ length_prefixed (key_bytes (view cell.now))) }
     ensures short { OnOk result (HasShortKey (view cell.now)) }
 {
     let key = key_of(alloc, cell)?;

@@ -1,6 +1,6 @@
 // Pieces of bytes: four bytes of length, and then so many bytes.
 ghost use Rattle.std.specs.Prelude.{◌≡◌, ◌++◌, IfSome, OnOk};
-ghost use Rattle.row_lines.specs.Bodies.{piece};
+ghost use Rattle.row_lines.specs.Bodies.{length_prefixed};
 ghost use Rattle.row_lines.specs.FromBytes.{behind_piece, first_piece, piece_in};
 ghost use Rattle.row_lines.specs.Laws.{IsShort};
 
@@ -8,7 +8,7 @@ use fx_base::Memory;
 
 /// Adds these bytes as a piece.
 pub fn push_piece(body: &mut Vec<u8>, bytes: &[u8]) -> Result<(), Memory>
-    ensures ok { OnOk result (body.new.items ≡ body.old.items ++ piece bytes.now) }
+    ensures ok { OnOk result (body.new.items ≡ body.old.items ++ length_prefixed bytes.now) }
     ensures short { OnOk result (IsShort bytes.now) }
 {
     // No piece is so long that its length needs more than four bytes: memory would have run out before.

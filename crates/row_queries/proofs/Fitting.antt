@@ -23,7 +23,7 @@ use Rattle.fx_value.specs.Columns.{Row as Fields}
 use Rattle.fx_value.specs.Fits.{fields_fit, fits_in, rows_fit}
 use Rattle.fx_value.proofs.Widenings.{own_name}
 use Rattle.row_queries.specs.Laws.{RowsFit}
-use Rattle.row_queries.specs.TableRows.{AreCellsOf, IsRowOf, id_value, record_of, with_cells}
+use Rattle.row_queries.specs.TableRows.{AreCellsOf, IsRowOf, id_value, record_of_row, cells_by_name}
 use Rattle.row_queries.specs.declared.rows.Row.{Row}
 use Rattle.row_queries.proofs.Lacking.{AllLackTypes, LacksType, all_lack_id, all_lack_types, names_of}
 
@@ -55,7 +55,7 @@ put_fits n d u (f ∷ fs) (column m t ks) fit l h =
     by Greater e name own more = and_from (bytes_eq f.0 m) _ name (and_from (fits_in f.1 t) _ own more)
 
 cells_fit : (cs : List Column) (ds : List Data) (fs : Fields) (ks : ColumnList) → AreCellsOf cs ds → AreDistinct (names_of cs) → AllLackTypes cs ks → fields_fit (field_list fs) ks ≡ true →
-    fields_fit (field_list (with_cells cs ds fs)) (put_columns cs ks) ≡ true
+    fields_fit (field_list (cells_by_name cs ds fs)) (put_columns cs ks) ≡ true
 cells_fit [] [] fs ks a x l h = h
 cells_fit (c ∷ cs) (d ∷ ds) fs ks a x l h =
     cells_fit cs ds (with_field c.name d fs) (put_column c.name (shape c.ty) ks) a.2 x.1 (all_lack_types c.name (shape c.ty) cs ks x.0 l.1)
@@ -63,14 +63,14 @@ cells_fit (c ∷ cs) (d ∷ ds) fs ks a x l h =
 cells_fit [] (d ∷ ds) fs ks a x l h = absurd a
 cells_fit (c ∷ cs) [] fs ks a x l h = absurd a
 
-row_fits : (t : TableShape) (r : Row) → AreDistinct (id_name ∷ names_of t.columns) → IsRowOf t r → fields_fit (field_list (record_of t r)) (columns_of t) ≡ true
+row_fits : (t : TableShape) (r : Row) → AreDistinct (id_name ∷ names_of t.columns) → IsRowOf t r → fields_fit (field_list (record_of_row t r)) (columns_of t) ≡ true
 row_fits t r x h =
     cells_fit t.columns r.cells ((id_name, id_value r.id) ∷ []) (column id_name numbers no_columns) h.1 x.1 (all_lack_id id_name numbers t.columns x.0)
     (and_from (bytes_eq id_name id_name) true (own_name id_name) refl)
 
-rows_fit_all : (t : TableShape) (rows : List Row) → AreDistinct (id_name ∷ names_of t.columns) → AllByRecursion (IsRowOf t) rows → rows_fit (row_list (map (record_of t) rows)) (columns_of t) ≡ true
+rows_fit_all : (t : TableShape) (rows : List Row) → AreDistinct (id_name ∷ names_of t.columns) → AllByRecursion (IsRowOf t) rows → rows_fit (row_list (map (record_of_row t) rows)) (columns_of t) ≡ true
 rows_fit_all t [] x h = refl
-rows_fit_all t (r ∷ rows) x h = and_from (fields_fit (field_list (record_of t r)) (columns_of t)) _ (row_fits t r x h.0) (rows_fit_all t rows x h.1)
+rows_fit_all t (r ∷ rows) x h = and_from (fields_fit (field_list (record_of_row t r)) (columns_of t)) _ (row_fits t r x h.0) (rows_fit_all t rows x h.1)
 
 pub all_fit : RowsFit
 all_fit t rows l h = rows_fit_all t rows l.2 (recursion_from_All (IsRowOf t) rows h)

@@ -5,7 +5,7 @@ use Rattle.fx_types.specs.declared.faults.Kind.TheVariants.{Div0, Custom}
 use Rattle.fx_types.specs.Values.{Data, blank, number, text, fault}
 use Rattle.fx_value.specs.Keys.{key_bytes}
 use Rattle.row_queries.specs.Conditions.{Condition, flag, constant, compares, is_blank, all_of, any_of, opposite, no_conditions, also}
-use Rattle.row_queries.specs.Queries.{first_fault, first_of}
+use Rattle.row_queries.specs.Queries.{first_outcome_fault, first_of}
 use Rattle.row_queries.specs.Ranges.{in_ranges}
 use Rattle.row_queries.specs.RowTests.{outcome, met, unmet, failed}
 use Rattle.row_queries.specs.TableRows.{id_value}
@@ -82,7 +82,7 @@ below_zero_is_before = refl
 blank_is_before : in_ranges ones (key_bytes blank) ≡ false
 blank_is_before = refl
 
-the_first_error : first_fault (met ∷ unmet ∷ failed Div0 [] ∷ failed Custom [] ∷ []) ≡ Some (record { kind = Div0; message = [] })
+the_first_error : first_outcome_fault (met ∷ unmet ∷ failed Div0 [] ∷ failed Custom [] ∷ []) ≡ Some (record { kind = Div0; message = [] })
 the_first_error = refl
 
 at_most_two : first_of {A = ℕ} (Some 2) (7 ∷ 8 ∷ 9 ∷ []) ≡ 7 ∷ 8 ∷ []

@@ -9,11 +9,11 @@ use Rattle.row_queries.specs.declared.queries.Query.{Query}
 use Rattle.row_queries.specs.declared.rows.Row.{Row}
 use Rattle.row_queries.specs.declared.rows.RowList.{RowList}
 use Rattle.row_queries.specs.Queries.{IsCounted, IsScanned, IsTotalled}
-use Rattle.row_queries.specs.TableRows.{AreHeldRows, rows_at, table_of}
+use Rattle.row_queries.specs.TableRows.{AreHeldRows, rows_at, rows_table}
 
 -- rows as a table, or the error that stands in their place
 abbrev pub table_or_fault : TableShape → List Row → Option Fault → Data
-table_or_fault t rows None = table_of t rows
+table_or_fault t rows None = rows_table t rows
 table_or_fault t rows (Some f) = fault f.kind f.message
 
 -- rows that the query's table can hold, which are the told ones where rows are told
@@ -46,6 +46,6 @@ abbrev pub count_rows : TableRowList → ℕ
 count_rows no_rows = 0
 count_rows (row _ rows) = suc (count_rows rows)
 
-abbrev pub rows_in : Data → ℕ
-rows_in (tab rows) = count_rows rows
-rows_in d = 0
+abbrev pub rows_counted : Data → ℕ
+rows_counted (tab rows) = count_rows rows
+rows_counted d = 0

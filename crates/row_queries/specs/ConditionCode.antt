@@ -8,9 +8,9 @@ use Rattle.fx_types.specs.ValueCode.{data_code}
 use Rattle.row_queries.specs.Conditions.{Condition, ConditionList, always, flag, constant, compares, is_blank, starts, contains, all_of, any_of, opposite, no_conditions, also}
 use Rattle.fx_core.specs.TermCode.{front, back}
 
-abbrev pub count : Gv → ℕ
-count (gnum n) = n
-count g = 0
+abbrev pub gv_count : Gv → ℕ
+gv_count (gnum n) = n
+gv_count g = 0
 
 abbrev mutual
   of_condition : Condition → Gv
@@ -32,13 +32,13 @@ abbrev mutual
 mutual
   pub same : (a b : Condition) → of_condition a ≡ of_condition b → a ≡ b
   same always always p = refl
-  same (flag k) (flag m) p = λ i. flag (count (back (p i)))
+  same (flag k) (flag m) p = λ i. flag (gv_count (back (p i)))
   same (constant d) (constant e) p = ap constant (data_code.inj d e (ap back p))
   same (compares f k d) (compares g m e) p =
-      λ i. compares (cmp_row.coded.inj f g (λ j. front (back (p j))) i) (count (front (back (back (p i))))) (data_code.inj d e (λ j. back (back (back (p j)))) i)
-  same (is_blank k) (is_blank m) p = λ i. is_blank (count (back (p i)))
-  same (starts k d) (starts m e) p = λ i. starts (count (front (back (p i)))) (data_code.inj d e (λ j. back (back (p j))) i)
-  same (contains k d) (contains m e) p = λ i. contains (count (front (back (p i)))) (data_code.inj d e (λ j. back (back (p j))) i)
+      λ i. compares (cmp_row.coded.inj f g (λ j. front (back (p j))) i) (gv_count (front (back (back (p i))))) (data_code.inj d e (λ j. back (back (back (p j)))) i)
+  same (is_blank k) (is_blank m) p = λ i. is_blank (gv_count (back (p i)))
+  same (starts k d) (starts m e) p = λ i. starts (gv_count (front (back (p i)))) (data_code.inj d e (λ j. back (back (p j))) i)
+  same (contains k d) (contains m e) p = λ i. contains (gv_count (front (back (p i)))) (data_code.inj d e (λ j. back (back (p j))) i)
   same (all_of cs) (all_of ds) p = ap all_of (same_list cs ds (ap back p))
   same (any_of cs) (any_of ds) p = ap any_of (same_list cs ds (ap back p))
   same (opposite c) (opposite d) p = ap opposite (same c d (ap back p))

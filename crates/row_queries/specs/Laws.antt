@@ -7,7 +7,7 @@ use Rattle.fx_core.specs.Lawful.{IsLawfulTable}
 use Rattle.fx_core.specs.SourceTypes.{columns_of}
 use Rattle.fx_value.specs.Fits.{fits_in}
 use Rattle.row_queries.specs.Queries.{AreAsked}
-use Rattle.row_queries.specs.TableRows.{AreInIdOrder, IsRowOf, table_of}
+use Rattle.row_queries.specs.TableRows.{AreInIdOrder, IsRowOf, rows_table}
 use Rattle.row_queries.specs.declared.queries.Query.{Query}
 use Rattle.row_queries.specs.declared.rows.Row.{Row}
 
@@ -17,4 +17,4 @@ AskedOnce = (q : Query) (rows a b : List Row) → AreInIdOrder rows → AreAsked
 
 -- rows that fit a lawful table are a table of its type
 abbrev pub RowsFit : Type 0
-RowsFit = (t : TableShape) (rows : List Row) → IsLawfulTable t → All (IsRowOf t) rows → fits_in (table_of t rows) (tables (columns_of t)) ≡ true
+RowsFit = (t : TableShape) (rows : List Row) → IsLawfulTable t → All (IsRowOf t) rows → fits_in (rows_table t rows) (tables (columns_of t)) ≡ true

@@ -17,7 +17,7 @@ use Rattle.fx_value.specs.Ordered.{directed}
 use Rattle.row_queries.specs.declared.queries.Query.{Query}
 use Rattle.row_queries.specs.declared.rows.Row.{Row}
 use Rattle.row_queries.specs.declared.rows.RowList.{RowList}
-use Rattle.row_queries.specs.Ranges.{AreRising, HoldEveryKey, in_ranges}
+use Rattle.row_queries.specs.Ranges.{AreRangesRising, HoldEveryKey, in_ranges}
 use Rattle.row_queries.specs.RowTests.{CanAsk, Outcome, failed, is_met, outcome}
 use Rattle.row_queries.specs.TableRows.{IsRowOf, value_at, values_of}
 
@@ -41,7 +41,7 @@ pub record IsQuery (tables : List TableShape) (q : Query) : Type 0 where
   pub has_column : q.column ≤ length table.columns
   pub has_order : IfSome q.order (λ o. o.0 ≤ length table.columns)
   pub reaches : IsIndexed table q.column ⊎ HoldEveryKey q.ranges
-  pub rises : AreRising q.ranges
+  pub rises : AreRangesRising q.ranges
   pub asks : (r : Row) → IsRowOf table r → CanAsk (values_of r) q.test
 
 -- a column of numbers of the query's table
@@ -81,10 +81,10 @@ abbrev pub given_of : Query → List Row → List Row
 given_of q asked = first_of q.take (filter (λ r. is_met (outcome_on q r)) asked)
 
 -- the first error among outcomes
-abbrev pub first_fault : List Outcome → Option Fault
-first_fault [] = None
-first_fault (failed k cs ∷ os) = Some (record { kind = k; message = cs })
-first_fault (o ∷ os) = first_fault os
+abbrev pub first_outcome_fault : List Outcome → Option Fault
+first_outcome_fault [] = None
+first_outcome_fault (failed k cs ∷ os) = Some (record { kind = k; message = cs })
+first_outcome_fault (o ∷ os) = first_outcome_fault os
 
 -- no rows where there is an error
 abbrev pub rows_or_fault : List Row → Option Fault → RowList
@@ -93,7 +93,7 @@ rows_or_fault rows (Some f) = record { rows = []; fault = Some f }
 
 -- what a scan answers: the first error of the test in the query's order, else the rows that the query gives
 abbrev pub IsScanned : Query → List Row → RowList → Type 0
-IsScanned q rows a = (asked : List Row) × AreAsked q rows asked × (a ≡ rows_or_fault (given_of q asked) (first_fault (map (outcome_on q) asked)))
+IsScanned q rows a = (asked : List Row) × AreAsked q rows asked × (a ≡ rows_or_fault (given_of q asked) (first_outcome_fault (map (outcome_on q) asked)))
 
 -- how many rows a query gives
 abbrev pub IsCounted : Query → List Row → ℕ → Type 0

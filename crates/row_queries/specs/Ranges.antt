@@ -30,9 +30,9 @@ EndsBeforeAll upto [] = Unit {0}
 EndsBeforeAll upto (r ∷ rs) = EndsBefore upto r × EndsBeforeAll upto rs
 
 -- ranges that rise and don't overlap: each ends before all later ones begin
-abbrev pub AreRising : List KeyRange → Type 0
-AreRising [] = Unit {0}
-AreRising (r ∷ rs) = EndsBeforeAll r.upto rs × AreRising rs
+abbrev pub AreRangesRising : List KeyRange → Type 0
+AreRangesRising [] = Unit {0}
+AreRangesRising (r ∷ rs) = EndsBeforeAll r.upto rs × AreRangesRising rs
 
 -- the key of every scalar lies in the ranges
 abbrev pub HoldEveryKey : List KeyRange → Type 0

@@ -22,9 +22,9 @@ held_of met = Yes
 held_of unmet = No
 held_of (failed k cs) = Error
 
-abbrev pub fault_in : Outcome → Option Fault
-fault_in (failed k cs) = Some (record { kind = k; message = cs })
-fault_in o = None
+abbrev pub outcome_fault : Outcome → Option Fault
+outcome_fault (failed k cs) = Some (record { kind = k; message = cs })
+outcome_fault o = None
 
 abbrev pub is_met : Outcome → Bool
 is_met met = true
@@ -48,30 +48,30 @@ unless_fault (fault k cs) o = failed k cs
 unless_fault d o = o
 
 -- the text in a value; blank is the empty one
-abbrev pub text_in : Data → List ℕ
-text_in (text cs) = cs
-text_in d = []
+abbrev pub text_or_empty : Data → List ℕ
+text_or_empty (text cs) = cs
+text_or_empty d = []
 
 -- an empty text is blank too
-abbrev pub is_empty : Data → Bool
-is_empty blank = true
-is_empty (text []) = true
-is_empty d = false
+abbrev pub is_empty_value : Data → Bool
+is_empty_value blank = true
+is_empty_value (text []) = true
+is_empty_value d = false
 
 -- a text begins with a part, and has it somewhere
-abbrev pub begins : List ℕ → List ℕ → Bool
-begins cs part = bytes_eq (take (length part) cs) part
+abbrev pub is_prefix : List ℕ → List ℕ → Bool
+is_prefix cs part = bytes_eq (take (length part) cs) part
 
 abbrev pub has_part : List ℕ → List ℕ → Bool
-has_part [] part = begins [] part
-has_part (c ∷ cs) part = begins (c ∷ cs) part || has_part cs part
+has_part [] part = is_prefix [] part
+has_part (c ∷ cs) part = is_prefix (c ∷ cs) part || has_part cs part
 
 -- the same without case
 abbrev pub begins_without_case : Data → Data → Bool
-begins_without_case d part = begins (default_case_fold (text_in d)) (default_case_fold (text_in part))
+begins_without_case d part = is_prefix (default_case_fold (text_or_empty d)) (default_case_fold (text_or_empty part))
 
 abbrev pub has_part_without_case : Data → Data → Bool
-has_part_without_case d part = has_part (default_case_fold (text_in d)) (default_case_fold (text_in part))
+has_part_without_case d part = has_part (default_case_fold (text_or_empty d)) (default_case_fold (text_or_empty part))
 
 -- ---- conditions joined
 
@@ -81,14 +81,14 @@ reversed unmet = met
 reversed (failed k cs) = failed k cs
 
 -- where the first is met, the others decide
-abbrev pub and_then : Outcome → Outcome → Outcome
-and_then met o = o
-and_then p o = p
+abbrev pub and_outcome : Outcome → Outcome → Outcome
+and_outcome met o = o
+and_outcome p o = p
 
 -- where the first isn't met, the others decide
-abbrev pub or_else : Outcome → Outcome → Outcome
-or_else unmet o = o
-or_else p o = p
+abbrev pub or_outcome : Outcome → Outcome → Outcome
+or_outcome unmet o = o
+or_outcome p o = p
 
 abbrev mutual
   -- what a condition comes to on a row of these values
@@ -97,7 +97,7 @@ abbrev mutual
   outcome row (flag k) = decided_by (value_at row k)
   outcome row (constant d) = decided_by d
   outcome row (compares op k d) = unless_fault d (decided (holds_of op (value_at row k) d))
-  outcome row (is_blank k) = decided (is_empty (value_at row k))
+  outcome row (is_blank k) = decided (is_empty_value (value_at row k))
   outcome row (starts k d) = unless_fault d (decided (begins_without_case (value_at row k) d))
   outcome row (contains k d) = unless_fault d (decided (has_part_without_case (value_at row k) d))
   outcome row (all_of cs) = all_outcome row cs
@@ -106,11 +106,11 @@ abbrev mutual
 
   pub all_outcome : List Data → ConditionList → Outcome
   all_outcome row no_conditions = met
-  all_outcome row (also c cs) = and_then (outcome row c) (all_outcome row cs)
+  all_outcome row (also c cs) = and_outcome (outcome row c) (all_outcome row cs)
 
   pub any_outcome : List Data → ConditionList → Outcome
   any_outcome row no_conditions = unmet
-  any_outcome row (also c cs) = or_else (outcome row c) (any_outcome row cs)
+  any_outcome row (also c cs) = or_outcome (outcome row c) (any_outcome row cs)
 
 -- a value that is no error
 abbrev pub IsNoFault : Data → Type 0

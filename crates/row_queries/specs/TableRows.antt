@@ -57,14 +57,14 @@ abbrev pub rows_at : List (List Row) → ℕ → List Row
 rows_at tables table = unwrap_or (slice_get tables table) []
 
 -- cells under the names of their columns, beside other fields, by rising names
-abbrev pub with_cells : List Column → List Data → Fields → Fields
-with_cells (c ∷ cs) (d ∷ ds) fields = with_cells cs ds (with_field c.name d fields)
-with_cells cs ds fields = fields
+abbrev pub cells_by_name : List Column → List Data → Fields → Fields
+cells_by_name (c ∷ cs) (d ∷ ds) fields = cells_by_name cs ds (with_field c.name d fields)
+cells_by_name cs ds fields = fields
 
 -- a row as a record, with its number under `ID`
-abbrev pub record_of : TableShape → Row → Fields
-record_of t r = with_cells t.columns r.cells ((id_name, id_value r.id) ∷ [])
+abbrev pub record_of_row : TableShape → Row → Fields
+record_of_row t r = cells_by_name t.columns r.cells ((id_name, id_value r.id) ∷ [])
 
 -- rows as a table
-abbrev pub table_of : TableShape → List Row → Data
-table_of t rows = tab (row_list (map (record_of t) rows))
+abbrev pub rows_table : TableShape → List Row → Data
+rows_table t rows = tab (row_list (map (record_of_row t) rows))

@@ -5,8 +5,8 @@ ghost use Rattle.fx_types.specs.ValueView.{view};
 ghost use Rattle.fx_types.specs.Values.{text as text_data};
 ghost use Rattle.fx_value.specs.Operators.{CanCompare, holds_of};
 ghost use Rattle.row_queries.specs.Conditions.{condition_list};
-ghost use Rattle.row_queries.specs.Judgements.{judged};
-ghost use Rattle.row_queries.specs.RowTests.{CanAsk, CanAskAll, IsTruth, all_outcome, any_outcome, begins, begins_without_case, decided, decided_by, fault_in, has_part_without_case, held_of, is_empty, outcome, text_in, met, unmet, HasValue, ReadTextWhile, ReadsText};
+ghost use Rattle.row_queries.specs.Judgements.{judged_outcome};
+ghost use Rattle.row_queries.specs.RowTests.{CanAsk, CanAskAll, IsTruth, all_outcome, any_outcome, is_prefix, begins_without_case, decided, decided_by, outcome_fault, has_part_without_case, held_of, is_empty_value, outcome, text_or_empty, met, unmet, HasValue, ReadTextWhile, ReadsText};
 ghost use Rattle.row_queries.specs.RowTests.{has_part as has_part_in, reversed as reversed_outcome};
 ghost use Rattle.row_queries.specs.TableRows.{id_value, value_at, values_of};
 
@@ -43,8 +43,8 @@ pub fn meets(alloc: Global, test: &Test, row: &Row) -> Result<Held, Memory>
 /// error.
 pub fn fault_of(alloc: Global, test: &Test, row: &Row) -> Result<Option<Fault>, Memory>
     requires { CanAsk (values_of row.now) test.now }
-    ensures value { IfOk result (λ f. f ≡ fault_in (outcome (values_of row.now) test.now)) }
-    ensures memory { OnErr result (ReadsText (values_of row.now) test.now ⊎ IsSome (fault_in (outcome (values_of row.now) test.now))) }
+    ensures value { IfOk result (λ f. f ≡ outcome_fault (outcome (values_of row.now) test.now)) }
+    ensures memory { OnErr result (ReadsText (values_of row.now) test.now ⊎ IsSome (outcome_fault (outcome (values_of row.now) test.now))) }
 {
     match judge(alloc, test, row)? {
         Judgement::Failed(fault) => Ok(Some(fault.copy(alloc)?)),
@@ -56,7 +56,7 @@ pub fn fault_of(alloc: Global, test: &Test, row: &Row) -> Result<Option<Fault>, 
 #[cycle(judge)]
 pub fn judge<'t>(alloc: Global, test: &'t Test, row: &Row) -> Result<Judgement<'t>, Memory>
     requires { CanAsk (values_of row.now) test.now }
-    ensures value { IfOk result (λ j. judged j ≡ outcome (values_of row.now) test.now) }
+    ensures value { IfOk result (λ j. judged_outcome j ≡ outcome (values_of row.now) test.now) }
     ensures memory { OnErr result (ReadsText (values_of row.now) test.now) }
 {
     match &test.node {
@@ -86,7 +86,7 @@ pub fn judge<'t>(alloc: Global, test: &'t Test, row: &Row) -> Result<Judgement<'
 #[cycle(judge)]
 fn judge_all<'t>(alloc: Global, tests: &'t [Test], row: &Row) -> Result<Judgement<'t>, Memory>
     requires { CanAskAll (values_of row.now) (condition_list tests.now) }
-    ensures value { IfOk result (λ j. judged j ≡ all_outcome (values_of row.now) (condition_list tests.now)) }
+    ensures value { IfOk result (λ j. judged_outcome j ≡ all_outcome (values_of row.now) (condition_list tests.now)) }
     ensures memory { OnErr result (ReadTextWhile met (values_of row.now) (condition_list tests.now)) }
 {
     for test in tests {
@@ -102,7 +102,7 @@ fn judge_all<'t>(alloc: Global, tests: &'t [Test], row: &Row) -> Result<Judgemen
 #[cycle(judge)]
 fn judge_any<'t>(alloc: Global, tests: &'t [Test], row: &Row) -> Result<Judgement<'t>, Memory>
     requires { CanAskAll (values_of row.now) (condition_list tests.now) }
-    ensures value { IfOk result (λ j. judged j ≡ any_outcome (values_of row.now) (condition_list tests.now)) }
+    ensures value { IfOk result (λ j. judged_outcome j ≡ any_outcome (values_of row.now) (condition_list tests.now)) }
     ensures memory { OnErr result (ReadTextWhile unmet (values_of row.now) (condition_list tests.now)) }
 {
     for test in tests {
@@ -115,7 +115,7 @@ fn judge_any<'t>(alloc: Global, tests: &'t [Test], row: &Row) -> Result<Judgemen
 }
 
 fn reverse(judgement: Judgement<'_>) -> Judgement<'_>
-    ensures { judged result ≡ reversed_outcome (judged judgement.entry) }
+    ensures { judged_outcome result ≡ reversed_outcome (judged_outcome judgement.entry) }
 {
     match judgement {
         Judgement::Met => Judgement::Unmet,
@@ -125,7 +125,7 @@ fn reverse(judgement: Judgement<'_>) -> Judgement<'_>
 }
 
 fn decision<'t>(holds: bool) -> Judgement<'t>
-    ensures { judged result ≡ decided holds }
+    ensures { judged_outcome result ≡ decided holds }
 {
     if holds {
         Judgement::Met
@@ -136,7 +136,7 @@ fn decision<'t>(holds: bool) -> Judgement<'t>
 
 // A Boolean as a test.
 fn constant(value: &Value) -> Judgement<'_>
-    ensures { judged result ≡ decided_by (view value.now) }
+    ensures { judged_outcome result ≡ decided_by (view value.now) }
 {
     match value {
         Value::Boolean(truth) => decision(*truth),
@@ -148,7 +148,7 @@ fn constant(value: &Value) -> Judgement<'_>
 // A Boolean column as a test.
 fn flag<'t>(row: &Row, column: u16) -> Judgement<'t>
     requires { HasValue (values_of row.now) column IsTruth }
-    ensures { judged result ≡ decided_by (value_at (values_of row.now) column) }
+    ensures { judged_outcome result ≡ decided_by (value_at (values_of row.now) column) }
 {
     match cell(row, column) {
         Some(Value::Boolean(truth)) => decision(*truth),
@@ -170,7 +170,7 @@ fn compares(row: &Row, op: Cmp, column: u16, value: &Value) -> bool
 // Whether a column is blank or an empty text.
 fn is_blank(row: &Row, column: u16) -> bool
     requires { IsSome (slice_get (values_of row.now) column) }
-    ensures { result ≡ is_empty (value_at (values_of row.now) column) }
+    ensures { result ≡ is_empty_value (value_at (values_of row.now) column) }
 {
     match cell(row, column) {
         Some(Value::Blank) => true,
@@ -180,7 +180,7 @@ fn is_blank(row: &Row, column: u16) -> bool
 }
 
 fn is_empty_text(text: &Words) -> bool
-    ensures { result ≡ is_empty (text_data text.now) }
+    ensures { result ≡ is_empty_value (text_data text.now) }
 {
     text.as_str().is_empty()
 }
@@ -213,7 +213,7 @@ fn contains(alloc: Global, row: &Row, column: u16, part: &Value) -> Result<bool,
 
 // Whether a text begins with a part, without case.
 fn starts_with(alloc: Global, text: &Words, part: &Words) -> Result<bool, Memory>
-    ensures { IfOk result (λ b. b ≡ begins (default_case_fold text.now) (default_case_fold part.now)) }
+    ensures { IfOk result (λ b. b ≡ is_prefix (default_case_fold text.now) (default_case_fold part.now)) }
 {
     fx_primitives::starts_with(alloc, text, part)
 }
@@ -229,7 +229,7 @@ fn has_part(alloc: Global, text: &Words, part: &Words) -> Result<bool, Memory>
 fn cell_text<'t>(row: &'t Row, column: u16, empty: &'t Words) -> &'t Words
     requires place { IsSome (slice_get (values_of row.now) column) }
     requires empty { empty.now ≡ [] }
-    ensures { result.now ≡ text_in (value_at (values_of row.now) column) }
+    ensures { result.now ≡ text_or_empty (value_at (values_of row.now) column) }
 {
     match cell(row, column) {
         Some(cell) => text_of(cell, empty),
@@ -240,7 +240,7 @@ fn cell_text<'t>(row: &'t Row, column: u16, empty: &'t Words) -> &'t Words
 // The text in a value, or an empty one.
 fn text_of<'t>(value: &'t Value, empty: &'t Words) -> &'t Words
     requires { empty.now ≡ [] }
-    ensures { result.now ≡ text_in (view value.now) }
+    ensures { result.now ≡ text_or_empty (view value.now) }
 {
     match value {
         Value::Text(text) => text,

@@ -67,9 +67,9 @@ impl Model for Test {
     ghost size = { condition_size };
 
     ghost use Rattle.std.proofs.Common.{arith};
-    ghost use Rattle.row_queries.specs.ConditionFalls.{node_falls};
+    ghost use Rattle.row_queries.specs.ConditionFalls.{test_falls};
 
-    ghost size_decreases = { λ a h. omega (arith, node_falls a.node) };
+    ghost size_decreases = { λ a h. omega (arith, test_falls a.node) };
 }
 
 impl Model for Tests {

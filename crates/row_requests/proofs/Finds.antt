@@ -12,7 +12,7 @@ use Rattle.fx_core.specs.declared.schema.TableShape.{TableShape}
 use Rattle.fx_value.specs.Keys.{KeysOrder, key_bytes}
 use Rattle.fx_value.proofs.ByteOrder.{after_from}
 use Rattle.row_queries.specs.Laws.{AskedOnce}
-use Rattle.row_queries.specs.Queries.{IsScanned, first_fault, given_of, lies, outcome_on, rows_or_fault}
+use Rattle.row_queries.specs.Queries.{IsScanned, first_outcome_fault, given_of, lies, outcome_on, rows_or_fault}
 use Rattle.row_queries.specs.RowTests.{is_met}
 use Rattle.row_queries.specs.TableRows.{AreInIdOrder, IsRowOf, id_value}
 use Rattle.row_queries.specs.Visits.{VisitsItsRanges, VisitsTold}
@@ -23,9 +23,9 @@ use Rattle.row_keeper.specs.Tables.{Tables, rows_told, state_at}
 use Rattle.row_keeper.specs.Numbered.{one_row}
 use Rattle.row_keeper.proofs.PageLemmas.{keys_go}
 use Rattle.row_keeper.proofs.NumberedRows.{asked_is, given_one, one, rows_are}
-use Rattle.row_requests.specs.Changes.{row_of}
+use Rattle.row_requests.specs.Changes.{row_with_id}
 use Rattle.row_requests.specs.Page.{past}
-use Rattle.row_requests.specs.Queries.{AreNumbered, FindsRow, FindsRows, VisitsPast, after_key, next_rows}
+use Rattle.row_requests.specs.Queries.{HasNumberedRows, FindsRow, FindsRows, VisitsPast, after_key, next_rows}
 
 -- ---- lists
 
@@ -63,7 +63,7 @@ lie_next law table after most (r ∷ rows) h = ap₂ (λ b l. cond b (r ∷ l) l
 
 -- ---- no error in a test of numbers
 
-clear_next : (table after : ℕ) (rows : List Row) → first_fault (map (outcome_on (next_rows table after)) rows) ≡ None
+clear_next : (table after : ℕ) (rows : List Row) → first_outcome_fault (map (outcome_on (next_rows table after)) rows) ≡ None
 clear_next table after [] = refl
 clear_next table after (r ∷ rows) = clear_next table after rows
 
@@ -94,14 +94,14 @@ pub finds_row : AskedOnce → (table id : ℕ) (answer : RowList) (found : Optio
     → MatchOption found ((n ≡ 0) × (m ≡ 0)) (λ _. m + 1 ≡ n)
     → (a b : Tables) → Scans (one_row table id) answer a b → FindsRow table id found a b
 finds_row law table id answer found left n m p q popped count a b h = (
-  λ ordered. last_of_one found answer.rows left (row_of id (state_at a.states table).rows) n m p q popped count
+  λ ordered. last_of_one found answer.rows left (row_with_id id (state_at a.states table).rows) n m p q popped count
       (ap (λ (x : RowList). x.rows) (given_one law table id (state_at a.states table).rows answer ordered (subst (λ rs. IsScanned (one_row table id) rs answer) (rows_are a.states table) h.0))),
   h.1,
 )
 
 pub finds_rows : AskedOnce → KeysOrder → (table after : ℕ) → after < 2 ^ 32 → (answer : RowList) → (a b : Tables) → Scans (next_rows table after) answer a b → FindsRows table after answer.rows a b
 finds_rows law keys table after most answer a b h = (
-  λ (numbered : AreNumbered (state_at a.states table)). given_next law keys table after most (state_at a.states table).rows answer numbered.rising numbered.bounded (subst (λ rs. IsScanned (next_rows table after) rs answer) (rows_are a.states table) h.0),
+  λ (numbered : HasNumberedRows (state_at a.states table)). given_next law keys table after most (state_at a.states table).rows answer numbered.rising numbered.bounded (subst (λ rs. IsScanned (next_rows table after) rs answer) (rows_are a.states table) h.0),
   h.1,
 )
 
@@ -114,7 +114,7 @@ visits_none table after n (Some t) = λ numbered. omega arith
 pub visits_past : KeysOrder → (table after : ℕ) → after < 2 ^ 32 → (x : Option Tables) (before now : ℕ) → VisitsTold (rows_told x) (next_rows table after) before now → VisitsPast table after x before now
 visits_past law table after most None before now h = tt
 visits_past law table after most (Some t) before now h =
-    λ (numbered : AreNumbered (state_at t.states table)).
+    λ (numbered : HasNumberedRows (state_at t.states table)).
     subst (λ (rows : List Row). now ≤ before + length rows)
     (lie_next law table after most (state_at t.states table).rows (recursion_from_All (λ (r : Row). r.id < 2 ^ 32) (state_at t.states table).rows numbered.bounded))
     (subst (λ rows. VisitsItsRanges (next_rows table after) rows before now) (rows_are t.states table) h)

@@ -17,15 +17,15 @@ use Rattle.fx_core.specs.declared.schema.Column.{Column}
 use Rattle.fx_value.specs.Order.{IsScalar}
 use Rattle.row_queries.specs.TableRows.{AreCellsOf}
 use Rattle.row_queries.specs.declared.rows.Row.{Row}
-use Rattle.view_text.specs.JsonText.{tagged, value_data, whole_of}
+use Rattle.view_text.specs.JsonText.{tagged, value_data, whole_units}
 use Rattle.view_text.proofs.Floats.{either_has_none, integer_has_none}
-use Rattle.row_requests.specs.DeskRows.{accepted_data, id_data}
-use Rattle.row_requests.specs.Page.{page_data, row_data, with_values}
+use Rattle.row_requests.specs.DeskRows.{accepted_data, ids_data}
+use Rattle.row_requests.specs.Page.{page_data, row_shown, with_values}
 use Rattle.row_requests.specs.PageRows.{AreShown}
 
 scalar_has_none : (d : Data) → IsScalar d → has_float (value_data d) ≡ false
 scalar_has_none blank h = refl
-scalar_has_none (number z) h = either_has_none (unsigned_abs z % 10000 == 0) (json.number (of_integer (whole_of z))) (tagged (codes "n") (json.string (text_of z))) (integer_has_none (whole_of z)) refl
+scalar_has_none (number z) h = either_has_none (unsigned_abs z % 10000 == 0) (json.number (of_integer (whole_units z))) (tagged (codes "n") (json.string (text_of z))) (integer_has_none (whole_units z)) refl
 scalar_has_none (text cs) h = refl
 scalar_has_none (boolean b) h = refl
 scalar_has_none (date z) h = refl
@@ -58,18 +58,18 @@ values_have_none (c ∷ cs) [] ms h e = absurd h
 values_have_none (c ∷ cs) (d ∷ ds) ms h e =
     values_have_none cs ds (put (encode_utf8_all c.name) (value_data d) ms) h.2 (put_has_none (encode_utf8_all c.name) (value_data d) ms (scalar_has_none d h.0) e)
 
-rows_have_none : (columns : List Column) (rows : List Row) → AreShown columns rows → items_have_float (items_of (map (row_data columns) rows)) ≡ false
+rows_have_none : (columns : List Column) (rows : List Row) → AreShown columns rows → items_have_float (items_of (map (row_shown columns) rows)) ≡ false
 rows_have_none columns [] h = refl
 rows_have_none columns (r ∷ rows) h =
-    or_from (has_float (row_data columns r)) (items_have_float (items_of (map (row_data columns) rows)))
+    or_from (has_float (row_shown columns r)) (items_have_float (items_of (map (row_shown columns) rows)))
     (values_have_none columns r.cells (member (codes "ID") (json.number (unsigned r.id)) no_members) h.0 refl) (rows_have_none columns rows h.1)
 
 pub page_has_none : (columns : List Column) (rows : List Row) (more : Bool) → AreShown columns rows → has_float (page_data columns rows more) ≡ false
-page_has_none columns rows more h = or_from (items_have_float (items_of (map (row_data columns) rows))) false (rows_have_none columns rows h) refl
+page_has_none columns rows more h = or_from (items_have_float (items_of (map (row_shown columns) rows))) false (rows_have_none columns rows h) refl
 
-ids_have_none : (ids : List ℕ) → items_have_float (items_of (map id_data ids)) ≡ false
+ids_have_none : (ids : List ℕ) → items_have_float (items_of (map ids_data ids)) ≡ false
 ids_have_none [] = refl
 ids_have_none (id ∷ ids) = ids_have_none ids
 
 pub accepted_has_none : (seq : ℕ) (ids : List ℕ) → has_float (accepted_data seq ids) ≡ false
-accepted_has_none seq ids = or_from (items_have_float (items_of (map id_data ids))) false (ids_have_none ids) refl
+accepted_has_none seq ids = or_from (items_have_float (items_of (map ids_data ids))) false (ids_have_none ids) refl

@@ -12,7 +12,7 @@ use Rattle.fx_value.specs.Fits.{fits_in}
 use Rattle.fx_value.specs.Order.{IsScalar}
 use Rattle.row_queries.specs.TableRows.{AreCellsOf}
 use Rattle.view_text.specs.declared.refused.Refusal.{Refusal}
-use Rattle.row_requests.specs.Changes.{blanks, broken, cells_with, column_named, given_at, has_type, judged, or_else, rule_of_given}
+use Rattle.row_requests.specs.Changes.{blanks, change_refusal, cells_with, column_named, given_at, has_type, first_refusal, or_refusal, rule_of_given}
 use Rattle.row_requests.specs.GivenRows.{AreScalars}
 use Rattle.row_requests.specs.declared.rule.Rule.TheVariants.{ColumnType}
 use Rattle.numbered_requests.proofs.Directories.{apart, itself, same_bytes}
@@ -25,12 +25,12 @@ blanks_fit (c ∷ cs) = (tt, refl, blanks_fit cs)
 
 -- ---- what passed fits
 
-none_left : (a b : Option Refusal) → or_else a b ≡ None → (a ≡ None) × (b ≡ None)
+none_left : (a b : Option Refusal) → or_refusal a b ≡ None → (a ≡ None) × (b ≡ None)
 none_left None b e = (refl, e)
 none_left (Some r) b e = absurd cc
 
 -- a value that was judged, of the column that its name names
-passed : (at : ℕ) (name : List ℕ) (o : Option Column) (v : Option Data) → option_map (broken at name) (rule_of_given o v) ≡ None → (c : Column) → o ≡ Some c → has_type c v ≡ true
+passed : (at : ℕ) (name : List ℕ) (o : Option Column) (v : Option Data) → option_map (change_refusal at name) (rule_of_given o v) ≡ None → (c : Column) → o ≡ Some c → has_type c v ≡ true
 passed at name None v e c is = absurd cc
 passed at name (Some d) v e c is = by (has_type d v) refl
   where
@@ -39,17 +39,17 @@ passed at name (Some d) v e c is = by (has_type d v) refl
 
     by : (b : Bool) → has_type d v ≡ b → has_type c v ≡ true
     by true k = ap (λ x. has_type x v) (sym (same is)) ∙ k
-    by false k = absurd (let z : option_map (broken at name) (cond false None (Some ColumnType)) ≡ None = ap (λ t. option_map (broken at name) (cond t None (Some ColumnType))) (sym k) ∙ e in cc)
+    by false k = absurd (let z : option_map (change_refusal at name) (cond false None (Some ColumnType)) ≡ None = ap (λ t. option_map (change_refusal at name) (cond t None (Some ColumnType))) (sym k) ∙ e in cc)
 
 -- what is given under a name fits the column of that name
-given_fits : (at : ℕ) (whole : List Column) (gs : List (List ℕ × Option Data)) → judged at whole gs ≡ None → AreScalars gs
+given_fits : (at : ℕ) (whole : List Column) (gs : List (List ℕ × Option Data)) → first_refusal at whole gs ≡ None → AreScalars gs
     → (name : List ℕ) (c : Column) (d : Data) → column_named name whole ≡ Some c → given_at name gs ≡ Some d → IsScalar d × (fits_in d (shape c.ty) ≡ true)
 given_fits at whole [] j all name c d named e = absurd cc
 given_fits at whole (g ∷ gs) j all name c d named e =
-    let both = none_left (option_map (broken at g.0) (rule_of_given (column_named g.0 whole) g.1)) (judged at whole gs) j in
+    let both = none_left (option_map (change_refusal at g.0) (rule_of_given (column_named g.0 whole) g.1)) (first_refusal at whole gs) j in
     by both.0 (bytes_eq g.0 name) refl e (λ f. given_fits at whole gs both.1 all.1 name c d named f)
   where
-    by : option_map (broken at g.0) (rule_of_given (column_named g.0 whole) g.1) ≡ None → (b : Bool) → bytes_eq g.0 name ≡ b
+    by : option_map (change_refusal at g.0) (rule_of_given (column_named g.0 whole) g.1) ≡ None → (b : Bool) → bytes_eq g.0 name ≡ b
         → option_and_then (λ (x : List ℕ × Option Data). x.1) (cond b (Some g) (find (λ (x : List ℕ × Option Data). bytes_eq x.0 name) gs)) ≡ Some d
         → (given_at name gs ≡ Some d → IsScalar d × (fits_in d (shape c.ty) ≡ true)) → IsScalar d × (fits_in d (shape c.ty) ≡ true)
     by passes true k f rest = (
@@ -76,7 +76,7 @@ found_all (c ∷ cs) h = (
   behind_other c cs cs h.0 (found_all cs h.1),
 )
 
-fit_all : (at : ℕ) (whole : List Column) (gs : List (List ℕ × Option Data)) → judged at whole gs ≡ None → AreScalars gs
+fit_all : (at : ℕ) (whole : List Column) (gs : List (List ℕ × Option Data)) → first_refusal at whole gs ≡ None → AreScalars gs
     → (cs : List Column) → AreFound whole cs → (ds : List Data) → AreCellsOf cs ds → AreCellsOf cs (cells_with gs cs ds)
 fit_all at whole gs j all [] found [] h = tt
 fit_all at whole gs j all [] found (d ∷ ds) h = absurd h
@@ -88,7 +88,7 @@ fit_all at whole gs j all (c ∷ cs) found (d ∷ ds) h = by (given_at c.name gs
     by (Some x) e rest = let k = given_fits at whole gs j all c.name c x found.0 e in (k.0, k.1, rest)
 
 -- cells with what passed fit
-pub cells_fit : (at : ℕ) (columns : List Column) (gs : List (List ℕ × Option Data)) (ds : List Data) → judged at columns gs ≡ None → AreScalars gs
+pub cells_fit : (at : ℕ) (columns : List Column) (gs : List (List ℕ × Option Data)) (ds : List Data) → first_refusal at columns gs ≡ None → AreScalars gs
     → AreDistinct (id_name ∷ map (λ (x : Column). x.name) columns) → AreCellsOf columns ds → AreCellsOf columns (cells_with gs columns ds)
 cells_fit at columns gs ds j all distinct h = fit_all at columns gs j all columns (found_all columns distinct.1) ds h
 

@@ -9,7 +9,7 @@ use Rattle.std.proofs.lemmas.Option.{slice_get_past}
 use Rattle.std.proofs.lemmas.Str.{chars-IsAscii}
 use Rattle.std.proofs.lemmas.Str.Ascii.{IsAscii-from_all}
 use Rattle.fx_core.specs.declared.schema.Column.{Column}
-use Rattle.row_requests.specs.Changes.{name_at, rule_name}
+use Rattle.row_requests.specs.Changes.{column_name_at, rule_name}
 use Rattle.row_requests.specs.declared.rule.Rule.{Rule}
 use Rattle.row_requests.specs.declared.rule.Rule.TheVariants as rule
 
@@ -41,5 +41,5 @@ name_is rule.Size = plain (rule_name rule.Size) refl
 name_is rule.Full = plain (rule_name rule.Full) refl
 
 -- no column stands past the last one
-pub no_name : (columns : List Column) (k n : ℕ) → length columns ≤ n → n ≡ k - 1 → [] ≡ name_at columns (Some k)
+pub no_name : (columns : List Column) (k n : ℕ) → length columns ≤ n → n ≡ k - 1 → [] ≡ column_name_at columns (Some k)
 no_name columns k n h e = sym (ap (λ m. unwrap_or (option_map (λ (c : Column). c.name) (slice_get columns m)) []) (sym e) ∙ ap (λ o. unwrap_or (option_map (λ (c : Column). c.name) o) []) (slice_get_past columns n h))

@@ -5,7 +5,7 @@ use Rattle.std.proofs.lemmas.Bool.Decides.{nat_tests}
 use Rattle.std.proofs.lemmas.Bool.{cases_lt}
 use Rattle.std.proofs.lemmas.List.{length-take, take-take, take_all}
 use Rattle.app_wire.specs.ReplyBytes.{reply}
-use Rattle.fx_base.specs.Silence.{Goes}
+use Rattle.fx_base.specs.Silence.{MayFallSilent}
 use Rattle.fx_core.specs.declared.schema.Column.{Column}
 use Rattle.row_queries.specs.TableRows.{AreCellsOf}
 use Rattle.row_queries.specs.declared.rows.Row.{Row}
@@ -16,7 +16,7 @@ use Rattle.serde_json.specs.Written.{compact_text}
 use Rattle.view_text.specs.JsonText.{value_data}
 use Rattle.row_requests.specs.Page.{Shows, VisitsTable, page_data, page_reply, past, with_values}
 use Rattle.row_requests.specs.PageRows.{AreShown}
-use Rattle.row_requests.specs.Queries.{AreNumbered, FindsRows, VisitsPast}
+use Rattle.row_requests.specs.Queries.{HasNumberedRows, FindsRows, VisitsPast}
 
 -- one row more than a page shows tells whether there are more
 longer : (n : ℕ) (rows : List Row) → n ≡ length (take 101 rows) → nat_lt 100 n ≡ nat_lt 100 (length rows)
@@ -28,7 +28,7 @@ page_of_some columns rows =
 
 -- what was found is shown
 pub shows : (lost : Type 0) (k after : ℕ) (found : List Row) (columns : List Column) (said : List ℕ) → said ≡ page_reply columns found
-    → (x y : Option Tables) → IfSome x (λ (t : Tables). AreNumbered (state_at t.states k)) → Goes lost (FindsRows k after found) x y → Goes lost (Shows k after said columns) x y
+    → (x y : Option Tables) → IfSome x (λ (t : Tables). HasNumberedRows (state_at t.states k)) → MayFallSilent lost (FindsRows k after found) x y → MayFallSilent lost (Shows k after said columns) x y
 shows lost k after found columns said e None y h g = g
 shows lost k after found columns said e (Some a) None h g = g
 shows lost k after found columns said e (Some a) (Some b) h g = (
@@ -36,7 +36,7 @@ shows lost k after found columns said e (Some a) (Some b) h g = (
   g.1,
 )
 
-pub visits : (k after before now : ℕ) (x : Option Tables) → IfSome x (λ (t : Tables). AreNumbered (state_at t.states k)) → VisitsPast k after x before now → VisitsTable (Some k) after x before now
+pub visits : (k after before now : ℕ) (x : Option Tables) → IfSome x (λ (t : Tables). HasNumberedRows (state_at t.states k)) → VisitsPast k after x before now → VisitsTable (Some k) after x before now
 visits k after before now None numbered h = tt
 visits k after before now (Some t) numbered h = h numbered
 

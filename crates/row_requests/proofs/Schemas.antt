@@ -3,7 +3,7 @@ use Rattle.std.proofs.Common.{◌≡◌, ℕ, zero, suc, ◌<◌, ◌^◌, ◌�
 use Rattle.std.specs.Prelude.{IfSome, IsSomeAnd, slice_get}
 use Rattle.std.specs.List.{AllByRecursion}
 use Rattle.std.proofs.lemmas.List.Elements.{recursion_from_All}
-use Rattle.fx_base.specs.Silence.{Goes}
+use Rattle.fx_base.specs.Silence.{MayFallSilent}
 use Rattle.fx_types.specs.Values.{Data}
 use Rattle.fx_core.specs.Lawful.{AreDistinct, IsLawfulSchema, IsLawfulTable, id_name}
 use Rattle.fx_core.specs.declared.schema.Column.{Column}
@@ -14,7 +14,7 @@ use Rattle.row_queries.specs.declared.rows.Row.{Row}
 use Rattle.row_keeper.specs.Changes.{Inserts, Removes, Replaces}
 use Rattle.row_keeper.specs.Tables.{AreStatesOf, Tables, columns_at, state_at}
 use Rattle.row_keeper.specs.declared.rows.Put.{Put}
-use Rattle.row_requests.specs.Queries.{AreNumbered, FindsRow}
+use Rattle.row_requests.specs.Queries.{HasNumberedRows, FindsRow}
 use Rattle.row_requests.specs.Sound.{AreSound}
 use Rattle.row_requests.proofs.Soundness.{sound_inserts, sound_removes, sound_replaces, state_is}
 
@@ -53,17 +53,17 @@ are_apart s k lawful h = columns_apart s.tables k (recursion_from_All IsLawfulTa
 -- ---- the calls of a keeper leave tables that fit
 
 pub inserts_sound : (s : Schema) (lost : Type 0) (columns : List Column) (k : ℕ) (cells : List Data) (put : Put) → k < length s.tables → AreCellsOf (columns_at s.tables k) cells
-    → (x y : Option Tables) → AreSound s x → Goes lost (Inserts columns k cells put) x y → AreSound s y
+    → (x y : Option Tables) → AreSound s x → MayFallSilent lost (Inserts columns k cells put) x y → AreSound s y
 inserts_sound s lost columns k cells put h fit x y sound g =
     let t = stands s.tables k h in sound_inserts s lost columns k t.table cells put t.is (subst (λ cs. AreCellsOf cs cells) t.columns fit) x y sound g
 
 pub replaces_sound : (s : Schema) (lost : Type 0) (columns : List Column) (k id : ℕ) (cells : List Data) (put : Put) → k < length s.tables → AreCellsOf (columns_at s.tables k) cells
-    → (x y : Option Tables) → AreSound s x → Goes lost (Replaces columns k id cells put) x y → AreSound s y
+    → (x y : Option Tables) → AreSound s x → MayFallSilent lost (Replaces columns k id cells put) x y → AreSound s y
 replaces_sound s lost columns k id cells put h fit x y sound g =
     let t = stands s.tables k h in sound_replaces s lost columns k id t.table cells put t.is (subst (λ cs. AreCellsOf cs cells) t.columns fit) x y sound g
 
 pub removes_sound : (s : Schema) (lost : Type 0) (k id : ℕ) (was : Bool) → k < length s.tables
-    → (x y : Option Tables) → AreSound s x → Goes lost (Removes k id was) x y → AreSound s y
+    → (x y : Option Tables) → AreSound s x → MayFallSilent lost (Removes k id was) x y → AreSound s y
 removes_sound s lost k id was h x y sound g = let t = stands s.tables k h in sound_removes s lost k id t.table was t.is x y sound g
 
 -- rows of tables that fit stand by rising numbers
@@ -72,7 +72,7 @@ rows_in_order s k h None sound = tt
 rows_in_order s k h (Some t) sound = let u = stands s.tables k h in (state_is s.tables t.states k u.table sound u.is).rising
 
 -- .. each of 32 bits
-pub rows_numbered : (s : Schema) (k : ℕ) → k < length s.tables → (x : Option Tables) → AreSound s x → IfSome x (λ (t : Tables). AreNumbered (state_at t.states k))
+pub rows_numbered : (s : Schema) (k : ℕ) → k < length s.tables → (x : Option Tables) → AreSound s x → IfSome x (λ (t : Tables). HasNumberedRows (state_at t.states k))
 rows_numbered s k h None sound = tt
 rows_numbered s k h (Some t) sound =
     let u = stands s.tables k h in
@@ -88,7 +88,7 @@ row_cells None r h = absurd h
 row_cells (Some t) r h = h.1
 
 -- finding a row leaves the tables
-pub found_sound : (s : Schema) (k id : ℕ) (lost : Type 0) (o : Option Row) (x y : Option Tables) → AreSound s x → Goes lost (FindsRow k id o) x y → AreSound s y
+pub found_sound : (s : Schema) (k id : ℕ) (lost : Type 0) (o : Option Row) (x y : Option Tables) → AreSound s x → MayFallSilent lost (FindsRow k id o) x y → AreSound s y
 found_sound s k id lost o None None sound h = tt
 found_sound s k id lost o None (Some b) sound h = absurd cc
 found_sound s k id lost o (Some a) None sound h = tt

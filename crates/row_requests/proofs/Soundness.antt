@@ -3,7 +3,7 @@ use Rattle.std.proofs.Common.{◌≡◌, ℕ, zero, suc, ◌+◌, ◌-◌, ◌^�
 use Rattle.std.specs.Prelude.{slice_get, IfSome}
 use Rattle.std.specs.List.{All}
 use Rattle.std.proofs.lemmas.List.Elements.{All-append, All-cons, All-filter, All-map, All-nil, recursion_from_All}
-use Rattle.fx_base.specs.Silence.{Goes}
+use Rattle.fx_base.specs.Silence.{MayFallSilent}
 use Rattle.fx_base.specs.Telling.{Stays}
 use Rattle.fx_types.specs.Values.{Data}
 use Rattle.fx_core.specs.declared.schema.Column.{Column}
@@ -90,17 +90,17 @@ with_one (u ∷ ts) (x ∷ ss) (suc k) t s h e is = (h.0, with_one ts ss k t s h
 -- ---- the calls of a keeper
 
 -- what holds of tables that are told, after a call
-kept : (P : Tables → Type 0) (lost : Type 0) (Q : Tables → Tables → Type 0) → ((a b : Tables) → P a → Q a b → P b) → (x y : Option Tables) → IfSome x P → Goes lost Q x y → IfSome y P
+kept : (P : Tables → Type 0) (lost : Type 0) (Q : Tables → Tables → Type 0) → ((a b : Tables) → P a → Q a b → P b) → (x y : Option Tables) → IfSome x P → MayFallSilent lost Q x y → IfSome y P
 kept P lost Q step None None h g = tt
 kept P lost Q step None (Some b) h g = absurd cc
 kept P lost Q step (Some a) None h g = tt
 kept P lost Q step (Some a) (Some b) h g = step a b h g
 
-pub sound_stays : (s : Schema) (lost : Type 0) (x y : Option Tables) → AreSound s x → Goes lost Stays x y → AreSound s y
+pub sound_stays : (s : Schema) (lost : Type 0) (x y : Option Tables) → AreSound s x → MayFallSilent lost Stays x y → AreSound s y
 sound_stays s lost x y h g = kept (λ (t : Tables). AreStatesOf s.tables t.states) lost Stays (λ a b p q. subst (λ (t : Tables). AreStatesOf s.tables t.states) (sym q) p) x y h g
 
 pub sound_inserts : (s : Schema) (lost : Type 0) (columns : List Column) (k : ℕ) (t : TableShape) (cells : List Data) (put : Put) → slice_get s.tables k ≡ Some t → AreCellsOf t.columns cells
-    → (x y : Option Tables) → AreSound s x → Goes lost (Inserts columns k cells put) x y → AreSound s y
+    → (x y : Option Tables) → AreSound s x → MayFallSilent lost (Inserts columns k cells put) x y → AreSound s y
 sound_inserts s lost columns k t cells put e fit x y h g = kept (λ (t : Tables). AreStatesOf s.tables t.states) lost (Inserts columns k cells put) (step put) x y h g
   where
     step : (put : Put) (a b : Tables) → AreStatesOf s.tables a.states → Inserts columns k cells put a b → AreStatesOf s.tables b.states
@@ -112,7 +112,7 @@ sound_inserts s lost columns k t cells put e fit x y h g = kept (λ (t : Tables)
     step (Refused r) a b p q = subst (λ (w : Tables). AreStatesOf s.tables w.states) (sym q.1) p
 
 pub sound_replaces : (s : Schema) (lost : Type 0) (columns : List Column) (k id : ℕ) (t : TableShape) (cells : List Data) (put : Put) → slice_get s.tables k ≡ Some t → AreCellsOf t.columns cells
-    → (x y : Option Tables) → AreSound s x → Goes lost (Replaces columns k id cells put) x y → AreSound s y
+    → (x y : Option Tables) → AreSound s x → MayFallSilent lost (Replaces columns k id cells put) x y → AreSound s y
 sound_replaces s lost columns k id t cells put e fit x y h g = kept (λ (t : Tables). AreStatesOf s.tables t.states) lost (Replaces columns k id cells put) (step put) x y h g
   where
     step : (put : Put) (a b : Tables) → AreStatesOf s.tables a.states → Replaces columns k id cells put a b → AreStatesOf s.tables b.states
@@ -121,7 +121,7 @@ sound_replaces s lost columns k id t cells put e fit x y h g = kept (λ (t : Tab
     step (Refused r) a b p q = subst (λ (w : Tables). AreStatesOf s.tables w.states) (sym q.2) p
 
 pub sound_removes : (s : Schema) (lost : Type 0) (k id : ℕ) (t : TableShape) (was : Bool) → slice_get s.tables k ≡ Some t
-    → (x y : Option Tables) → AreSound s x → Goes lost (Removes k id was) x y → AreSound s y
+    → (x y : Option Tables) → AreSound s x → MayFallSilent lost (Removes k id was) x y → AreSound s y
 sound_removes s lost k id t was e x y h g = kept (λ (t : Tables). AreStatesOf s.tables t.states) lost (Removes k id was) (step was) x y h g
   where
     step : (was : Bool) (a b : Tables) → AreStatesOf s.tables a.states → Removes k id was a b → AreStatesOf s.tables b.states

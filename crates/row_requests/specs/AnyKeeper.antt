@@ -8,7 +8,7 @@ use Rattle.row_keeper.specs.Tables.{columns_at}
 use Rattle.row_keeper.specs.declared.rows.RowRefusal.{RowRefusal}
 use Rattle.view_text.specs.declared.refused.Refusal.{Refusal}
 use Rattle.numbered_requests.specs.Replies.{plain}
-use Rattle.row_requests.specs.Changes.{broken, judged, kept_refusal, place_of, table_of}
+use Rattle.row_requests.specs.Changes.{change_refusal, first_refusal, kept_refusal, table_index, table_changed}
 use Rattle.row_requests.specs.declared.bodies.Change.{Change}
 use Rattle.row_requests.specs.declared.bodies.Change.TheVariants.{Add, Replace, Remove}
 use Rattle.row_requests.specs.declared.rule.Rule.{Rule}
@@ -26,11 +26,11 @@ MayPut at columns P None (Err r) = IsKept at columns r
 
 -- a new row has a number from 1
 abbrev pub MayAdd : ℕ → List Column → List (List ℕ × Option Data) → Result ℕ Refusal → Type 0
-MayAdd at columns gs said = MayPut at columns (λ id. 1 ≤ id) (judged at columns gs) said
+MayAdd at columns gs said = MayPut at columns (λ id. 1 ≤ id) (first_refusal at columns gs) said
 
 -- a row that is changed isn't there (22), or has the number that was asked for
 abbrev pub MayReplace : ℕ → List Column → ℕ → List (List ℕ × Option Data) → Result ℕ Refusal → Type 0
-MayReplace at columns asked gs said = (said ≡ Err (plain 22)) ⊎ MayPut at columns (λ id. id ≡ asked) (judged at columns gs) said
+MayReplace at columns asked gs said = (said ≡ Err (plain 22)) ⊎ MayPut at columns (λ id. id ≡ asked) (first_refusal at columns gs) said
 
 -- so it is with one that is taken out
 abbrev pub MayRemove : ℕ → Result ℕ Refusal → Type 0
@@ -44,7 +44,7 @@ MayChangeIn shapes at (Replace name asked gs) (Some k) said = MayReplace at (col
 MayChangeIn shapes at (Remove name asked) (Some k) said = MayRemove asked said
 
 abbrev pub MayChange : List TableShape → ℕ → Change → Result ℕ Refusal → Type 0
-MayChange shapes at c said = MayChangeIn shapes at c (place_of (table_of c) shapes) said
+MayChange shapes at c said = MayChangeIn shapes at c (table_index (table_changed c) shapes) said
 
 -- THE changes, from this place on: a number for each, or a refusal of one of them, behind others that may act
 abbrev pub MayEnd : List TableShape → ℕ → List Change → Result (List ℕ) Refusal → Type 0
@@ -58,7 +58,7 @@ MayEnd shapes at (c ∷ cs) (Err r) = MayChange shapes at c (Err r) ⊎ ((id : �
 
 -- a rule of rows breaks in the change at this place (23)
 abbrev pub BreaksRule : ℕ → Refusal → Type 0
-BreaksRule at r = (column : List ℕ) × (rule : Rule) × (r ≡ broken at column rule)
+BreaksRule at r = (column : List ℕ) × (rule : Rule) × (r ≡ change_refusal at column rule)
 
 -- the change at this place names no table (21) or a row that isn't there (22), or breaks a rule
 abbrev pub IsRefusedAt : ℕ → Refusal → Type 0

@@ -9,23 +9,23 @@ use Rattle.view_text.specs.RefusalText.{Fits}
 use Rattle.view_text.specs.declared.refused.Refusal.{Refusal}
 use Rattle.row_requests.specs.Changes.{change_one, kept_refusal, perform}
 use Rattle.numbered_requests.specs.Replies.{plain}
-use Rattle.row_requests.specs.DeskRows.{Outcome}
+use Rattle.row_requests.specs.DeskRows.{ChangesOutcome}
 use Rattle.row_requests.specs.declared.bodies.Change.{Change}
 use Rattle.row_requests.specs.declared.changes.Changed.{Changed}
 use Rattle.row_requests.specs.declared.changes.Changed.TheVariants.{Id, Refused}
 
 -- a change acts, or is refused and leaves the tables
-abbrev pub Comes : Result (ℕ × Tables) Refusal → Changed → Tables → Tables → Type 0
-Comes r (Id id) a b = r ≡ Ok (id, b)
-Comes r (Refused refusal) a b = (r ≡ Err refusal) × (b ≡ a)
+abbrev pub ChangeComesTo : Result (ℕ × Tables) Refusal → Changed → Tables → Tables → Type 0
+ChangeComesTo r (Id id) a b = r ≡ Ok (id, b)
+ChangeComesTo r (Refused refusal) a b = (r ≡ Err refusal) × (b ≡ a)
 
 abbrev pub ChangesOne : List TableShape → ℕ → Change → Changed → Tables → Tables → Type 0
-ChangesOne shapes at c changed a b = Comes (change_one shapes at c a) changed a b
+ChangesOne shapes at c changed a b = ChangeComesTo (change_one shapes at c a) changed a b
 
 -- inside the transaction: changes that are refused may have acted in part
-abbrev pub Performs : List TableShape → List Change → Outcome → Tables → Tables → Type 0
-Performs shapes changes (Ok ids) a b = perform shapes 0 changes a ≡ Ok (ids, b)
-Performs shapes changes (Err r) a b = perform shapes 0 changes a ≡ Err r
+abbrev pub AppliesChanges : List TableShape → List Change → ChangesOutcome → Tables → Tables → Type 0
+AppliesChanges shapes changes (Ok ids) a b = perform shapes 0 changes a ≡ Ok (ids, b)
+AppliesChanges shapes changes (Err r) a b = perform shapes 0 changes a ≡ Err r
 
 -- what is said of a change
 abbrev pub said_of : Changed → Result ℕ Refusal
@@ -36,7 +36,7 @@ said_of (Refused r) = Err r
 abbrev pub HasItsDetail : Refusal → Type 0
 HasItsDetail r = Fits r.code r.detail
 
-abbrev pub HaveDetail : Outcome → Type 0
+abbrev pub HaveDetail : ChangesOutcome → Type 0
 HaveDetail (Ok ids) = Unit {0}
 HaveDetail (Err r) = HasItsDetail r
 

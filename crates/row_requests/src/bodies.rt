@@ -3,7 +3,7 @@ ghost use Rattle.std.specs.Prelude.{◌≡◌, IfOk, IfSome, codes, option_and_t
 ghost use Rattle.serde_json.specs.View.{items_view, members_view, view as json_view};
 ghost use Rattle.fx_types.specs.ValueView.{view};
 ghost use Rattle.row_requests.specs.Bodies.{added_in as added, change_by as by_operation, change_in as one_change, changes_in as all_changes, if_few as few_of, IsSoundPost, posted_in as posted, removed_in as removed, replaced_in as replaced};
-ghost use Rattle.row_requests.specs.Changes.{given_at, table_of};
+ghost use Rattle.row_requests.specs.Changes.{given_at, table_changed};
 ghost use Rattle.row_requests.specs.GivenRows.{AreScalars, given_in as given_of_members, given_view};
 ghost use Rattle.numbered_requests.specs.GivenValues.{members_at as members_at_key};
 
@@ -74,7 +74,7 @@ pub struct Posted {
 impl Change {
     /// The name of the table.
     pub fn table(&self) -> &Words
-        ensures { result.now ≡ table_of self.now }
+        ensures { result.now ≡ table_changed self.now }
     {
         match self {
             Change::Add(table, _) | Change::Replace(table, _, _) | Change::Remove(table, _) =>

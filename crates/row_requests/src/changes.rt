@@ -5,10 +5,10 @@ ghost use Rattle.fx_core.specs.Lawful.{IsLawfulSchema};
 ghost use Rattle.row_keeper.specs.Over.{Becomes, BeganStays, HasCause};
 ghost use Rattle.row_keeper.specs.Tables.{columns_at, has_id, state_at};
 ghost use Rattle.row_requests.specs.AnyKeeper.{MayAdd, MayChange, MayChangeIn, MayRemove, MayReplace};
-ghost use Rattle.row_requests.specs.Changes.{add_row, change_in_table, change_row, place_of as place_of_name, remove_row, row_of};
+ghost use Rattle.row_requests.specs.Changes.{add_row, change_in_table, change_row, table_index as place_of_name, remove_row, row_with_id};
 ghost use Rattle.numbered_requests.specs.Replies.{plain};
 ghost use Rattle.row_requests.specs.Sound.{AreSound};
-ghost use Rattle.row_requests.specs.Steps.{ChangesOne, Comes, came as came_of, said_of};
+ghost use Rattle.row_requests.specs.Steps.{ChangesOne, ChangeComesTo, came as came_of, said_of};
 
 use crate::bodies::{Change, Given};
 use crate::cells::{cells_with, new_cells};
@@ -75,7 +75,7 @@ fn insert_row<K: Keeper>(
     requires table { table < length schema.now.tables }
     requires sound { AreSound schema.now (K.told keeper.old) }
     ensures done { IfOk result (λ c. Becomes K.Keeper keeper.old keeper.new
-        (λ a b. Comes (add_row at (columns_at schema.now.tables table) table given.now a) c a b)) }
+        (λ a b. ChangeComesTo (add_row at (columns_at schema.now.tables table) table given.now a) c a b)) }
     ensures sound { IfOk result (λ c. AreSound schema.now (K.told keeper.new)) }
     ensures may { IfOk result (λ c. MayAdd at (columns_at schema.now.tables table) given.now (said_of c)) }
     ensures began { BeganStays K.Keeper keeper.old keeper.new }
@@ -112,7 +112,7 @@ fn replace_row<K: Keeper>(
     requires table { table < length schema.now.tables }
     requires sound { AreSound schema.now (K.told keeper.old) }
     ensures done { IfOk result (λ c. Becomes K.Keeper keeper.old keeper.new
-        (λ a b. Comes (change_row at (columns_at schema.now.tables table) table id given.now a (row_of id (state_at a.states table).rows)) c a b)) }
+        (λ a b. ChangeComesTo (change_row at (columns_at schema.now.tables table) table id given.now a (row_with_id id (state_at a.states table).rows)) c a b)) }
     ensures sound { IfOk result (λ c. AreSound schema.now (K.told keeper.new)) }
     ensures may { IfOk result (λ c. MayReplace at (columns_at schema.now.tables table) id given.now (said_of c)) }
     ensures began { BeganStays K.Keeper keeper.old keeper.new }
@@ -149,7 +149,7 @@ fn remove_row<K: Keeper>(
     requires table { table < length schema.now.tables }
     requires sound { AreSound schema.now (K.told keeper.old) }
     ensures done { IfOk result (λ c. Becomes K.Keeper keeper.old keeper.new
-        (λ a b. Comes (remove_row table id a (list_any (has_id id) (state_at a.states table).rows)) c a b)) }
+        (λ a b. ChangeComesTo (remove_row table id a (list_any (has_id id) (state_at a.states table).rows)) c a b)) }
     ensures sound { IfOk result (λ c. AreSound schema.now (K.told keeper.new)) }
     ensures may { IfOk result (λ c. MayRemove id (said_of c)) }
     ensures began { BeganStays K.Keeper keeper.old keeper.new }
@@ -200,7 +200,7 @@ fn change_table<K: Keeper>(
     requires table { table < length schema.now.tables }
     requires sound { AreSound schema.now (K.told keeper.old) }
     ensures done { IfOk result (λ c. Becomes K.Keeper keeper.old keeper.new
-        (λ a b. Comes (change_in_table schema.now.tables at change.now a (Some table)) c a b)) }
+        (λ a b. ChangeComesTo (change_in_table schema.now.tables at change.now a (Some table)) c a b)) }
     ensures sound { IfOk result (λ c. AreSound schema.now (K.told keeper.new)) }
     ensures may { IfOk result (λ c. MayChangeIn schema.now.tables at change.now (Some table) (said_of c)) }
     ensures began { BeganStays K.Keeper keeper.old keeper.new }

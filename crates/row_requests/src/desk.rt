@@ -1,7 +1,7 @@
 //! A desk posts changes of rows.
 ghost use Rattle.std.specs.Option.{option_to_list};
 ghost use Rattle.std.specs.Prelude.{◌≡◌, ◌<◌, ◌++◌, [], false, IfOk, IsErrOf, OnErr, OnOk, Some, vec_capacity, vec_len};
-ghost use Rattle.fx_base.specs.Silence.{IsLost};
+ghost use Rattle.fx_base.specs.Silence.{SilenceCause};
 ghost use Rattle.fx_base.specs.Telling.{Stays};
 ghost use Rattle.fx_core.specs.Lawful.{IsLawfulSchema};
 ghost use Rattle.row_keeper.specs.Over.{Becomes, HasCause};
@@ -10,7 +10,7 @@ ghost use Rattle.row_requests.specs.Bodies.{IsSoundPost};
 ghost use Rattle.row_requests.specs.DeskRows.{KeepsRows, PostsRows, ReachesRows};
 ghost use Rattle.numbered_requests.specs.Replies.{IsReply, KeepReplies, said};
 ghost use Rattle.row_requests.specs.Sound.{AreSound};
-ghost use Rattle.row_requests.specs.Written.{AreTablesBut, IsNamedBy, table_named as table_of_change, tables_named as tables_of_changes};
+ghost use Rattle.row_requests.specs.Written.{SameTablesExcept, IsNamedBy, changed_table as table_of_change, tables_named as tables_of_changes};
 ghost use Rattle.fx_core.specs.Reads.{IsAmong};
 ghost use Rattle.fx_core.specs.declared.sources.Source.{Source as Src};
 
@@ -44,12 +44,12 @@ pub fn post_rows<K: Keeper>(
     requires sound { AreSound schema.now (K.told keeper.old) }
     requires kept { KeepReplies desks.old.items }
     requires none { wrote.old.items ≡ [] }
-    ensures done { IfOk result (λ r. PostsRows (IsLost (K.marks keeper.old) (K.marks keeper.new)) schema.now.tables name.now body.now (K.told keeper.old) desks.old.items (said r) (K.told keeper.new) desks.new.items) }
+    ensures done { IfOk result (λ r. PostsRows (SilenceCause (K.marks keeper.old) (K.marks keeper.new)) schema.now.tables name.now body.now (K.told keeper.old) desks.old.items (said r) (K.told keeper.new) desks.new.items) }
     ensures whole { IfOk result IsReply }
     ensures stopped { OnErr result (Becomes K.Keeper keeper.old keeper.new Stays) }
     ensures same { OnErr result (desks.new.items ≡ desks.old.items) }
     ensures wrote { IfOk result (λ r. Becomes K.Keeper keeper.old keeper.new
-        (AreTablesBut wrote.new.items)) }
+        (SameTablesExcept wrote.new.items)) }
     ensures named { (s : Src) → IsAmong s wrote.new.items → IsNamedBy schema.now.tables desks.old.items name.now body.now s }
     ensures reached { IsErrOf result Failed → ReachesRows name.now body.now desks.old.items }
     ensures cause { HasCause K.Keeper keeper.old keeper.new result }
@@ -137,12 +137,12 @@ fn keep_rows<K: Keeper>(
     requires kept { KeepReplies desks.old.items }
     requires posted { IsSoundPost posted.now }
     requires none { wrote.old.items ≡ [] }
-    ensures done { IfOk result (λ r. KeepsRows (IsLost (K.marks keeper.old) (K.marks keeper.new)) schema.now.tables name.now body.now posted.now (K.told keeper.old) desks.old.items (said r) (K.told keeper.new) desks.new.items) }
+    ensures done { IfOk result (λ r. KeepsRows (SilenceCause (K.marks keeper.old) (K.marks keeper.new)) schema.now.tables name.now body.now posted.now (K.told keeper.old) desks.old.items (said r) (K.told keeper.new) desks.new.items) }
     ensures whole { IfOk result IsReply }
     ensures stopped { OnErr result (Becomes K.Keeper keeper.old keeper.new Stays) }
     ensures same { OnErr result (desks.new.items ≡ desks.old.items) }
     ensures wrote { IfOk result (λ r. Becomes K.Keeper keeper.old keeper.new
-        (AreTablesBut wrote.new.items)) }
+        (SameTablesExcept wrote.new.items)) }
     ensures named { (s : Src) → IsAmong s wrote.new.items → IsAmong s (tables_of_changes schema.now.tables posted.now.changes) }
     ensures cause { HasCause K.Keeper keeper.old keeper.new result }
     ensures idle { K.in_transaction keeper.new ≡ false }

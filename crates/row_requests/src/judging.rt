@@ -2,7 +2,7 @@
 ghost use Rattle.std.specs.Prelude.{◌≡◌, IfOk, option_map};
 ghost use Rattle.fx_types.specs.ValueView.{view};
 ghost use Rattle.fx_types.specs.Words.{scalars_of};
-ghost use Rattle.row_requests.specs.Changes.{broken as broken_of, column_named, has_type as has_type_of, judged, kept_refusal as kept_refusal_of, name_at as name_at_of, rule_of_given};
+ghost use Rattle.row_requests.specs.Changes.{change_refusal as broken_of, column_named, has_type as has_type_of, first_refusal, kept_refusal as kept_refusal_of, column_name_at as name_at_of, rule_of_given};
 ghost use Rattle.row_requests.specs.GivenRows.{AreScalars};
 
 use crate::bodies::Given;
@@ -62,7 +62,7 @@ pub(crate) fn judge(
     columns: &[Column],
     given: &Given,
 ) -> Result<Option<Refusal>, Memory>
-    ensures is { IfOk result (λ r. r ≡ judged at columns.now given.now) }
+    ensures is { IfOk result (λ r. r ≡ first_refusal at columns.now given.now) }
     ensures scalars { AreScalars given.now }
 {
     for (name, value) in given.as_slice() {

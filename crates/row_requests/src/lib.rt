@@ -6,16 +6,16 @@ pub mod bodies;
 mod cells;
 mod changes;
 pub mod desk;
-mod end;
 mod finding;
 mod judging;
 pub mod laws;
+mod outcome;
 pub mod page;
 pub mod rule;
 mod transaction;
 
 pub use desk::post_rows;
-pub use end::settle;
 pub use numbered_requests::{MOST_DESKS, Named, Reply, is_among, place_of, put};
+pub use outcome::settle;
 pub use page::{MOST_ROWS, show_page};
 pub use rule::Rule;

@@ -3,13 +3,13 @@ ghost use Rattle.std.specs.Prelude.{◌≡◌, ◌∷◌, [], false, Err, IfOk, 
 ghost use Rattle.std.specs.List.{All};
 ghost use Rattle.serde_json.specs.Data.{member, no_members};
 ghost use Rattle.serde_json.specs.View.{members_view, view as json_view};
-ghost use Rattle.fx_base.specs.Silence.{IsLost};
+ghost use Rattle.fx_base.specs.Silence.{SilenceCause};
 ghost use Rattle.fx_base.specs.Telling.{Stays};
 ghost use Rattle.fx_core.specs.Lawful.{IsLawfulSchema};
 ghost use Rattle.row_queries.specs.TableRows.{AreCellsOf};
 ghost use Rattle.row_keeper.specs.Over.{Becomes, HasCause};
 ghost use Rattle.row_keeper.specs.declared.keeper.KeeperEnd.TheVariants.{Failed};
-ghost use Rattle.row_requests.specs.Page.{ReachesPage, ShowsPage, VisitsPage, page_data, page_reply as page_bytes, row_data, with_values};
+ghost use Rattle.row_requests.specs.Page.{ReachesPage, ShowsPage, VisitsPage, page_data, page_reply as page_bytes, row_shown, with_values};
 ghost use Rattle.row_requests.specs.PageRows.{AreShown};
 ghost use Rattle.numbered_requests.specs.Replies.{IsReply, plain, refusal_reply, said};
 ghost use Rattle.row_requests.specs.Sound.{AreSound};
@@ -32,7 +32,7 @@ pub const MOST_ROWS: usize = 100;
 /// A row as JSON, with its number under `ID`.
 fn row_json(alloc: Global, columns: &[Column], row: &Row) -> Result<Json, Memory>
     requires { length row.now.cells ≡ length columns.now }
-    ensures { IfOk result (λ v. json_view v ≡ row_data columns.now row.now) }
+    ensures { IfOk result (λ v. json_view v ≡ row_shown columns.now row.now) }
 {
     let mut members = Map::new(alloc);
     serde_json::put(&mut members, alloc, "ID", Json::from(row.id))?;
@@ -47,7 +47,7 @@ fn row_json(alloc: Global, columns: &[Column], row: &Row) -> Result<Json, Memory
 /// Rows as JSON.
 fn rows_json(alloc: Global, columns: &[Column], rows: &[Row]) -> Result<Vec<Json>, Memory>
     requires { AreShown columns.now rows.now }
-    ensures { IfOk result (λ v. map json_view v.items ≡ map (row_data columns.now) rows.now) }
+    ensures { IfOk result (λ v. map json_view v.items ≡ map (row_shown columns.now) rows.now) }
 {
     let mut all = Vec::new(alloc);
     for row in rows {
@@ -95,7 +95,7 @@ pub fn show_page<K: Keeper>(
     requires shaped { K.shaped keeper.old ≡ Some schema.now }
     requires lawful { IsLawfulSchema schema.now }
     requires sound { AreSound schema.now (K.told keeper.old) }
-    ensures done { IfOk result (λ r. ShowsPage (IsLost (K.marks keeper.old) (K.marks keeper.new)) schema.now.tables table.now after (K.told keeper.old) (said r) (K.told keeper.new)) }
+    ensures done { IfOk result (λ r. ShowsPage (SilenceCause (K.marks keeper.old) (K.marks keeper.new)) schema.now.tables table.now after (K.told keeper.old) (said r) (K.told keeper.new)) }
     ensures whole { IfOk result IsReply }
     ensures still { Becomes K.Keeper keeper.old keeper.new Stays }
     ensures visits { VisitsPage schema.now.tables table.now after (K.told keeper.old) (K.visited keeper.old) (K.visited keeper.new) }

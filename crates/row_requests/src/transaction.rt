@@ -4,16 +4,16 @@ ghost use Rattle.serde_json.specs.View.{items_view, view as json_view};
 ghost use Rattle.fx_base.specs.Telling.{Stays};
 ghost use Rattle.fx_core.specs.Lawful.{IsLawfulSchema};
 ghost use Rattle.row_requests.specs.AnyKeeper.{MayEnd};
-ghost use Rattle.row_requests.specs.DeskRows.{Acts, accepted_data, accepted_reply as accepted_bytes, id_data, outcome_reply};
+ghost use Rattle.row_requests.specs.DeskRows.{DeskTransaction, accepted_data, accepted_rows_reply as accepted_bytes, ids_data, outcome_reply};
 ghost use Rattle.row_requests.specs.Prepared.{IsMade, IsPrepared};
 ghost use Rattle.numbered_requests.specs.Replies.{IsReply, said};
 ghost use Rattle.row_requests.specs.Sound.{AreSound};
-ghost use Rattle.row_requests.specs.Steps.{Performs, HaveDetail};
+ghost use Rattle.row_requests.specs.Steps.{AppliesChanges, HaveDetail};
 ghost use Rattle.row_keeper.specs.Over.{Becomes, BeganStays, HasCause};
 
 use crate::bodies::{Change, Posted};
 use crate::changes::{Changed, change_one};
-use crate::end::settle;
+use crate::outcome::settle;
 use fx_base::{InOrder, Memory};
 use fx_core::Schema;
 use numbered_requests::Reply;
@@ -46,7 +46,7 @@ fn change_rows<K: Keeper>(
     requires sound { AreSound schema.now (K.told keeper.old) }
     requires few { length changes.now ≤ 1000 }
     ensures done { IfOk result (λ o. Becomes K.Keeper keeper.old keeper.new
-        (Performs schema.now.tables changes.now o)) }
+        (AppliesChanges schema.now.tables changes.now o)) }
     ensures sound { IfOk result (λ o. AreSound schema.now (K.told keeper.new)) }
     ensures may { IfOk result (MayEnd schema.now.tables 0 changes.now) }
     ensures began { BeganStays K.Keeper keeper.old keeper.new }
@@ -72,7 +72,7 @@ fn change_rows<K: Keeper>(
 }
 
 fn ids_json(alloc: Global, ids: &[u32]) -> Result<Vec<Json>, Memory>
-    ensures { IfOk result (λ v. map json_view v.items ≡ map id_data ids.now) }
+    ensures { IfOk result (λ v. map json_view v.items ≡ map ids_data ids.now) }
 {
     let mut all = Vec::new(alloc);
     for id in ids {
@@ -136,7 +136,7 @@ fn prepare_rows<K: Keeper>(
     requires sound { AreSound schema.now (K.told keeper.old) }
     requires few { length posted.now.changes ≤ 1000 }
     ensures done { IfOk result (λ p. Becomes K.Keeper keeper.old keeper.new
-        (Performs schema.now.tables posted.now.changes p.outcome)) }
+        (AppliesChanges schema.now.tables posted.now.changes p.outcome)) }
     ensures sound { IfOk result (λ p. AreSound schema.now (K.told keeper.new)) }
     ensures made { IfOk result (IsMade schema.now.tables posted.now) }
     ensures began { BeganStays K.Keeper keeper.old keeper.new }
@@ -167,7 +167,7 @@ pub(crate) fn act_rows<K: Keeper>(
     requires sound { AreSound schema.now (K.told keeper.old) }
     requires few { length posted.now.changes ≤ 1000 }
     ensures done { IfOk result (λ p. Becomes K.Keeper keeper.old keeper.new
-        (Acts schema.now.tables posted.now.changes p.outcome)) }
+        (DeskTransaction schema.now.tables posted.now.changes p.outcome)) }
     ensures made { IfOk result (IsMade schema.now.tables posted.now) }
     ensures stopped { OnErr result (Becomes K.Keeper keeper.old keeper.new Stays) }
     ensures cause { HasCause K.Keeper keeper.old keeper.new result }

@@ -7,9 +7,9 @@ use Rattle.row_queries.specs.RowTests.{is_met}
 use Rattle.row_queries.specs.Ranges.{in_ranges}
 use Rattle.row_queries.specs.TableRows.{rows_at, value_at, values_of}
 use Rattle.row_queries.specs.declared.rows.Row.{Row}
-use Rattle.row_keeper.specs.Changes.{Counts}
-use Rattle.row_keeper.specs.Tables.{TableState, Tables, rows_of, state_at}
-use Rattle.sample_app.specs.Counts.{HasRows, every_row}
+use Rattle.row_keeper.specs.Changes.{CountsQuery}
+use Rattle.row_keeper.specs.Tables.{TableState, Tables, rows_of_tables, state_at}
+use Rattle.sample_app.specs.Counts.{HasRowCount, every_row}
 
 -- nothing is below no bytes
 every_key : (k : List ℕ) → in_ranges every_row.ranges k ≡ true
@@ -20,7 +20,7 @@ all_pass : (p : Row → Bool) → ((r : Row) → p r ≡ true) → (rows : List 
 all_pass p h [] = refl
 all_pass p h (r ∷ rows) = ap₂ (λ t l. cond t (r ∷ l) l) (h r) (all_pass p h rows)
 
-first_rows : (ss : List TableState) → rows_at (rows_of ss) 0 ≡ (state_at ss 0).rows
+first_rows : (ss : List TableState) → rows_at (rows_of_tables ss) 0 ≡ (state_at ss 0).rows
 first_rows [] = refl
 first_rows (s ∷ ss) = refl
 
@@ -33,5 +33,5 @@ every_one rows n h =
     h.2 ∙ met ∙ length_permutation (filter (lies every_row) rows) asked h.1.rearranged ∙ ap length lie
 
 -- what a keeper counts of the first table
-pub counts_rows : (n : ℕ) (a b : Tables) → Counts every_row n a b → HasRows n a b
-counts_rows n a b h = (every_one (rows_at (rows_of a.states) 0) n h.0 ∙ ap length (first_rows a.states), h.1)
+pub counts_rows : (n : ℕ) (a b : Tables) → CountsQuery every_row n a b → HasRowCount n a b
+counts_rows n a b h = (every_one (rows_at (rows_of_tables a.states) 0) n h.0 ∙ ap length (first_rows a.states), h.1)

@@ -9,5 +9,5 @@ abbrev pub every_row : Query
 every_row = record { table = 0; column = 0; ranges = record { from = []; upto = None } ∷ []; test = always; order = None; take = None }
 
 -- the first table has so many rows, and nothing changes
-abbrev pub HasRows : ℕ → Tables → Tables → Type 0
-HasRows n a b = (n ≡ length (state_at a.states 0).rows) × (b ≡ a)
+abbrev pub HasRowCount : ℕ → Tables → Tables → Type 0
+HasRowCount n a b = (n ≡ length (state_at a.states 0).rows) × (b ≡ a)

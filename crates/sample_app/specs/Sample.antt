@@ -10,8 +10,8 @@ unfoldable pub app_text : List ℕ
 app_text = codes "{\"format\":\"pfx-1\",\"tables\":[{\"name\":\"Stock\",\"columns\":[{\"name\":\"Name\",\"type\":\"Text\",\"required\":true},{\"name\":\"Qty\",\"type\":\"Number\",\"indexed\":true}]}],\"onStart\":\"Set(n, 0)\",\"screens\":[{\"name\":\"Home\",\"controls\":[{\"name\":\"Total\",\"kind\":\"Label\",\"properties\":{\"Text\":\"Sum(Stock, Qty)\"}},{\"name\":\"Take\",\"kind\":\"Button\",\"properties\":{\"OnSelect\":\"Set(n, n + 1); With({row: LookUp(Stock, ID = n * 3)}, Patch(Stock, row, {Qty: row.Qty - 1}))\"}}]}]}"
 
 -- a request without a body
-abbrev pub bare : Method → List ℕ → Asked
-bare method path = record { method = method; path = path; body = [] }
+abbrev pub bodiless : Method → List ℕ → Asked
+bodiless method path = record { method = method; path = path; body = [] }
 
 -- a request that posts a body
 abbrev pub posts : List ℕ → List ℕ → Asked
@@ -39,32 +39,32 @@ abbrev pub adds : ℕ → ℕ → Asked
 adds n k = changes k (row_text n (1000 * k - 999) ++ more_rows n (1000 * k - 998) 999)
 
 -- session k is opened
-abbrev pub opens : ℕ → Asked
-opens k = bare Put (session_path k)
+abbrev pub open_request : ℕ → Asked
+open_request k = bodiless Put (session_path k)
 
 -- the e-th event: the 40 sessions press the button in turn, each under its own numbers
-abbrev pub takes : ℕ → Asked
-takes e =
+abbrev pub event_request : ℕ → Asked
+event_request e =
     posts (codes "/s/s" ++ (decimal ((e - 1) % 40 + 1) ++ codes "/event")) (codes "{\"seq\":" ++ (decimal ((e - 1) / 40 + 1) ++ codes ",\"control\":\"Take\",\"event\":\"OnSelect\"}"))
 
 -- the k-th change of a name: row 10k is `Checked k` then
-abbrev pub checks : ℕ → Asked
-checks k =
+abbrev pub change_request : ℕ → Asked
+change_request k =
     changes (20 + k) (codes "{\"op\":\"change\",\"table\":\"Stock\",\"id\":" ++ (decimal (10 * k) ++ (codes ",\"row\":{\"Name\":\"Checked " ++ (decimal k ++ codes "\"}}"))))
 
 -- the e-th event, and behind each tenth one a change of a name
 abbrev pub works : ℕ → List Asked
-works e = takes e ∷ (if e % 10 == 0 then checks (e / 10) ∷ [] else [])
+works e = event_request e ∷ (if e % 10 == 0 then change_request (e / 10) ∷ [] else [])
 
 -- session k asks for its view
-abbrev pub views : ℕ → Asked
-views k = bare Get (codes "/s/s" ++ (decimal k ++ codes "/view"))
+abbrev pub view_request : ℕ → Asked
+view_request k = bodiless Get (codes "/s/s" ++ (decimal k ++ codes "/view"))
 
 -- the first rows
 abbrev pub page : Asked
-page = bare Get (codes "/rows/Stock/0")
+page = bodiless Get (codes "/rows/Stock/0")
 
 -- THE 2,301 requests: 20,000 rows, 40 sessions, 2,000 events with 200 changes of names, 40 views, and a page of rows
 abbrev pub requests : ℕ → List Asked
 requests n =
-    map (adds n) (range_with_len 1 20) ++ (map opens (range_with_len 1 40) ++ (flat_map works (range_with_len 1 2000) ++ (map views (range_with_len 1 40) ++ page ∷ [])))
+    map (adds n) (range_with_len 1 20) ++ (map open_request (range_with_len 1 40) ++ (flat_map works (range_with_len 1 2000) ++ (map view_request (range_with_len 1 40) ++ page ∷ [])))

@@ -2,7 +2,7 @@
 ghost use Rattle.std.specs.Prelude.{◌≡◌, ◌+◌, ◌-◌, ◌*◌, ◌<◌, ◌≤◌, ◌∷◌, [], ◌++◌, IfOk, OnOk, codes, flat_map, map, string_bytes};
 ghost use Rattle.std.specs.List.{range_with_len};
 ghost use Rattle.app_wire.specs.Framing.{asked};
-ghost use Rattle.sample_app.specs.Sample.{adds as adds_of, bare as bare_of, changes as changes_of, checks as checks_of, more_rows as more_rows_of, opens as opens_of, page as page_of, posts as posts_of, requests as requests_of, row_text as row_text_of, session_path as session_path_of, takes as takes_of, views as views_of, works as works_of};
+ghost use Rattle.sample_app.specs.Sample.{adds as adds_of, bodiless as bare_of, changes as changes_of, change_request as checks_of, more_rows as more_rows_of, open_request as opens_of, page as page_of, posts as posts_of, requests as requests_of, row_text as row_text_of, session_path as session_path_of, event_request as takes_of, view_request as views_of, works as works_of};
 
 use app_wire::{Method, Request};
 use fx_base::Memory;

@@ -5,7 +5,7 @@ ghost use Rattle.serde_json.specs.Find.{pointer};
 ghost use Rattle.serde_json.specs.View.{view as json_view};
 ghost use Rattle.numbered_requests.specs.Bodies.{json_of};
 ghost use Rattle.numbered_requests.specs.Replies.{IsReply, said};
-ghost use Rattle.sample_app.specs.Summary.{body_of as body_in, counts as counts_of, refused as refused_in, results as results_of, summary as summary_of, words_at as words_in, words_of as words_of_json};
+ghost use Rattle.sample_app.specs.Summary.{reply_body as body_in, summary_counts as counts_of, refused as refused_in, results as results_of, summary as summary_of, words_at as words_in, words_of as words_of_json};
 
 use fx_base::Memory;
 use numbered_requests::Reply;

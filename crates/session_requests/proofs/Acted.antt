@@ -7,20 +7,20 @@ use Rattle.fx_types.specs.declared.controls.Control.TheVariants as control
 use Rattle.fx_core.specs.Lawful.{IsGallery, IsLawfulGallery}
 use Rattle.fx_core.specs.declared.names.ControlName.{ControlName}
 use Rattle.fx_core.specs.declared.names.Names.{Names}
-use Rattle.fx_typing.specs.Typing.{item_of}
+use Rattle.fx_typing.specs.Typing.{item_context}
 use Rattle.recalc.specs.app_cells.Spots.{acts_for_gallery, item_in, item_or}
 use Rattle.recalc.specs.app_cells.declared.app.App.{App}
-use Rattle.recalc.specs.app_semantics.Chosen.{row_at}
+use Rattle.recalc.specs.app_semantics.Chosen.{row_at_position}
 use Rattle.recalc.specs.app_semantics.Present.{items_of}
-use Rattle.recalc.specs.app_semantics.Sound.{IsSound}
+use Rattle.recalc.specs.app_semantics.Sound.{IsSoundApp}
 use Rattle.recalc.specs.fx_semantics.Around.{record_of}
 use Rattle.recalc.specs.fx_semantics.Rows.{rows_in}
 use Rattle.recalc.specs.fx_semantics.Sound.{IsItemFit}
 use Rattle.recalc.specs.Values.{CellsFit}
-use Rattle.session_requests.specs.Triggers.{ItemFits, gallery_of as gallery_seen}
+use Rattle.session_requests.specs.Triggers.{ItemFits, trigger_gallery as gallery_seen}
 use Rattle.session_requests.specs.declared.trigger.Trigger.TheVariants.{OnChange, OnCheck, OnSelect, OnUncheck}
 use Rattle.session_requests.specs.Acting.{item_seen, trigger_at, trigger_of}
-use Rattle.session_requests.specs.Targets.{IsItemOf, IsTarget, gallery_of, is_gallery}
+use Rattle.session_requests.specs.Targets.{IsItemRow, IsTarget, event_gallery, is_gallery}
 use Rattle.session_requests.specs.declared.target.Item.{Item}
 use Rattle.session_requests.specs.declared.target.Target.{Target}
 use Rattle.session_requests.proofs.Items.{control_lawful, row_fits}
@@ -29,11 +29,11 @@ use Rattle.session_requests.proofs.Judging.{IsTaker}
 -- ---- inputs
 
 sees_none : (a : App) (k : ℕ) (name : List ℕ) (c : ControlName) → slice_get a.names.controls k ≡ Some c → c.gallery ≡ None → acts_for_gallery c.kind (encode_utf8_all name) ≡ false
-    → IsItemFit None (item_of a.names (gallery_seen a k name))
+    → IsItemFit None (item_context a.names (gallery_seen a k name))
 sees_none a k name c there alone plain =
     let none : gallery_seen a k name ≡ None =
     ap (item_in k name) there ∙ ap (λ (o : Option ℕ). item_or o (acts_for_gallery c.kind (encode_utf8_all name)) k) alone ∙ ap (λ (b : Bool). item_or None b k) plain in
-    subst (λ (g : Option ℕ). IsItemFit None (item_of a.names g)) (sym none) tt
+    subst (λ (g : Option ℕ). IsItemFit None (item_context a.names g)) (sym none) tt
 
 changes : (kind : Control) → acts_for_gallery kind (encode_utf8_all (codes "OnChange")) ≡ false
 unfolding lib.Utf8.encode
@@ -97,7 +97,7 @@ selects control.DatePicker = refl
 selects control.Gallery = refl
 
 -- the gallery whose item an event has is the one whose item its formula sees
-same_gallery : (a : App) (k : ℕ) (c : ControlName) → slice_get a.names.controls k ≡ Some c → gallery_seen a k (codes "OnSelect") ≡ gallery_of k c
+same_gallery : (a : App) (k : ℕ) (c : ControlName) → slice_get a.names.controls k ≡ Some c → gallery_seen a k (codes "OnSelect") ≡ event_gallery k c
 same_gallery a k c there = ap (item_in k (codes "OnSelect")) there ∙ ap (λ (b : Bool). item_or c.gallery b k) (selects c.kind)
 
 kind_is : (kind : Control) → is_gallery kind ≡ true → kind ≡ control.Gallery
@@ -117,15 +117,15 @@ own_gallery n k g c None true there at kind e =
 own_gallery n k g c None false there at kind e = absurd cc
 
 -- THE item that an event has fits its formula
-pub event_item : (a : App) (values : ℕ → Data) (t : Target) → IsSound a → CellsFit a values → IsTarget a.names values t → ItemFits a (OnSelect t.control) (item_seen a.names values t.item)
+pub event_item : (a : App) (values : ℕ → Data) (t : Target) → IsSoundApp a → CellsFit a values → IsTarget a.names values t → ItemFits a (OnSelect t.control) (item_seen a.names values t.item)
 event_item a values t sound fits h =
-    subst (λ (g : Option ℕ). IsItemFit (item_seen a.names values t.item) (item_of a.names g)) (sym (same_gallery a t.control h.control h.there)) (by t.item refl h.item)
+    subst (λ (g : Option ℕ). IsItemFit (item_seen a.names values t.item) (item_context a.names g)) (sym (same_gallery a t.control h.control h.there)) (by t.item refl h.item)
   where
-    by : (o : Option Item) → t.item ≡ o → IfSome o (IsItemOf a.names values (gallery_of t.control h.control)) → IsItemFit (item_seen a.names values o) (item_of a.names (gallery_of t.control h.control))
-    by None e q = subst (λ (g : Option ℕ). IsItemFit None (item_of a.names g)) (sym (h.alone e)) tt
+    by : (o : Option Item) → t.item ≡ o → IfSome o (IsItemRow a.names values (event_gallery t.control h.control)) → IsItemFit (item_seen a.names values o) (item_context a.names (event_gallery t.control h.control))
+    by None e q = subst (λ (g : Option ℕ). IsItemFit None (item_context a.names g)) (sym (h.alone e)) tt
     by (Some i) e q =
         let gallery : IsGallery (slice_get a.names.controls i.gallery) =
         own_gallery a.names t.control i.gallery h.control (h.control).gallery (is_gallery (h.control).kind) h.there (control_lawful a.names t.control h.control sound.names h.there).1 refl q.gallery_is in
-        subst (λ (g : Option ℕ). IsItemFit (item_seen a.names values (Some i)) (item_of a.names g)) (sym q.gallery_is)
-        (subst (λ (r : Option Data). IsItemFit r (item_of a.names (Some i.gallery))) (sym (ap (option_map record_of) q.there))
+        subst (λ (g : Option ℕ). IsItemFit (item_seen a.names values (Some i)) (item_context a.names g)) (sym q.gallery_is)
+        (subst (λ (r : Option Data). IsItemFit r (item_context a.names (Some i.gallery))) (sym (ap (option_map record_of) q.there))
         (row_fits a values i.gallery i.at q.row sound fits gallery q.there))

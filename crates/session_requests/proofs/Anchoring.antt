@@ -11,7 +11,7 @@ use Rattle.fx_core.specs.contracts.sources.Source.{the_row as source_row}
 use Rattle.fx_core.specs.declared.sources.Source.{Source}
 use Rattle.session_state.specs.contracts.session.Session.{the_row as session_row}
 use Rattle.session_state.specs.Sessions.{SessionState}
-use Rattle.session_requests.specs.Anchors.{Anchor, anchor, coded_onto, numbered}
+use Rattle.session_requests.specs.WorldIdentity.{WorldIdentity, anchor, coded_onto, identity_code}
 use Rattle.session_requests.specs.Worlds.{fixed_in}
 
 coded_one : (a b : Gv) (xs ys : List (Option ℕ)) → coded_onto a xs ≡ coded_onto b ys → (a ≡ b) × (xs ≡ ys)
@@ -31,14 +31,14 @@ coded_one (gcons a b) (gcons c d) xs ys e =
     (ap (λ z. gcons z b) first.0 ∙ ap (λ z. gcons c z) second.0, second.1)
 
 -- the same in all its parts
-pub record AreOne (a b : Anchor) : Type 0 where
+pub record AreOne (a b : WorldIdentity) : Type 0 where
   pub app : a.app ≡ b.app
   pub moment : a.moment ≡ b.moment
   pub before : a.before ≡ b.before
   pub earlier : a.earlier ≡ b.earlier
 
-one_anchor : (a b : Anchor) → numbered a ≡ numbered b → AreOne a b
-unfolding numbered
+one_anchor : (a b : WorldIdentity) → identity_code a ≡ identity_code b → AreOne a b
+unfolding identity_code
 one_anchor a b e =
     let first = coded_one (app_row.coded.code a.app) (app_row.coded.code b.app) _ _ e in
     let second = coded_one (coded_ℕ.code a.moment) (coded_ℕ.code b.moment) _ _ first.1 in
@@ -53,7 +53,7 @@ one_anchor a b e =
 
 -- ---- what is fixed, of a world as it is left and as it is made
 -- It stands on the same, over what was lent
-pub record AreLent (h g : Anchor) (i c j p k d l q : ℕ) (x y : Option ℕ) : Type 0 where
+pub record AreLent (h g : WorldIdentity) (i c j p k d l q : ℕ) (x y : Option ℕ) : Type 0 where
   pub one : AreOne h g
   pub session : i ≡ k
   pub cache : c ≡ d
@@ -61,7 +61,7 @@ pub record AreLent (h g : Anchor) (i c j p k d l q : ℕ) (x y : Option ℕ) : T
   pub wrote : p ≡ q
   pub loan : x ≡ y
 
-pub lent_same : (h g : Anchor) (i c j p k d l q : ℕ) (x y : Option ℕ) (m n : Bool) → fixed_in h i c j p x m ≡ fixed_in g k d l q y n → AreLent h g i c j p k d l q x y
+pub lent_same : (h g : WorldIdentity) (i c j p k d l q : ℕ) (x y : Option ℕ) (m n : Bool) → fixed_in h i c j p x m ≡ fixed_in g k d l q y n → AreLent h g i c j p k d l q x y
 lent_same h g i c j p k d l q x y m n e =
     let both = ap (λ (f : Fixed). f.loans) e in
     record { one = one_anchor h g cc; session = cc; cache = cc; keeper = cc; wrote = cc; loan = cc }

@@ -10,15 +10,15 @@ use Rattle.session_requests.proofs.RequestFitting.{fits_with}
 use Rattle.fx_core.specs.declared.sources.Source.{Source}
 use Rattle.fx_core.specs.declared.sources.Source.TheVariants as source
 use Rattle.numbered_requests.specs.Checked.{KeepsReply, SessionsKeepReplies}
-use Rattle.numbered_requests.specs.Directory.{is_named, put, put_at}
+use Rattle.numbered_requests.specs.Directory.{is_named, put_named, put_at}
 use Rattle.numbered_requests.specs.declared.directory.Named.{Named}
 use Rattle.session_state.specs.Changes.{FitsNames, FitsSource}
 use Rattle.session_state.specs.Sessions.{SessionState}
 use Rattle.session_state.specs.declared.change.Change.TheVariants as change
 use Rattle.session_state.proofs.Fitting.{fits_made}
-use Rattle.session_requests.specs.Acting.{answered, with_input, with_item_chosen, with_target}
+use Rattle.session_requests.specs.Acting.{session_answered, with_input, with_item_chosen, with_target}
 use Rattle.session_requests.specs.Posting.{SessionsFit}
-use Rattle.session_requests.specs.Targets.{Given}
+use Rattle.session_requests.specs.Targets.{InputValue}
 use Rattle.session_requests.specs.declared.target.Item.{Item}
 use Rattle.session_requests.specs.declared.target.Target.{Target}
 
@@ -56,14 +56,14 @@ fits_chosen : (n : Names) (s : SessionState) (o : Option Item) → FitsNames n s
 fits_chosen n s None f g = f
 fits_chosen n s (Some i) f g = fits_made n (change.Choose i.gallery i.at i.id) s f g
 
-pub input_fits : (n : Names) (s : SessionState) (g : Given) → FitsNames n s → FitsSource n (source.Input g.0) (unwrap_or g.1 blank) → FitsNames n (with_input g s)
+pub input_fits : (n : Names) (s : SessionState) (g : InputValue) → FitsNames n s → FitsSource n (source.Input g.0) (unwrap_or g.1 blank) → FitsNames n (with_input g s)
 input_fits n s g f h = fits_given n s g.0 g.1 f h
 
 pub target_fits : (n : Names) (s : SessionState) (t : Target) → FitsNames n s → IfSome t.item (λ (i : Item). i.gallery < length n.controls) → FitsNames n (with_target t s)
 target_fits n s t f h = fits_chosen n s t.item f h
 
 -- what is kept of its requests is no matter
-pub fits_answered : (n : Names) (s : SessionState) (seq : ℕ) (body said : List ℕ) → FitsNames n s → FitsNames n (answered seq body said s)
+pub fits_answered : (n : Names) (s : SessionState) (seq : ℕ) (body said : List ℕ) → FitsNames n s → FitsNames n (session_answered seq body said s)
 fits_answered n s seq body said f = fits_with n s.navigated (record { last = seq; body = body; reply = said }) s.notices s f
 
 -- ---- all of them
@@ -82,8 +82,8 @@ all_put P None x xs h p = all_more P xs x h p
 all_put P (Some k) x xs h p = all_set P xs k x h p
 
 -- after a request of one
-pub put_fits : (n : Names) (name : List ℕ) (s : SessionState) (sessions : List (Named SessionState)) → SessionsFit n sessions → FitsNames n s → SessionsFit n (put name s sessions)
+pub put_fits : (n : Names) (name : List ℕ) (s : SessionState) (sessions : List (Named SessionState)) → SessionsFit n sessions → FitsNames n s → SessionsFit n (put_named name s sessions)
 put_fits n name s sessions all f = all_put (λ (x : Named SessionState). FitsNames n x.it) (position (is_named name) sessions) (record { name = name; it = s }) sessions all f
 
-pub put_keeps : (name : List ℕ) (s : SessionState) (sessions : List (Named SessionState)) → SessionsKeepReplies sessions → KeepsReply s.kept → SessionsKeepReplies (put name s sessions)
+pub put_keeps : (name : List ℕ) (s : SessionState) (sessions : List (Named SessionState)) → SessionsKeepReplies sessions → KeepsReply s.kept → SessionsKeepReplies (put_named name s sessions)
 put_keeps name s sessions all f = all_put (λ (x : Named SessionState). KeepsReply x.it.kept) (position (is_named name) sessions) (record { name = name; it = s }) sessions all f

@@ -10,14 +10,14 @@ use Rattle.recalc.specs.app_cells.Leaning.{LeansOn, cell_of_property, default_ce
 use Rattle.recalc.specs.app_cells.Spots.{item_or}
 use Rattle.recalc.specs.app_cells.declared.app.App.{App}
 use Rattle.recalc.specs.app_cells.declared.app.CellInfo.{CellInfo}
-use Rattle.recalc.specs.app_semantics.Chosen.{row_at}
-use Rattle.recalc.specs.app_semantics.Fresh.{AreKnown, CanRead, IsByItself, IsValueOf, is_told, standing}
+use Rattle.recalc.specs.app_semantics.Chosen.{row_at_position}
+use Rattle.recalc.specs.app_semantics.Fresh.{AreKnown, CanRead, IsByItself, IsValueOf, is_told, formula_context}
 use Rattle.recalc.specs.app_semantics.Holding.{HoldsFitting}
 use Rattle.recalc.specs.app_semantics.Laws.{OneFreshAt}
 use Rattle.recalc.specs.app_semantics.Needed.{IsFreshAt, Needs, further, is_alone, itself, stands_alone, stands_by}
-use Rattle.recalc.specs.app_semantics.Present.{Gives, Present, given_or, input_of, items_of, unset_at, value_or}
+use Rattle.recalc.specs.app_semantics.Present.{SourceGives, Present, given_or, input_of, items_of, unset_value, cell_value_or}
 use Rattle.recalc.specs.app_semantics.Properties.{IsForItem, IsPropertyForItem, is_true, is_visible, property_value}
-use Rattle.recalc.specs.app_semantics.Sound.{IsSound}
+use Rattle.recalc.specs.app_semantics.Sound.{IsSoundApp}
 use Rattle.recalc.specs.fx_semantics.Around.{record_of}
 use Rattle.recalc.specs.fx_semantics.Rows.{rows_in}
 use Rattle.fx_types.specs.Values.{Data, blank, boolean, no_rows, number, tab}
@@ -26,14 +26,14 @@ use Rattle.fx_core.specs.declared.names.ControlName.{ControlName}
 use Rattle.fx_core.specs.declared.names.Names.{Names}
 use Rattle.fx_core.specs.declared.sources.Source.TheVariants as source
 use Rattle.fx_value.specs.Columns.{Row}
-use Rattle.recalc.specs.Kept.{IsInOrder, Kept, value_of}
-use Rattle.session_state.specs.Sessions.{SessionState, held}
+use Rattle.recalc.specs.Kept.{IsInOrder, CacheState, cached_value}
+use Rattle.session_state.specs.Sessions.{SessionState, stored_value}
 use Rattle.view_text.specs.declared.refused.Refusal.{Refusal}
 use Rattle.session_requests.specs.Acting.{input_trigger, item_seen, trigger_at, with_input}
 use Rattle.session_requests.specs.Caching.{AreFreshAt}
-use Rattle.session_requests.specs.Posting.{EventLooksAt, InputLooksAt, IsPropertyAt, IsShownFor, IsVisibleFor, VisibleLeansOn, gallery_around, shown_by}
-use Rattle.session_requests.specs.Shown.{control_named, is_shown}
-use Rattle.session_requests.specs.Targets.{Given, IsTarget, event_at, event_named, event_target, gallery_of, given_to, greatest_of, has_event, input_at, input_by, input_named, input_target, is_gallery, least_of, bound_of, or_refused, takes_input, with_item, with_row}
+use Rattle.session_requests.specs.Posting.{EventLooksAt, InputLooksAt, IsPropertyAt, IsShownToUser, IsVisibleFor, VisibleLeansOn, gallery_around, shown_by}
+use Rattle.session_requests.specs.Shown.{control_number, is_shown_or_in_shown_gallery}
+use Rattle.session_requests.specs.Targets.{InputValue, IsTarget, event_at, event_named, event_target, event_gallery, value_given_to, greatest_of, has_event, input_at, input_by, input_named, input_target, is_gallery, least_of, bound_of, or_refused, takes_input, with_item, target_row}
 use Rattle.session_requests.specs.declared.event.Event.{Event}
 use Rattle.session_requests.specs.declared.event.Place.{Place}
 use Rattle.session_requests.specs.declared.input.Input.{Input}
@@ -63,29 +63,29 @@ counts_blank false (Some g) P v e b = b
 counts_blank true item P v e b = b
 
 -- such a cell is fresh, since it counts as blank
-bare_fresh : (p : Present) (c : Kept) (k : ℕ) → IsInOrder p.app c → is_alone p.app.cells k ≡ false → IsFreshAt p (value_of c) k
+bare_fresh : (p : Present) (c : CacheState) (k : ℕ) → IsInOrder p.app c → is_alone p.app.cells k ≡ false → IsFreshAt p (cached_value c) k
 bare_fresh p c k order lone = λ d i needs there.
     let is : d ≡ k = needs_only p.app k d lone needs in
     let here : slice_get p.app.cells k ≡ Some i = subst (λ (x : ℕ). slice_get p.app.cells x ≡ Some i) is there in
-    counts_blank i.cell.acts i.cell.item (IsValueOf p (value_of c) None i) (value_of c d) (stands_not p.app.cells k i here lone) (ap (value_of c) is ∙ order.bare k lone)
+    counts_blank i.cell.acts i.cell.item (IsValueOf p (cached_value c) None i) (cached_value c d) (stands_not p.app.cells k i here lone) (ap (cached_value c) is ∙ order.bare k lone)
 
 beyond_alone : (cells : List CellInfo) (k : ℕ) → slice_get cells k ≡ None → is_alone cells k ≡ false
 beyond_alone cells k e = ap (λ (o : Option CellInfo). unwrap_or (option_map stands_alone o) false) e
 
 -- WHAT IS KEPT is fresh where it is looked at, once the cells are up to date that have values by themselves
-pub looked_fresh : (p : Present) (looked : ℕ → Type 0) (c : Kept) → IsInOrder p.app c → ((k : ℕ) → looked k → is_alone p.app.cells k ≡ true → IsFreshAt p (value_of c) k) → AreFreshAt p looked (value_of c)
+pub looked_fresh : (p : Present) (looked : ℕ → Type 0) (c : CacheState) → IsInOrder p.app c → ((k : ℕ) → looked k → is_alone p.app.cells k ≡ true → IsFreshAt p (cached_value c) k) → AreFreshAt p looked (cached_value c)
 looked_fresh p looked c order made = record {
   fresh = λ k l. by k l (is_alone p.app.cells k) refl;
   fits = order.fits;
   beyond = λ k e. order.bare k (beyond_alone p.app.cells k e);
 }
   where
-    by : (k : ℕ) → looked k → (b : Bool) → is_alone p.app.cells k ≡ b → IsFreshAt p (value_of c) k
+    by : (k : ℕ) → looked k → (b : Bool) → is_alone p.app.cells k ≡ b → IsFreshAt p (cached_value c) k
     by k l true e = made k l e
     by k l false e = bare_fresh p c k order e
 
 -- the cells that were brought up to date for an input are those at which its checks look
-pub input_made : (a : App) (i : Input) (k : ℕ) (cells : List ℕ) → control_named i.control a.names ≡ Some k →
+pub input_made : (a : App) (i : Input) (k : ℕ) (cells : List ℕ) → control_number i.control a.names ≡ Some k →
     ((d : ℕ) → IsPropertyAt a (shown_by a k) (codes "Visible") d → is_alone a.cells d ≡ true → Contains cells d) →
     ((d : ℕ) → IsPropertyAt a k (codes "Min") d → is_alone a.cells d ≡ true → Contains cells d) →
     ((d : ℕ) → IsPropertyAt a k (codes "Max") d → is_alone a.cells d ≡ true → Contains cells d) →
@@ -103,7 +103,7 @@ input_made a i k cells named shown least greatest unset d l lone =
     by (inr (inr (inl e))) = greatest d e lone
     by (inr (inr (inr e))) = unset d e lone
 
-pub event_made : (a : App) (e : Event) (k : ℕ) (cells : List ℕ) → control_named e.control a.names ≡ Some k →
+pub event_made : (a : App) (e : Event) (k : ℕ) (cells : List ℕ) → control_number e.control a.names ≡ Some k →
     ((d : ℕ) → IsPropertyAt a (shown_by a k) (codes "Visible") d → is_alone a.cells d ≡ true → Contains cells d) →
     ((d : ℕ) → IsPropertyAt a (shown_by a k) (codes "Items") d → is_alone a.cells d ≡ true → Contains cells d) →
     ((d : ℕ) → VisibleLeansOn a k d → is_alone a.cells d ≡ true → Contains cells d) →
@@ -120,15 +120,15 @@ event_made a e k cells named shown items leaned d l lone =
     by (inr (inr q)) = leaned d q lone
 
 -- no control, and nothing is looked at
-pub input_unnamed : (a : App) (i : Input) (d : ℕ) → control_named i.control a.names ≡ None → InputLooksAt a i d → ⊥
+pub input_unnamed : (a : App) (i : Input) (d : ℕ) → control_number i.control a.names ≡ None → InputLooksAt a i d → ⊥
 input_unnamed a i d none l = let no : Some l.0 ≡ None = sym l.1 ∙ none in absurd cc
 
-pub event_unnamed : (a : App) (e : Event) (d : ℕ) → control_named e.control a.names ≡ None → EventLooksAt a e d → ⊥
+pub event_unnamed : (a : App) (e : Event) (d : ℕ) → control_number e.control a.names ≡ None → EventLooksAt a e d → ⊥
 event_unnamed a e d none l = let no : Some l.0 ≡ None = sym l.1 ∙ none in absurd cc
 
 -- ---- one value of each cell that is looked at
 
-pub agrees : OneFreshAt → (p : Present) (looked : ℕ → Type 0) (values others : ℕ → Data) → IsSound p.app → HoldsFitting p.app.names p.session → AreKnown p.app p.tables → AreFreshAt p looked values → AreFreshAt p looked others →
+pub agrees : OneFreshAt → (p : Present) (looked : ℕ → Type 0) (values others : ℕ → Data) → IsSoundApp p.app → HoldsFitting p.app.names p.session → AreKnown p.app p.tables → AreFreshAt p looked values → AreFreshAt p looked others →
     (k : ℕ) → looked k → others k ≡ values k
 agrees one p looked values others sound holds known x y k l = by (slice_get p.app.cells k) refl
   where
@@ -138,7 +138,7 @@ agrees one p looked values others sound holds known x y k l = by (slice_get p.ap
 
 -- ---- what is looked at decides
 
-value_same : (values others : ℕ → Data) (d : Data) (o : Option ℕ) → ((k : ℕ) → o ≡ Some k → others k ≡ values k) → value_or others d o ≡ value_or values d o
+value_same : (values others : ℕ → Data) (d : Data) (o : Option ℕ) → ((k : ℕ) → o ≡ Some k → others k ≡ values k) → cell_value_or others d o ≡ cell_value_or values d o
 value_same values others d None h = refl
 value_same values others d (Some k) h = h k refl
 
@@ -147,7 +147,7 @@ shown_is : (a : App) (k : ℕ) (c : ControlName) → slice_get a.names.controls 
 shown_is a k c there = ap (λ (o : Option ℕ). unwrap_or o k) (sym (around a.names k c there))
 
 shown_same : (a : App) (s : SessionState) (values others : ℕ → Data) (k : ℕ) (c : ControlName) → slice_get a.names.controls k ≡ Some c →
-    ((d : ℕ) → IsPropertyAt a (shown_by a k) (codes "Visible") d → others d ≡ values d) → is_shown a.names s others k c ≡ is_shown a.names s values k c
+    ((d : ℕ) → IsPropertyAt a (shown_by a k) (codes "Visible") d → others d ≡ values d) → is_shown_or_in_shown_gallery a.names s others k c ≡ is_shown_or_in_shown_gallery a.names s values k c
 shown_same a s values others k c there h =
     ap (λ (v : Data). (c.screen == s.screen) && is_true v)
     (value_same values others (boolean true) (cell_of_property a.names (unwrap_or c.gallery k) (codes "Visible"))
@@ -155,44 +155,44 @@ shown_same a s values others k c there h =
 
 -- ---- inputs
 
-input_at_same : (a : App) (s : SessionState) (values others : ℕ → Data) (i : Input) (k : ℕ) (o : Option ControlName) → control_named i.control a.names ≡ Some k → slice_get a.names.controls k ≡ o →
+input_at_same : (a : App) (s : SessionState) (values others : ℕ → Data) (i : Input) (k : ℕ) (o : Option ControlName) → control_number i.control a.names ≡ Some k → slice_get a.names.controls k ≡ o →
     ((d : ℕ) → InputLooksAt a i d → others d ≡ values d) → input_at a.names s others i k o ≡ input_at a.names s values i k o
 input_at_same a s values others i k None named there h = refl
 input_at_same a s values others i k (Some c) named there h =
     let shown = shown_same a s values others k c there (λ d e. h d (k, named, inl e)) in
     let least : least_of a.names others k ≡ least_of a.names values k = ap bound_of (value_same values others (number (pos 0)) (cell_of_property a.names k (codes "Min")) (λ d e. h d (k, named, inr (inl e)))) in
     let greatest : greatest_of a.names others k ≡ greatest_of a.names values k = ap bound_of (value_same values others (number (pos 1000000)) (cell_of_property a.names k (codes "Max")) (λ d e. h d (k, named, inr (inr (inl e))))) in
-    λ j. or_refused (takes_input c) 16 (or_refused (shown j) 17 (given_to k (input_by c.kind (least j) (greatest j) i.value)))
+    λ j. or_refused (takes_input c) 16 (or_refused (shown j) 17 (value_given_to k (input_by c.kind (least j) (greatest j) i.value)))
 
 pub input_same : (a : App) (s : SessionState) (values others : ℕ → Data) (i : Input) → ((d : ℕ) → InputLooksAt a i d → others d ≡ values d) → input_target a.names s others i ≡ input_target a.names s values i
-input_same a s values others i h = by (control_named i.control a.names) refl
+input_same a s values others i h = by (control_number i.control a.names) refl
   where
-    by : (o : Option ℕ) → control_named i.control a.names ≡ o → input_named a.names s others i o ≡ input_named a.names s values i o
+    by : (o : Option ℕ) → control_number i.control a.names ≡ o → input_named a.names s others i o ≡ input_named a.names s values i o
     by None e = refl
     by (Some k) e = input_at_same a s values others i k (slice_get a.names.controls k) e refl h
 
 -- the control that an input is of is the one that it names
-at_number : (n : Names) (s : SessionState) (values : ℕ → Data) (i : Input) (k : ℕ) (o : Option ControlName) (g : Given) → input_at n s values i k o ≡ Ok g → k ≡ g.0
+at_number : (n : Names) (s : SessionState) (values : ℕ → Data) (i : Input) (k : ℕ) (o : Option ControlName) (g : InputValue) → input_at n s values i k o ≡ Ok g → k ≡ g.0
 at_number n s values i k None g e = absurd cc
 at_number n s values i k (Some c) g e =
-    let rest = given_to k (input_by c.kind (least_of n values k) (greatest_of n values k) i.value) in
-    let a = or_ok Given (takes_input c) 16 (or_refused (is_shown n s values k c) 17 rest) g e in
-    let b = or_ok Given (is_shown n s values k c) 17 rest g a.1 in
+    let rest = value_given_to k (input_by c.kind (least_of n values k) (greatest_of n values k) i.value) in
+    let a = or_ok InputValue (takes_input c) 16 (or_refused (is_shown_or_in_shown_gallery n s values k c) 17 rest) g e in
+    let b = or_ok InputValue (is_shown_or_in_shown_gallery n s values k c) 17 rest g a.1 in
     sym (given_ok k (input_by c.kind (least_of n values k) (greatest_of n values k) i.value) g b.1).0
 
-pub input_number : (n : Names) (s : SessionState) (values : ℕ → Data) (i : Input) (g : Given) → input_target n s values i ≡ Ok g → control_named i.control n ≡ Some g.0
-input_number n s values i g e = by (control_named i.control n) e
+pub input_number : (n : Names) (s : SessionState) (values : ℕ → Data) (i : Input) (g : InputValue) → input_target n s values i ≡ Ok g → control_number i.control n ≡ Some g.0
+input_number n s values i g e = by (control_number i.control n) e
   where
     by : (o : Option ℕ) → input_named n s values i o ≡ Ok g → o ≡ Some g.0
     by None e = absurd cc
     by (Some k) e = ap (λ (j : ℕ). Some j) (at_number n s values i k (slice_get n.controls k) g e)
 
 -- what acts as an input is accepted
-pub trigger_same : (a : App) (s r : SessionState) (values others : ℕ → Data) (i : Input) (g : Given) → input_target a.names s values i ≡ Ok g → ((d : ℕ) → InputLooksAt a i d → others d ≡ values d) →
+pub trigger_same : (a : App) (s r : SessionState) (values others : ℕ → Data) (i : Input) (g : InputValue) → input_target a.names s values i ≡ Ok g → ((d : ℕ) → InputLooksAt a i d → others d ≡ values d) →
     input_trigger a.names r others g.0 ≡ input_trigger a.names r values g.0
 trigger_same a s r values others i g e h =
-    ap (λ (v : Data). trigger_at (slice_get a.names.controls g.0) g.0 (is_true (given_or (held r (source.Input g.0)) v)))
-    (value_same values others (unset_at (slice_get a.names.controls g.0)) (default_cell a.names g.0) (λ d q. h d (g.0, input_number a.names s values i g e, inr (inr (inr q)))))
+    ap (λ (v : Data). trigger_at (slice_get a.names.controls g.0) g.0 (is_true (given_or (stored_value r (source.Input g.0)) v)))
+    (value_same values others (unset_value (slice_get a.names.controls g.0)) (default_cell a.names g.0) (λ d q. h d (g.0, input_number a.names s values i g e, inr (inr (inr q)))))
 
 -- ---- events
 
@@ -200,7 +200,7 @@ items_same : (a : App) (values others : ℕ → Data) (g : ℕ) → ((d : ℕ) �
 items_same a values others g h = value_same values others (tab no_rows) (items_cell a.names g) h
 
 -- the gallery of an item is what its control is shown by
-gallery_shown : (a : App) (k : ℕ) (c : ControlName) (g : ℕ) → slice_get a.names.controls k ≡ Some c → gallery_of k c ≡ Some g → shown_by a k ≡ g
+gallery_shown : (a : App) (k : ℕ) (c : ControlName) (g : ℕ) → slice_get a.names.controls k ≡ Some c → event_gallery k c ≡ Some g → shown_by a k ≡ g
 gallery_shown a k c g there e = sym (shown_is a k c there) ∙ by c.gallery e
   where
     by : (o : Option ℕ) → item_or o (is_gallery c.kind) k ≡ Some g → unwrap_or o k ≡ g
@@ -214,23 +214,23 @@ gallery_shown a k c g there e = sym (shown_is a k c there) ∙ by c.gallery e
 item_same : (a : App) (values others : ℕ → Data) (k : ℕ) (given : Option Place) (gallery : Option ℕ) → ((g : ℕ) → gallery ≡ Some g → items_of a.names others g ≡ items_of a.names values g) →
     with_item a.names others k given gallery ≡ with_item a.names values k given gallery
 item_same a values others k None None h = refl
-item_same a values others k (Some p) (Some g) h = ap (λ (v : Data). with_row k g p (row_at p.at (rows_in v))) (h g refl)
+item_same a values others k (Some p) (Some g) h = ap (λ (v : Data). target_row k g p (row_at_position p.at (rows_in v))) (h g refl)
 item_same a values others k None (Some g) h = refl
 item_same a values others k (Some p) None h = refl
 
-event_at_same : (a : App) (s : SessionState) (values others : ℕ → Data) (e : Event) (k : ℕ) (o : Option ControlName) → control_named e.control a.names ≡ Some k → slice_get a.names.controls k ≡ o →
+event_at_same : (a : App) (s : SessionState) (values others : ℕ → Data) (e : Event) (k : ℕ) (o : Option ControlName) → control_number e.control a.names ≡ Some k → slice_get a.names.controls k ≡ o →
     ((d : ℕ) → EventLooksAt a e d → others d ≡ values d) → event_at a.names s others e k o ≡ event_at a.names s values e k o
 event_at_same a s values others e k None named there h = refl
 event_at_same a s values others e k (Some c) named there h =
     let shown = shown_same a s values others k c there (λ d q. h d (k, named, inl q)) in
-    let item = item_same a values others k e.item (gallery_of k c)
+    let item = item_same a values others k e.item (event_gallery k c)
     (λ g own. items_same a values others g (λ d q. h d (k, named, inr (inl (subst (λ (j : ℕ). IsPropertyAt a j (codes "Items") d) (sym (gallery_shown a k c g there own)) q))))) in
     λ j. or_refused (has_event e.event c.kind) 16 (or_refused (shown j) 17 (item j))
 
 pub event_same : (a : App) (s : SessionState) (values others : ℕ → Data) (e : Event) → ((d : ℕ) → EventLooksAt a e d → others d ≡ values d) → event_target a.names s others e ≡ event_target a.names s values e
-event_same a s values others e h = by (control_named e.control a.names) refl
+event_same a s values others e h = by (control_number e.control a.names) refl
   where
-    by : (o : Option ℕ) → control_named e.control a.names ≡ o → event_named a.names s others e o ≡ event_named a.names s values e o
+    by : (o : Option ℕ) → control_number e.control a.names ≡ o → event_named a.names s others e o ≡ event_named a.names s values e o
     by None q = refl
     by (Some k) q = event_at_same a s values others e k (slice_get a.names.controls k) q refl h
 
@@ -238,7 +238,7 @@ event_same a s values others e h = by (control_named e.control a.names) refl
 number_of_item : (n : Names) (values : ℕ → Data) (k : ℕ) (given : Option Place) (gallery : Option ℕ) (t : Target) → with_item n values k given gallery ≡ Ok t → k ≡ t.control
 number_of_item n values k None None t e = let same : record { control = k; item = None } ≡ t = cc in ap (λ (x : Target). x.control) same
 number_of_item n values k (Some p) (Some g) t e =
-    let row = row_ok k g p (row_at p.at (rows_in (items_of n values g))) t e in
+    let row = row_ok k g p (row_at_position p.at (rows_in (items_of n values g))) t e in
     ap (λ (x : Target). x.control) row.2
 number_of_item n values k None (Some g) t e = absurd cc
 number_of_item n values k (Some p) None t e = absurd cc
@@ -246,20 +246,20 @@ number_of_item n values k (Some p) None t e = absurd cc
 event_at_number : (n : Names) (s : SessionState) (values : ℕ → Data) (e : Event) (k : ℕ) (o : Option ControlName) (t : Target) → event_at n s values e k o ≡ Ok t → k ≡ t.control
 event_at_number n s values e k None t h = absurd cc
 event_at_number n s values e k (Some c) t h =
-    let rest = with_item n values k e.item (gallery_of k c) in
-    let a = or_ok Target (has_event e.event c.kind) 16 (or_refused (is_shown n s values k c) 17 rest) t h in
-    let b = or_ok Target (is_shown n s values k c) 17 rest t a.1 in
-    number_of_item n values k e.item (gallery_of k c) t b.1
+    let rest = with_item n values k e.item (event_gallery k c) in
+    let a = or_ok Target (has_event e.event c.kind) 16 (or_refused (is_shown_or_in_shown_gallery n s values k c) 17 rest) t h in
+    let b = or_ok Target (is_shown_or_in_shown_gallery n s values k c) 17 rest t a.1 in
+    number_of_item n values k e.item (event_gallery k c) t b.1
 
-pub event_number : (n : Names) (s : SessionState) (values : ℕ → Data) (e : Event) (t : Target) → event_target n s values e ≡ Ok t → control_named e.control n ≡ Some t.control
-event_number n s values e t h = by (control_named e.control n) h
+pub event_number : (n : Names) (s : SessionState) (values : ℕ → Data) (e : Event) (t : Target) → event_target n s values e ≡ Ok t → control_number e.control n ≡ Some t.control
+event_number n s values e t h = by (control_number e.control n) h
   where
     by : (o : Option ℕ) → event_named n s values e o ≡ Ok t → o ≡ Some t.control
     by None q = absurd cc
     by (Some k) q = ap (λ (j : ℕ). Some j) (event_at_number n s values e k (slice_get n.controls k) t q)
 
 -- the row that the formula of an event sees
-pub seen_same : (a : App) (values others : ℕ → Data) (e : Event) (t : Target) → IsTarget a.names values t → control_named e.control a.names ≡ Some t.control → ((d : ℕ) → EventLooksAt a e d → others d ≡ values d) →
+pub seen_same : (a : App) (values others : ℕ → Data) (e : Event) (t : Target) → IsTarget a.names values t → control_number e.control a.names ≡ Some t.control → ((d : ℕ) → EventLooksAt a e d → others d ≡ values d) →
     item_seen a.names others t.item ≡ item_seen a.names values t.item
 seen_same a values others e t is named h = by t.item refl
   where
@@ -267,7 +267,7 @@ seen_same a values others e t is named h = by t.item refl
     by None q = refl
     by (Some i) q =
         let own = gallery_shown a t.control is.control i.gallery is.there (item_is a.names values t i is q).gallery_is in
-        ap (λ (v : Data). option_map record_of (row_at i.at (rows_in v)))
+        ap (λ (v : Data). option_map record_of (row_at_position i.at (rows_in v)))
         (items_same a values others i.gallery (λ d p. h d (t.control, named, inr (inl (subst (λ (j : ℕ). IsPropertyAt a j (codes "Items") d) (sym own) p)))))
 
 -- ---- whether a control is visible for an item
@@ -275,7 +275,7 @@ seen_same a values others e t is named h = by t.item refl
 value_over : (p : Present) (values others : ℕ → Data) (item : Data) (c : CellInfo) (v : Data) → ((d : ℕ) → LeansOn p.app.names c d → values d ≡ others d) → IsValueOf p values (Some item) c v → IsValueOf p others (Some item) c v
 value_over p values others item c v h y =
     where_map _ (is_told p.tables c.reads)
-    (stays (λ r d. CanRead c.reads r × Gives p others r d) (limited p.app.names.schema.tables p.app.limit 0 false c.core) (standing p values c.reads (Some item)) v
+    (stays (λ r d. CanRead c.reads r × SourceGives p others r d) (limited p.app.names.schema.tables p.app.limit 0 false c.core) (formula_context p values c.reads (Some item)) v
     (λ r d g. (g.0, gives_agrees p values others r d (λ e q. h e (r, read_behind p.app.names c.reads r e g.0 q, q)) g.1))) y
 
 property_over : (p : Present) (values others : ℕ → Data) (item : Data) (k : ℕ) (v : Data) → ((d : ℕ) → VisibleLeansOn p.app k d → values d ≡ others d) →
@@ -290,17 +290,17 @@ visible_over : (p : Present) (values others : ℕ → Data) (k g at : ℕ) (b : 
     IsVisibleFor p others k g at b → IsVisibleFor p values k g at b
 visible_over p values others k g at b items h x = record {
   row = x.row;
-  there = ap (λ (v : Data). row_at at (rows_in v)) (sym items) ∙ x.there;
+  there = ap (λ (v : Data). row_at_position at (rows_in v)) (sym items) ∙ x.there;
   value = x.value;
   is_value = property_over p others values (record_of x.row) k x.value h x.is_value;
   is = x.is;
 }
 
-pub shown_over : (p : Present) (values others : ℕ → Data) (e : Event) (k : ℕ) (item : Option Item) (b : Bool) → control_named e.control p.app.names ≡ Some k → ((d : ℕ) → EventLooksAt p.app e d → others d ≡ values d) →
-    IsShownFor p others k (gallery_around p.app k) item b → IsShownFor p values k (gallery_around p.app k) item b
+pub shown_over : (p : Present) (values others : ℕ → Data) (e : Event) (k : ℕ) (item : Option Item) (b : Bool) → control_number e.control p.app.names ≡ Some k → ((d : ℕ) → EventLooksAt p.app e d → others d ≡ values d) →
+    IsShownToUser p others k (gallery_around p.app k) item b → IsShownToUser p values k (gallery_around p.app k) item b
 shown_over p values others e k item b named h x = by (gallery_around p.app k) item refl x
   where
-    by : (o : Option ℕ) (i : Option Item) → gallery_around p.app k ≡ o → IsShownFor p others k o i b → IsShownFor p values k o i b
+    by : (o : Option ℕ) (i : Option Item) → gallery_around p.app k ≡ o → IsShownToUser p others k o i b → IsShownToUser p values k o i b
     by (Some g) (Some i) own y =
         let is : shown_by p.app k ≡ g = ap (λ (q : Option ℕ). unwrap_or q k) own in
         visible_over p values others k g i.at b

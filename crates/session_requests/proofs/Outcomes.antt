@@ -8,12 +8,12 @@ use Rattle.recalc.specs.app_semantics.Holding.{FittingHolds, HoldRows, HoldsFitt
 use Rattle.recalc.specs.app_semantics.Laws.{OneFreshAt}
 use Rattle.recalc.specs.app_semantics.Present.{Present, present}
 use Rattle.recalc.specs.app_semantics.Properties.{IsPropertyForItem, is_true}
-use Rattle.recalc.specs.app_semantics.Sound.{IsSound}
+use Rattle.recalc.specs.app_semantics.Sound.{IsSoundApp}
 use Rattle.fx_types.specs.Values.{Data, boolean}
 use Rattle.recalc.specs.fx_semantics.Around.{record_of}
 use Rattle.recalc.specs.fx_semantics.Unique.{OneValue}
 use Rattle.fx_value.specs.Columns.{Row}
-use Rattle.fx_base.specs.Silence.{Goes, IsLost}
+use Rattle.fx_base.specs.Silence.{MayFallSilent, SilenceCause}
 use Rattle.fx_base.specs.Telling.{Stays}
 use Rattle.fx_core.specs.declared.schema.Schema.{Schema}
 use Rattle.row_keeper.specs.Tables.{AreStatesOf, Tables, rows_told}
@@ -25,7 +25,7 @@ use Rattle.session_state.specs.Changes.{FitsNames}
 use Rattle.session_state.specs.Sessions.{SessionState}
 use Rattle.view_text.specs.declared.refused.Refusal.{Refusal}
 use Rattle.numbered_requests.specs.Checks.{checks, if_live, session_of}
-use Rattle.numbered_requests.specs.Directory.{find, put}
+use Rattle.numbered_requests.specs.Directory.{find, put_named}
 use Rattle.numbered_requests.specs.declared.directory.Named.{Named}
 use Rattle.recalc.specs.Values.{CellsFit}
 use Rattle.fx_types.specs.ValueCode.{data_code}
@@ -39,15 +39,15 @@ use Rattle.session_requests.specs.EventLaws.{OneRunning}
 use Rattle.session_requests.proofs.Items.{target_is}
 use Rattle.session_requests.proofs.Looked.{agrees, event_number, event_same, input_same, seen_same, shown_over, trigger_same}
 use Rattle.session_requests.specs.Requests.{accepted_reply}
-use Rattle.session_requests.specs.Scenes.{Scene, begun, quiet, scene}
+use Rattle.session_requests.specs.Scenes.{TablesAndSession, begun, quiet, scene}
 use Rattle.session_requests.specs.declared.trigger.Trigger.{Trigger}
 use Rattle.session_requests.specs.declared.trigger.Trigger.TheVariants.{OnSelect}
-use Rattle.session_requests.specs.Acting.{EndsEvent, EndsInput, TakesEffect, answered, input_trigger, item_seen, with_input, with_target}
+use Rattle.session_requests.specs.Acting.{EndsEvent, EndsInput, TakesEffect, session_answered, input_trigger, item_seen, with_input, with_target}
 use Rattle.session_requests.specs.Bodies.{event_in, input_in}
 use Rattle.session_requests.specs.Laws.{IsOneOutcome}
 use Rattle.recalc.proofs.ForItems.{Ground, property_one}
-use Rattle.session_requests.specs.Posting.{EventLooksAt, InputLooksAt, IsShownFor, IsVerdict, IsVisibleFor, PostsEventChecked, PostsInputChecked, SendsEvent, SendsInput, gallery_around}
-use Rattle.session_requests.specs.Targets.{Given, event_target, input_target, or_refused}
+use Rattle.session_requests.specs.Posting.{EventLooksAt, InputLooksAt, IsShownToUser, IsVerdict, IsVisibleFor, PostsEventChecked, PostsInputChecked, SendsEvent, SendsInput, gallery_around}
+use Rattle.session_requests.specs.Targets.{InputValue, event_target, input_target, or_refused}
 use Rattle.session_requests.specs.declared.event.Event.{Event}
 use Rattle.session_requests.specs.declared.input.Input.{Input}
 use Rattle.session_requests.specs.declared.target.Item.{Item}
@@ -59,7 +59,7 @@ Alike said said' u v a a' b b' = (said ≡ said') × (u ≡ v) × (a ≡ b → a
 
 -- an app and a session of it of which the laws hold
 pub record IsGood (p : Present) : Type 0 where
-  pub sound : IsSound p.app
+  pub sound : IsSoundApp p.app
   pub holds : HoldsFitting p.app.names p.session
   pub known : AreKnown p.app p.tables
 
@@ -76,7 +76,7 @@ one_visible one p values k g at b b' good fits x y =
     x.is ∙ ap is_true value ∙ sym y.is
 
 one_shown : OneValue → (p : Present) (values : ℕ → Data) (k : ℕ) (gallery : Option ℕ) (item : Option Item) (b b' : Bool) → IsGood p → CellsFit p.app values
-    → IsShownFor p values k gallery item b → IsShownFor p values k gallery item b' → b ≡ b'
+    → IsShownToUser p values k gallery item b → IsShownToUser p values k gallery item b' → b ≡ b'
 one_shown one p values k (Some g) (Some i) b b' good fits x y = one_visible one p values k g i.at b b' good fits x y
 one_shown one p values k (Some g) None b b' good fits x y = x ∙ sym y
 one_shown one p values k None item b b' good fits x y = x ∙ sym y
@@ -107,7 +107,7 @@ module _ (p : Present) (values others : ℕ → Data) where
   verdict_over s e (Err f) v is h x = x
   verdict_over s e (Ok t) v is h x = (x.0, shown_over p values others e t.control t.item x.0 (event_number p.app.names s values e t is) h x.1, x.2)
 
-  inputs_over : (lost : Type 0) (moment : ℕ) (name body : List ℕ) (seq : ℕ) (s : SessionState) (i : Input) (r : Result Given Refusal) (told told' : Option Tables) (sessions sessions' : List (Named SessionState)) (said : List ℕ)
+  inputs_over : (lost : Type 0) (moment : ℕ) (name body : List ℕ) (seq : ℕ) (s : SessionState) (i : Input) (r : Result InputValue Refusal) (told told' : Option Tables) (sessions sessions' : List (Named SessionState)) (said : List ℕ)
       → input_target p.app.names s values i ≡ r → ((d : ℕ) → InputLooksAt p.app i d → others d ≡ values d)
       → EndsInput lost p.app moment name body seq s others r told sessions said told' sessions' → EndsInput lost p.app moment name body seq s values r told sessions said told' sessions'
   inputs_over lost moment name body seq s i (Err f) told told' sessions sessions' said is h x = x
@@ -140,7 +140,7 @@ pub known_of : (app : App) (t : Tables) → AreSound app.names.schema (Some t) �
 known_of app t sound = record { told = λ k c f. refl; fit = hold app.names.schema t sound }
 
 -- what is told at the end was told as the checks were made, and is what was told at first
-seen_is : (lost : Type 0) (t u : Tables) (seen told' : Option Tables) → told' ≡ Some u → (seen ≡ None → told' ≡ None) → Goes lost Stays (Some t) seen → seen ≡ Some t
+seen_is : (lost : Type 0) (t u : Tables) (seen told' : Option Tables) → told' ≡ Some u → (seen ≡ None → told' ≡ None) → MayFallSilent lost Stays (Some t) seen → seen ≡ Some t
 seen_is lost t u (Some x) told' is quiet h = ap (λ (y : Tables). Some y) h
 seen_is lost t u None told' is quiet h = let none : Some u ≡ None = sym is ∙ quiet refl in absurd cc
 
@@ -155,10 +155,10 @@ effects_alike : OneRunning → (lost lost' : Type 0) (app : App) (moment : ℕ) 
     → TakesEffect lost app moment trigger item name body seq s (Some t) a said (Some u) a' → TakesEffect lost' app moment trigger item name body seq s (Some t) b said' (Some v) b' → Alike said said' u v a a' b b'
 effects_alike one lost lost' app moment trigger item name body seq s t u v a a' b b' said said' x y =
     let w = one app moment trigger item (scene t (begun s)) (scene u x.accepts.end) (scene v y.accepts.end) x.accepts.value y.accepts.value x.accepts.runs y.accepts.runs in
-    let ends : x.accepts.end ≡ y.accepts.end = ap (λ (e : Scene). e.session) w.1 in
+    let ends : x.accepts.end ≡ y.accepts.end = ap (λ (e : TablesAndSession). e.session) w.1 in
     let words : said ≡ said' = x.accepts.said_is ∙ (λ i. accepted_reply seq (w.0 i) (ends i)) ∙ sym y.accepts.said_is in
     let left : x.end ≡ y.end = x.accepts.left ∙ ap quiet ends ∙ sym y.accepts.left in
-    (words, ap (λ (e : Scene). e.tables) w.1, λ e. x.kept ∙ (λ i. put name (answered seq body (words i) (left i)) (e i)) ∙ sym y.kept)
+    (words, ap (λ (e : TablesAndSession). e.tables) w.1, λ e. x.kept ∙ (λ i. put_named name (session_answered seq body (words i) (left i)) (e i)) ∙ sym y.kept)
 
 -- ---- one outcome
 
@@ -172,7 +172,7 @@ refused_alike t u v words words' said said' a a' b b' same x y =
     (x.0 ∙ same ∙ sym y.0, tables, λ e. x.1 ∙ e ∙ sym y.1)
 
 module _ (running : OneRunning) (lost lost' : Type 0) (app : App) (moment : ℕ) (name body : List ℕ) (seq : ℕ) (s : SessionState) (values : ℕ → Data) where
-  input_quiet : (v : Result Given Refusal) (seen told' : Option Tables) (sessions sessions' : List (Named SessionState)) (said : List ℕ) → EndsInput lost app moment name body seq s values v seen sessions said told' sessions' → seen ≡ None → told' ≡ None
+  input_quiet : (v : Result InputValue Refusal) (seen told' : Option Tables) (sessions sessions' : List (Named SessionState)) (said : List ℕ) → EndsInput lost app moment name body seq s values v seen sessions said told' sessions' → seen ≡ None → told' ≡ None
   input_quiet (Err r) seen told' sessions sessions' said h e = h.2 ∙ e
   input_quiet (Ok g) seen told' sessions sessions' said h e =
       effect_quiet lost app moment (input_trigger app.names (with_input g s) values g.0) None name body seq (with_input g s) seen told' sessions sessions' said e h
@@ -182,7 +182,7 @@ module _ (running : OneRunning) (lost lost' : Type 0) (app : App) (moment : ℕ)
   event_quiet (Ok t) seen told' sessions sessions' said h e =
       effect_quiet lost app moment (OnSelect t.control) (item_seen app.names values t.item) name body seq (with_target t s) seen told' sessions sessions' said e h
 
-  input_ends : (r : Result Given Refusal) (t u v : Tables) (a a' b b' : List (Named SessionState)) (said said' : List ℕ)
+  input_ends : (r : Result InputValue Refusal) (t u v : Tables) (a a' b b' : List (Named SessionState)) (said said' : List ℕ)
       → EndsInput lost app moment name body seq s values r (Some t) a said (Some u) a' → EndsInput lost' app moment name body seq s values r (Some t) b said' (Some v) b' → Alike said said' u v a a' b b'
   input_ends (Err f) t u v a a' b b' said said' x y = refused_alike t u v _ _ said said' a a' b b' refl x y
   input_ends (Ok g) t u v a a' b b' said said' x y =
@@ -202,7 +202,7 @@ pub record Uses : Type 1 where
   pub running : OneRunning
 
 module _ (laws : Uses) (lost lost' : Type 0) (app : App) (moment : ℕ) (name body : List ℕ) (t u v : Tables) (a a' b b' : List (Named SessionState)) (said said' : List ℕ)
-    (sound : IsSound app) (fits : (s : SessionState) → find name a ≡ Some s → FitsNames app.names s) (same : find name a ≡ find name b) (rows : AreSound app.names.schema (Some t)) where
+    (sound : IsSoundApp app) (fits : (s : SessionState) → find name a ≡ Some s → FitsNames app.names s) (same : find name a ≡ find name b) (rows : AreSound app.names.schema (Some t)) where
   good : (s : SessionState) → find name a ≡ Some s → IsGood (present app s (rows_told (Some t)) moment)
   good s found = record { sound = sound; holds = laws.holds app.names s (fits s found); known = known_of app t rows }
 
@@ -221,7 +221,7 @@ module _ (laws : Uses) (lost lost' : Type 0) (app : App) (moment : ℕ) (name bo
       input_ends laws.running lost lost' app moment name body i.seq x.session x.values (input_target app.names x.session x.values i) t u v a a' b b' said said'
       (subst (λ (o : Option Tables). EndsInput lost app moment name body i.seq x.session x.values (input_target app.names x.session x.values i) o a said (Some u) a') first x.ends)
       (inputs_over p x.values y.values lost' moment name body i.seq x.session i (input_target app.names x.session x.values i) (Some t) (Some v) b b' said' refl same
-      (subst (λ (r : Result Given Refusal). EndsInput lost' app moment name body i.seq x.session y.values r (Some t) b said' (Some v) b') (input_same app x.session x.values y.values i same)
+      (subst (λ (r : Result InputValue Refusal). EndsInput lost' app moment name body i.seq x.session y.values r (Some t) b said' (Some v) b') (input_same app x.session x.values y.values i same)
       (subst (λ (s : SessionState). EndsInput lost' app moment name body i.seq s y.values (input_target app.names s y.values i) (Some t) b said' (Some v) b') one
       (subst (λ (o : Option Tables). EndsInput lost' app moment name body i.seq y.session y.values (input_target app.names y.session y.values i) o b said' (Some v) b') second y.ends))))
 
@@ -255,8 +255,8 @@ module _ (laws : Uses) (lost lost' : Type 0) (app : App) (moment : ℕ) (name bo
 
 pub one_outcome : Uses → IsOneOutcome
 one_outcome laws before now before' now' app moment name body said said' t u v a b a' b' sound fits same rows = (
-  λ x y. inputs_alike laws (IsLost before now) (IsLost before' now') app moment name body t u v a b a' b' said said' sound fits same rows (checks input_in (λ (i : Input). i.seq) (session_of name a) body) x
-      (subst (λ (o : Option SessionState). PostsInputChecked (IsLost before' now') app moment name body (checks input_in (λ (i : Input). i.seq) (if_live o) body) (Some t) a' said' (Some v) b') (sym same) y),
-  λ x y. events_alike laws (IsLost before now) (IsLost before' now') app moment name body t u v a b a' b' said said' sound fits same rows (checks event_in (λ (e : Event). e.seq) (session_of name a) body) x
-      (subst (λ (o : Option SessionState). PostsEventChecked (IsLost before' now') app moment name body (checks event_in (λ (e : Event). e.seq) (if_live o) body) (Some t) a' said' (Some v) b') (sym same) y),
+  λ x y. inputs_alike laws (SilenceCause before now) (SilenceCause before' now') app moment name body t u v a b a' b' said said' sound fits same rows (checks input_in (λ (i : Input). i.seq) (session_of name a) body) x
+      (subst (λ (o : Option SessionState). PostsInputChecked (SilenceCause before' now') app moment name body (checks input_in (λ (i : Input). i.seq) (if_live o) body) (Some t) a' said' (Some v) b') (sym same) y),
+  λ x y. events_alike laws (SilenceCause before now) (SilenceCause before' now') app moment name body t u v a b a' b' said said' sound fits same rows (checks event_in (λ (e : Event). e.seq) (session_of name a) body) x
+      (subst (λ (o : Option SessionState). PostsEventChecked (SilenceCause before' now') app moment name body (checks event_in (λ (e : Event). e.seq) (if_live o) body) (Some t) a' said' (Some v) b') (sym same) y),
 )

@@ -6,18 +6,18 @@ use Rattle.std.proofs.lemmas.Bool.{and_parts, eqb-true, ltb-true}
 use Rattle.std.proofs.lemmas.Slice.Eq.{bytes_eq-Decides}
 use Rattle.std.proofs.lemmas.List.Sums.{passes_at_first}
 use Rattle.std.proofs.lemmas.Option.{get_or_from_slice_get}
-use Rattle.recalc.specs.app_cells.Spots.{IsPlaced, IsSpot, acts, acts_for_gallery, acts_in, item_in, item_of, item_or}
+use Rattle.recalc.specs.app_cells.Spots.{IsPlaced, IsSpot, can_act, acts_for_gallery, acts_in, item_in, gallery_seen, item_or}
 use Rattle.recalc.specs.app_cells.declared.app.App.{App}
 use Rattle.recalc.specs.app_cells.declared.app.CellInfo.{CellInfo}
 use Rattle.recalc.specs.app_cells.declared.cell.Spot.{Spot}
 use Rattle.recalc.specs.app_cells.declared.cell.Spot.TheVariants as spot
-use Rattle.recalc.specs.app_semantics.Sound.{IsSound, frame_in}
+use Rattle.recalc.specs.app_semantics.Sound.{IsSoundApp, frame_in}
 use Rattle.fx_types.specs.declared.controls.Control.{Control}
 use Rattle.fx_types.specs.declared.controls.Control.TheVariants as control
 use Rattle.fx_core.specs.Controls.{has_property, is_behaviour}
 use Rattle.fx_core.specs.Lawful.{Has}
 use Rattle.fx_core.specs.declared.names.ControlName.{ControlName}
-use Rattle.session_requests.specs.Triggers.{cell_at, gallery_at, gallery_of, is_at, is_property}
+use Rattle.session_requests.specs.Triggers.{cell_at, gallery_at, trigger_gallery, is_at, is_property_named}
 use Rattle.session_requests.specs.declared.trigger.Trigger.{Trigger}
 use Rattle.session_requests.specs.declared.trigger.Trigger.TheVariants.{OnStart, OnVisible, OnSelect, OnChange, OnCheck, OnUncheck}
 
@@ -71,9 +71,9 @@ item_by_name k None p name e = refl
 
 -- ---- the place of a trigger
 abbrev ActsFor : App → Option ℕ → Spot → Type 0
-ActsFor a gallery s = (acts (frame_in a) s ≡ true) × (item_of (frame_in a) s ≡ gallery)
+ActsFor a gallery s = (can_act (frame_in a) s ≡ true) × (gallery_seen (frame_in a) s ≡ gallery)
 
-property_acts : (a : App) (k : ℕ) (name : List ℕ) (s : Spot) → NeverPure name → encode_utf8_all name ≡ name → is_property k name s ≡ true → IsSpot (frame_in a) s → ActsFor a (gallery_of a k name) s
+property_acts : (a : App) (k : ℕ) (name : List ℕ) (s : Spot) → NeverPure name → encode_utf8_all name ≡ name → is_property_named k name s ≡ true → IsSpot (frame_in a) s → ActsFor a (trigger_gallery a k name) s
 property_acts a k name (spot.Property c p) law own e h =
     let w = and_parts (c == k) (bytes_eq (encode_utf8_all p) name) e in
     let same : c ≡ k = eqb-true c k w.0 in
@@ -118,7 +118,7 @@ passes test xs k x e h = by (nat_lt (position_or_len test xs) (length xs)) refl 
     by false l q = absurd cc
 
 -- THE CELL OF A TRIGGER acts, and sees the item of the trigger's gallery
-pub trigger_acts : (a : App) (t : Trigger) (k : ℕ) (c : CellInfo) → IsSound a → cell_at t a ≡ Some k → slice_get a.cells k ≡ Some c → (c.cell.acts ≡ true) × (c.cell.item ≡ gallery_at a t)
+pub trigger_acts : (a : App) (t : Trigger) (k : ℕ) (c : CellInfo) → IsSoundApp a → cell_at t a ≡ Some k → slice_get a.cells k ≡ Some c → (c.cell.acts ≡ true) × (c.cell.item ≡ gallery_at a t)
 trigger_acts a t k c sound at there =
     let placed : IsPlaced (frame_in a) c.cell = sound.placed k c there in
     let w = spot_acts a t c.cell.spot (passes (λ (i : CellInfo). is_at t i.cell.spot) a.cells k c at there) placed.spot in

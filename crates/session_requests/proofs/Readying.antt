@@ -3,11 +3,11 @@ use Rattle.std.proofs.Common.{◌≡◌, ℕ, Bool, true, false, List, Option, N
 use Rattle.std.proofs.Math.Logic.{∥∥₁_elim, ∥∥₁_map, ∥∥₁_prop}
 use Rattle.std.specs.Prelude.{IsSome, option_map, unwrap_or}
 use Rattle.std.specs.List.{slice_get}
-use Rattle.fx_base.specs.Silence.{Goes}
+use Rattle.fx_base.specs.Silence.{MayFallSilent}
 use Rattle.fx_base.specs.Telling.{Stays}
 use Rattle.fx_types.specs.Types.{Shape, tables}
 use Rattle.fx_types.specs.Values.{Data, blank}
-use Rattle.fx_deeds.specs.State.{AreReady, State}
+use Rattle.fx_deeds.specs.State.{AreReady, WorldState}
 use Rattle.fx_env.specs.Telling.{values_told}
 use Rattle.fx_scalar.specs.ScalarFunctions.{IsToday}
 use Rattle.fx_core.specs.Reads.{IsAmong}
@@ -21,17 +21,17 @@ use Rattle.recalc.specs.app_cells.Leaning.{cell_behind}
 use Rattle.recalc.specs.app_cells.declared.app.CellInfo.{CellInfo}
 use Rattle.recalc.specs.app_semantics.Fresh.{IsByItself, IsCellValue, IsValueOf}
 use Rattle.recalc.specs.app_semantics.Needed.{IsFreshAt, Needs, further, is_alone, itself, stands_alone, stands_by}
-use Rattle.recalc.specs.app_semantics.Present.{Gives, IsTable, Present, present}
-use Rattle.recalc.specs.app_semantics.Sound.{IsSound}
+use Rattle.recalc.specs.app_semantics.Present.{SourceGives, GivesTable, Present, present}
+use Rattle.recalc.specs.app_semantics.Sound.{IsSoundApp}
 use Rattle.recalc.specs.app_semantics.Telling.{table_told, told_on}
 use Rattle.recalc.specs.app_cells.declared.app.App.{App}
 use Rattle.recalc.specs.Reading.{cell_value}
-use Rattle.row_keeper.specs.Tables.{AreStatesOf, Tables, rows_of}
+use Rattle.row_keeper.specs.Tables.{AreStatesOf, Tables, rows_of_tables}
 use Rattle.row_queries.specs.declared.rows.Row.{Row}
 use Rattle.row_requests.specs.Sound.{AreSound}
 use Rattle.session_state.specs.Changes.{FitsNames}
 use Rattle.session_state.specs.Sessions.{SessionState}
-use Rattle.session_requests.specs.Grounds.{Grounds, IsFit, IsFreshBehind, gives, state_on}
+use Rattle.session_requests.specs.WorldContext.{WorldContext, IsFit, IsFreshBehind, source_gives, state_on}
 use Rattle.session_requests.specs.WorldLaws.{state_told}
 use Rattle.session_requests.specs.Worlds.{told_in}
 
@@ -41,17 +41,17 @@ pub not_heard : (d : Option Tables) → d ≡ None → IsSome d → ⊥
 not_heard d e h = let no = subst (λ (z : Option Tables). IsSome z) e h in absurd cc
 
 -- tables that fit do so still
-pub sound_stays : (lost : Type 0) (s : Schema) (x y : Option Tables) → Goes lost Stays x y → AreSound s x → AreSound s y
+pub sound_stays : (lost : Type 0) (s : Schema) (x y : Option Tables) → MayFallSilent lost Stays x y → AreSound s x → AreSound s y
 sound_stays lost s None y h f = subst (λ (o : Option Tables). AreSound s o) (sym h) f
 sound_stays lost s (Some t) None h f = tt
 sound_stays lost s (Some t) (Some u) h f = subst (λ (z : Tables). AreStatesOf s.tables z.states) (sym h) f
 
 -- ---- what is ready
 given_now : (a : App) (moment : ℕ) (day : Data) (s : SessionState) (rows : List (List Row)) (values : ℕ → Data) (x : Source) (t : Shape) → IsToday moment day → sources a.names x ≡ Some t →
-    Gives (present a s (Some rows) moment) values x (told_on day a.names s (Some rows) values x)
+    SourceGives (present a s (Some rows) moment) values x (told_on day a.names s (Some rows) values x)
 given_now a moment day s rows values (source.Table k) t is e = by (slice_get a.names.schema.tables k) e
   where
-    by : (o : Option TableShape) → option_map (λ (x : TableShape). tables (columns_of x)) o ≡ Some t → IsTable o (Some rows) k (table_told o (Some rows) k)
+    by : (o : Option TableShape) → option_map (λ (x : TableShape). tables (columns_of x)) o ≡ Some t → GivesTable o (Some rows) k (table_told o (Some rows) k)
     by (Some y) e = refl
     by None e = absurd cc
 given_now a moment day s rows values (source.Cell k) t is e = refl
@@ -66,24 +66,24 @@ given_now a moment day s rows values source.Today t is e = is
 abbrev pub AreFreshBehind : App → SessionState → Option Tables → ℕ → (ℕ → Data) → List Source → Type 0
 AreFreshBehind a s told m values reads = (tables : ToldRows) (x : Source) → IsHeardOf told tables → IsAmong x reads → IsFreshBehind (present a s tables m) values x
 
-pub ready_now : (day : Data) (g : Grounds) (s : SessionState) (values : List Data) (ws : List Source) (reads : List Source) (y : Option Tables) →
-    IsSound g.app → FitsNames g.app.names s → AreSound g.app.names.schema y → ∥ IsToday g.moment day ∥₁ → ∥ AreFreshBehind g.app s y g.moment (cell_value values) reads ∥₁ →
-    AreReady (sources g.app.names) gives reads (state_told (option_map (told_in day g s values ws) y)) (values_told (option_map (told_in day g s values ws) y))
+pub ready_now : (day : Data) (g : WorldContext) (s : SessionState) (values : List Data) (ws : List Source) (reads : List Source) (y : Option Tables) →
+    IsSoundApp g.app → FitsNames g.app.names s → AreSound g.app.names.schema y → ∥ IsToday g.moment day ∥₁ → ∥ AreFreshBehind g.app s y g.moment (cell_value values) reads ∥₁ →
+    AreReady (sources g.app.names) source_gives reads (state_told (option_map (told_in day g s values ws) y)) (values_told (option_map (told_in day g s values ws) y))
 ready_now day g s values ws reads y accepted fits sound today fresh = by y sound fresh
   where
     one : (t : Tables) (x : Source) (u : Shape) → IsFit g.app s t → ∥ AreFreshBehind g.app s (Some t) g.moment (cell_value values) reads ∥₁ → IsAmong x reads → sources g.app.names x ≡ Some u →
-        gives (state_on g t s ws) x (told_on day g.app.names s (Some (rows_of t.states)) (cell_value values) x)
+        source_gives (state_on g t s ws) x (told_on day g.app.names s (Some (rows_of_tables t.states)) (cell_value values) x)
     one t x u fit f among e =
         ∥∥₁_elim today ∥∥₁_prop (λ is. ∥∥₁_map f (λ h.
-        (fit, cell_value values, h (Some (rows_of t.states)) x refl among, given_now g.app g.moment day s (rows_of t.states) (cell_value values) x u is e)))
+        (fit, cell_value values, h (Some (rows_of_tables t.states)) x refl among, given_now g.app g.moment day s (rows_of_tables t.states) (cell_value values) x u is e)))
 
     by : (y : Option Tables) → AreSound g.app.names.schema y → ∥ AreFreshBehind g.app s y g.moment (cell_value values) reads ∥₁ →
-        AreReady (sources g.app.names) gives reads (state_told (option_map (told_in day g s values ws) y)) (values_told (option_map (told_in day g s values ws) y))
+        AreReady (sources g.app.names) source_gives reads (state_told (option_map (told_in day g s values ws) y)) (values_told (option_map (told_in day g s values ws) y))
     by None k f st told p q x u among e = absurd cc
     by (Some t) k f st told p q x u among e =
         let p' : state_on g t s ws ≡ st = cc in
-        let q' : told_on day g.app.names s (Some (rows_of t.states)) (cell_value values) ≡ told = cc in
-        subst (λ (z : State Grounds). gives z x (told x)) p' (subst (λ (f : Source → Data). gives (state_on g t s ws) x (f x)) q' (one t x u (record { accepted = accepted; session = fits; tables = k }) f among e))
+        let q' : told_on day g.app.names s (Some (rows_of_tables t.states)) (cell_value values) ≡ told = cc in
+        subst (λ (z : WorldState WorldContext). source_gives z x (told x)) p' (subst (λ (f : Source → Data). source_gives (state_on g t s ws) x (f x)) q' (one t x u (record { accepted = accepted; session = fits; tables = k }) f among e))
 
 -- ---- the cells behind what is read
 -- a formula that has no value by itself needs no other

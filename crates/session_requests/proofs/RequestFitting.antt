@@ -2,7 +2,7 @@
 use Rattle.std.proofs.Common.{◌≡◌, ℕ, ◌<◌, Bool, true, false, List, [], length, get_or, Option, Some, refl, ap, sym, ◌∙◌, subst}
 use Rattle.std.specs.Prelude.{slice_get}
 use Rattle.std.proofs.lemmas.Option.{slice_get_read}
-use Rattle.session_requests.specs.Performing.{IsActing}
+use Rattle.session_requests.specs.Performing.{IsActingCell}
 use Rattle.fx_types.specs.TypeView.{shape}
 use Rattle.fx_types.specs.Values.{Data}
 use Rattle.fx_semantics.specs.Laws.{AllTypingsLawful}
@@ -10,14 +10,14 @@ use Rattle.fx_semantics.specs.Sound.{IsItemFit}
 use Rattle.fx_core.specs.declared.names.Names.{Names}
 use Rattle.fx_core.specs.declared.sources.Source.{Source}
 use Rattle.fx_core.specs.declared.sources.Source.TheVariants as source
-use Rattle.fx_typing.specs.Typing.{item_of}
+use Rattle.fx_typing.specs.Typing.{item_context}
 use Rattle.fx_value.specs.Fits.{fits_in}
 use Rattle.recalc.specs.app_cells.declared.app.App.{App}
 use Rattle.recalc.specs.app_cells.declared.app.CellInfo.{CellInfo}
-use Rattle.recalc.specs.app_semantics.Sound.{IsSound, context_at}
+use Rattle.recalc.specs.app_semantics.Sound.{IsSoundApp, context_at}
 use Rattle.session_state.specs.Changes.{FitsNames}
-use Rattle.session_state.specs.Once.{Kept, nobody}
-use Rattle.session_state.specs.Sessions.{Holds, SessionState, held}
+use Rattle.session_state.specs.Once.{LastRequest, nobody}
+use Rattle.session_state.specs.Sessions.{Holds, SessionState, stored_value}
 use Rattle.session_requests.specs.Scenes.{arrived, begun, quiet, unasked}
 use Rattle.session_requests.specs.Triggers.{ItemFits, cell_at}
 use Rattle.session_requests.specs.declared.trigger.Trigger.{Trigger}
@@ -25,10 +25,10 @@ use Rattle.session_requests.proofs.Placed.{trigger_acts}
 
 -- ---- what a request leaves beside what its session holds
 
-abbrev pub with_rest : Bool → Kept → List (List ℕ) → SessionState → SessionState
+abbrev pub with_rest : Bool → LastRequest → List (List ℕ) → SessionState → SessionState
 with_rest b k ns s = record s { navigated = b; kept = k; notices = ns }
 
-still_holds : (b : Bool) (k : Kept) (ns : List (List ℕ)) (s : SessionState) (x : Source) → Holds s x → Holds (with_rest b k ns s) x
+still_holds : (b : Bool) (k : LastRequest) (ns : List (List ℕ)) (s : SessionState) (x : Source) → Holds s x → Holds (with_rest b k ns s) x
 still_holds b k ns s (source.Global j) h = h
 still_holds b k ns s (source.Context j) h = h
 still_holds b k ns s (source.Gathered j) h = h
@@ -38,7 +38,7 @@ still_holds b k ns s (source.Chosen j) h = h
 still_holds b k ns s (source.Table j) h = h
 still_holds b k ns s source.Today h = h
 
-pub still_held : (b : Bool) (k : Kept) (ns : List (List ℕ)) (s : SessionState) (x : Source) → held (with_rest b k ns s) x ≡ held s x
+pub still_held : (b : Bool) (k : LastRequest) (ns : List (List ℕ)) (s : SessionState) (x : Source) → stored_value (with_rest b k ns s) x ≡ stored_value s x
 still_held b k ns s (source.Global j) = refl
 still_held b k ns s (source.Context j) = refl
 still_held b k ns s (source.Gathered j) = refl
@@ -49,7 +49,7 @@ still_held b k ns s (source.Table j) = refl
 still_held b k ns s source.Today = refl
 
 -- it fits, whatever its notices, its last request and where it navigated
-pub fits_with : (n : Names) (b : Bool) (k : Kept) (ns : List (List ℕ)) (s : SessionState) → FitsNames n s → FitsNames n (with_rest b k ns s)
+pub fits_with : (n : Names) (b : Bool) (k : LastRequest) (ns : List (List ℕ)) (s : SessionState) → FitsNames n s → FitsNames n (with_rest b k ns s)
 fits_with n b k ns s f = record {
   screen = f.screen;
   controls = f.controls;
@@ -85,13 +85,13 @@ pub there_at : (cells lent : List CellInfo) (k : ℕ) (c : CellInfo) → lent �
 there_at cells lent k c same l e = slice_get_read cells (length cells) k c refl l (e ∙ ap (λ (xs : List CellInfo). get_or xs k c) same)
 
 -- the formula of a trigger can be performed
-pub is_acting : AllTypingsLawful → (a : App) (trigger : Trigger) (k : ℕ) (c : CellInfo) → IsSound a → cell_at trigger a ≡ Some k → slice_get a.cells k ≡ Some c → IsActing a c
+pub is_acting : AllTypingsLawful → (a : App) (trigger : Trigger) (k : ℕ) (c : CellInfo) → IsSoundApp a → cell_at trigger a ≡ Some k → slice_get a.cells k ≡ Some c → IsActingCell a c
 is_acting law a trigger k c sound at there =
     let cell = sound.cells k c there in
     let can = cell.acting (trigger_acts a trigger k c sound at there).0 in
     record { typed = cell.typed; lawful = law (context_at a.names c.cell.item) c.core (shape c.ty) cell.typed can.context can.lawful; placed = can.placed }
 
 -- its item fits
-pub item_fits : (a : App) (trigger : Trigger) (item : Option Data) (k : ℕ) (c : CellInfo) → IsSound a → cell_at trigger a ≡ Some k → slice_get a.cells k ≡ Some c → ItemFits a trigger item
-    → IsItemFit item (item_of a.names c.cell.item)
-item_fits a trigger item k c sound at there h = subst (λ (g : Option ℕ). IsItemFit item (item_of a.names g)) (sym (trigger_acts a trigger k c sound at there).1) h
+pub item_fits : (a : App) (trigger : Trigger) (item : Option Data) (k : ℕ) (c : CellInfo) → IsSoundApp a → cell_at trigger a ≡ Some k → slice_get a.cells k ≡ Some c → ItemFits a trigger item
+    → IsItemFit item (item_context a.names c.cell.item)
+item_fits a trigger item k c sound at there h = subst (λ (g : Option ℕ). IsItemFit item (item_context a.names g)) (sym (trigger_acts a trigger k c sound at there).1) h

@@ -2,7 +2,7 @@
 use Rattle.std.proofs.Common.{◌≡◌, ◌≢◌, ℕ, List, Option, Some, None, Result, Ok, Err, ap, ◌∙◌, subst}
 use Rattle.fx_types.specs.Values.{Data}
 use Rattle.recalc.specs.app_cells.declared.app.App.{App}
-use Rattle.session_state.specs.Once.{Kept}
+use Rattle.session_state.specs.Once.{LastRequest}
 use Rattle.session_state.specs.Sessions.{SessionState}
 use Rattle.view_text.specs.declared.refused.Refusal.{Refusal}
 use Rattle.numbered_requests.specs.Checks.{IsLastAsked, checks, if_live, session_of}
@@ -12,12 +12,12 @@ use Rattle.numbered_requests.proofs.Again.{comes_again}
 use Rattle.numbered_requests.proofs.Directories.{find_other}
 use Rattle.session_requests.specs.declared.trigger.Trigger.{Trigger}
 use Rattle.session_requests.specs.declared.trigger.Trigger.TheVariants.{OnSelect}
-use Rattle.session_requests.specs.Acting.{EndsEvent, EndsInput, TakesEffect, answered, input_trigger, item_seen, with_input, with_target}
+use Rattle.session_requests.specs.Acting.{EndsEvent, EndsInput, TakesEffect, session_answered, input_trigger, item_seen, with_input, with_target}
 use Rattle.session_requests.specs.Bodies.{event_in, input_in}
 use Rattle.row_keeper.specs.Tables.{Tables}
 use Rattle.session_requests.specs.Laws.{Repeats}
 use Rattle.session_requests.specs.Posting.{PostsEvent, PostsEventChecked, PostsInput, PostsInputChecked}
-use Rattle.session_requests.specs.Targets.{Given, input_target}
+use Rattle.session_requests.specs.Targets.{InputValue, input_target}
 use Rattle.session_requests.specs.declared.event.Event.{Event}
 use Rattle.session_requests.specs.declared.input.Input.{Input}
 use Rattle.session_requests.specs.declared.target.Target.{Target}
@@ -25,9 +25,9 @@ use Rattle.session_requests.specs.declared.target.Target.{Target}
 effect_leaves : (lost : Type 0) (app : App) (moment : ℕ) (trigger : Trigger) (item : Option Data) (name other body : List ℕ) (seq : ℕ) (s : SessionState) (told : Option Tables) (sessions : List (Named SessionState)) (said : List ℕ) (told' : Option Tables) (sessions' : List (Named SessionState))
     → name ≢ other → TakesEffect lost app moment trigger item name body seq s told sessions said told' sessions' → find other sessions' ≡ find other sessions
 effect_leaves lost app moment trigger item name other body seq s told sessions said told' sessions' differ h =
-    ap (λ (l : List (Named SessionState)). find other l) h.kept ∙ find_other SessionState name other (answered seq body said h.end) sessions differ
+    ap (λ (l : List (Named SessionState)). find other l) h.kept ∙ find_other SessionState name other (session_answered seq body said h.end) sessions differ
 
-input_ends : (lost : Type 0) (app : App) (moment : ℕ) (name other body : List ℕ) (seq : ℕ) (s : SessionState) (values : ℕ → Data) (v : Result Given Refusal) (told : Option Tables) (sessions : List (Named SessionState)) (said : List ℕ) (told' : Option Tables) (sessions' : List (Named SessionState))
+input_ends : (lost : Type 0) (app : App) (moment : ℕ) (name other body : List ℕ) (seq : ℕ) (s : SessionState) (values : ℕ → Data) (v : Result InputValue Refusal) (told : Option Tables) (sessions : List (Named SessionState)) (said : List ℕ) (told' : Option Tables) (sessions' : List (Named SessionState))
     → name ≢ other → EndsInput lost app moment name body seq s values v told sessions said told' sessions' → find other sessions' ≡ find other sessions
 input_ends lost app moment name other body seq s values (Err r) told sessions said told' sessions' differ h = ap (λ (l : List (Named SessionState)). find other l) h.1
 input_ends lost app moment name other body seq s values (Ok g) told sessions said told' sessions' differ h =
@@ -68,7 +68,7 @@ pub once : (lost : Type 0) (app : App) (moment : ℕ) (name said : List ℕ) (s 
     × (IsLastAsked Event event_in (λ (e : Event). e.seq) s.kept → PostsEvent lost app moment name s.kept.body told sessions said told' sessions' → Repeats s.kept said told told' sessions sessions')
 once lost app moment name said s told told' sessions sessions' e = (
   λ last h. subst (λ (r : Result Input (List ℕ)). PostsInputChecked lost app moment name s.kept.body r told sessions said told' sessions')
-      (ap (λ (c : Result Kept ℕ). checks input_in (λ (i : Input). i.seq) c s.kept.body) (live name s sessions e) ∙ comes_again Input input_in (λ (i : Input). i.seq) s.kept last) h,
+      (ap (λ (c : Result LastRequest ℕ). checks input_in (λ (i : Input). i.seq) c s.kept.body) (live name s sessions e) ∙ comes_again Input input_in (λ (i : Input). i.seq) s.kept last) h,
   λ last h. subst (λ (r : Result Event (List ℕ)). PostsEventChecked lost app moment name s.kept.body r told sessions said told' sessions')
-      (ap (λ (c : Result Kept ℕ). checks event_in (λ (e : Event). e.seq) c s.kept.body) (live name s sessions e) ∙ comes_again Event event_in (λ (e : Event). e.seq) s.kept last) h,
+      (ap (λ (c : Result LastRequest ℕ). checks event_in (λ (e : Event). e.seq) c s.kept.body) (live name s sessions e) ∙ comes_again Event event_in (λ (e : Event). e.seq) s.kept last) h,
 )

@@ -21,26 +21,26 @@ use Rattle.recalc.proofs.of_app_semantics.Freshness.{told_given}
 use Rattle.recalc.proofs.of_app_semantics.Given.{given_fits}
 use Rattle.recalc.specs.app_semantics.Holding.{HoldsFitting}
 use Rattle.recalc.specs.app_semantics.Present.{present}
-use Rattle.recalc.specs.app_semantics.Sound.{IsSound}
+use Rattle.recalc.specs.app_semantics.Sound.{IsSoundApp}
 use Rattle.recalc.specs.app_semantics.Telling.{table_told, told_on}
 use Rattle.recalc.specs.app_cells.declared.app.App.{App}
 use Rattle.recalc.specs.Queries.{IsTableValue}
 use Rattle.recalc.specs.Reading.{cell_value, told_by}
 use Rattle.recalc.specs.Values.{CellsFit}
-use Rattle.row_keeper.specs.Tables.{Tables, rows_of, rows_told}
+use Rattle.row_keeper.specs.Tables.{Tables, rows_of_tables, rows_told}
 use Rattle.row_queries.specs.Laws.{RowsFit}
-use Rattle.row_queries.specs.TableRows.{table_of}
+use Rattle.row_queries.specs.TableRows.{rows_table}
 use Rattle.row_queries.specs.declared.rows.Row.{Row}
 use Rattle.session_state.specs.Changes.{FitsNames, IsOwn}
 use Rattle.session_state.specs.Sessions.{Holds, SessionState}
-use Rattle.session_requests.specs.Grounds.{Grounds}
-use Rattle.session_requests.specs.Worlds.{FitsAll, IsNoTable, told_in}
+use Rattle.session_requests.specs.WorldContext.{WorldContext}
+use Rattle.session_requests.specs.Worlds.{FitsAll, IsNoTableSource, told_in}
 
 -- ---- what sources are worth fits
 pub holding : (n : Names) (s : SessionState) → FitsNames n s → HoldsFitting n s
 holding n s f = record { sources_held = f.sources_held; values_fit = f.values_fit }
 
-pub all_fit : (a : App) → IsSound a → FitsAll a
+pub all_fit : (a : App) → IsSoundApp a → FitsAll a
 all_fit a sound s moment day values x t fits cells today apart e =
     ∥∥₁_elim today (Bool-set _ _) (λ is.
     given_fits (present a s None moment) (cell_value values) x t (told_on day a.names s None (cell_value values) x) sound (holding a.names s fits) tt (λ d c behind there. cells d c there) e
@@ -55,7 +55,7 @@ own_held n s x f h own = by (sources n x) refl h
     by None e h = absurd cc
 
 -- what a table gives
-pub table_given : RowsFit → (day : Data) (g : Grounds) (s : SessionState) (values : List Data) (ws : List Source) (y : Option Tables) (k : ℕ) (x : Source) (v : Data) →
+pub table_given : RowsFit → (day : Data) (g : WorldContext) (s : SessionState) (values : List Data) (ws : List Source) (y : Option Tables) (k : ℕ) (x : Source) (v : Data) →
     IsLawfulSchema g.app.names.schema → x ≡ source.Table k → IsTableValue g.app.names.schema.tables (rows_told y) k v →
     GivesTold (sources g.app.names) (values_told (option_map (told_in day g s values ws) y)) x v
 table_given fit day g s values ws y k x v lawful e h =
@@ -72,10 +72,10 @@ table_given fit day g s values ws y k x v lawful e h =
 
     by : (y : Option Tables) → IsTableValue g.app.names.schema.tables (rows_told y) k v → IsTold (values_told (option_map (told_in day g s values ws) y)) (source.Table k) v
     by None t = tt
-    by (Some a) t = t.is ∙ ap (table_of t.table) t.told_rows ∙ sym (ap (λ (o : Option TableShape). table_told o (Some (rows_of a.states)) k) t.is_table)
+    by (Some a) t = t.is ∙ ap (rows_table t.table) t.told_rows ∙ sym (ap (λ (o : Option TableShape). table_told o (Some (rows_of_tables a.states)) k) t.is_table)
 
 -- what another source gives
-told_same : (day : Data) (n : Names) (s : SessionState) (values : ℕ → Data) (rows : List (List Row)) (x : Source) → IsNoTable x → told_on day n s None values x ≡ told_on day n s (Some rows) values x
+told_same : (day : Data) (n : Names) (s : SessionState) (values : ℕ → Data) (rows : List (List Row)) (x : Source) → IsNoTableSource x → told_on day n s None values x ≡ told_on day n s (Some rows) values x
 told_same day n s values rows (source.Cell k) u = refl
 told_same day n s values rows (source.Global k) u = refl
 told_same day n s values rows (source.Context k) u = refl
@@ -85,8 +85,8 @@ told_same day n s values rows (source.Chosen k) u = refl
 told_same day n s values rows (source.Table k) u = absurd (u k refl)
 told_same day n s values rows source.Today u = refl
 
-pub other_given : (day : Data) (g : Grounds) (s : SessionState) (values : List Data) (ws : List Source) (y : Option Tables) (x : Source) (v : Data) → FitsAll g.app → FitsNames g.app.names s →
-    CellsFit g.app (cell_value values) → ∥ IsToday g.moment day ∥₁ → IsNoTable x → IsSome (sources g.app.names x) → v ≡ told_by day g.app.names s values x →
+pub other_given : (day : Data) (g : WorldContext) (s : SessionState) (values : List Data) (ws : List Source) (y : Option Tables) (x : Source) (v : Data) → FitsAll g.app → FitsNames g.app.names s →
+    CellsFit g.app (cell_value values) → ∥ IsToday g.moment day ∥₁ → IsNoTableSource x → IsSome (sources g.app.names x) → v ≡ told_by day g.app.names s values x →
     GivesTold (sources g.app.names) (values_told (option_map (told_in day g s values ws) y)) x v
 other_given day g s values ws y x v all fits cells today apart h e = (typed (sources g.app.names x) refl h, by y)
   where
@@ -96,4 +96,4 @@ other_given day g s values ws y x v all fits cells today apart h e = (typed (sou
 
     by : (y : Option Tables) → IsTold (values_told (option_map (told_in day g s values ws) y)) x v
     by None = tt
-    by (Some a) = e ∙ told_same day g.app.names s (cell_value values) (rows_of a.states) x apart
+    by (Some a) = e ∙ told_same day g.app.names s (cell_value values) (rows_of_tables a.states) x apart

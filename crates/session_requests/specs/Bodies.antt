@@ -2,7 +2,7 @@
 use Rattle.std.specs.Prelude.{ℕ, ◌==◌, ◌≤◌, IfSome, List, Bool, true, false, codes, Option, Some, None, option_and_then, option_map, if◌then◌else◌}
 use Rattle.serde_json.specs.Data as json
 use Rattle.serde_json.specs.Find.{get}
-use Rattle.numbered_requests.specs.GivenValues.{member_count, number_at, text_at, value_in}
+use Rattle.numbered_requests.specs.GivenValues.{member_count, member_number, member_text, value_in}
 use Rattle.session_requests.specs.declared.event.Event.{Event}
 use Rattle.session_requests.specs.declared.event.Place.{Place}
 use Rattle.session_requests.specs.declared.input.Input.{Input}
@@ -18,25 +18,25 @@ is_null None = false
 
 -- an id: a number, or null where there is none
 abbrev pub id_at : List ℕ → json.Data → Option (Option ℕ)
-id_at key d = if is_null (get key d) then Some None else option_map (λ n. Some n) (number_at key d)
+id_at key d = if is_null (get key d) then Some None else option_map (λ n. Some n) (member_number key d)
 
 -- `{"at":..}` or `{"at":..,"id":..}`
-abbrev pub place_in : json.Data → Option Place
-place_in d =
-    if member_count d == 1 then option_map (λ at. record { at = at; id = None }) (number_at (codes "at") d)
-    else (if member_count d == 2 then option_and_then (λ at. option_map (λ id. record { at = at; id = Some id }) (id_at (codes "id") d)) (number_at (codes "at") d)
+abbrev pub place_member : json.Data → Option Place
+place_member d =
+    if member_count d == 1 then option_map (λ at. record { at = at; id = None }) (member_number (codes "at") d)
+    else (if member_count d == 2 then option_and_then (λ at. option_map (λ id. record { at = at; id = Some id }) (id_at (codes "id") d)) (member_number (codes "at") d)
     else None)
 
 -- what an event has beside its item
 abbrev pub event_with : Option Place → json.Data → Option Event
 event_with item d =
-    option_and_then (λ seq. option_and_then (λ control. option_map (λ event. record { seq = seq; control = control; event = event; item = item }) (text_at (codes "event") d)) (text_at (codes "control") d)) (number_at (codes "seq") d)
+    option_and_then (λ seq. option_and_then (λ control. option_map (λ event. record { seq = seq; control = control; event = event; item = item }) (member_text (codes "event") d)) (member_text (codes "control") d)) (member_number (codes "seq") d)
 
 -- `{"seq":..,"control":..,"event":..}`, and perhaps `"item":..`
 abbrev pub event_in : json.Data → Option Event
 event_in d =
     if member_count d == 3 then event_with None d
-    else (if member_count d == 4 then option_and_then (λ item. event_with (Some item) d) (option_and_then place_in (get (codes "item") d))
+    else (if member_count d == 4 then option_and_then (λ item. event_with (Some item) d) (option_and_then place_member (get (codes "item") d))
     else None)
 
 -- an event has a number from 1, and so has the position of its item
@@ -48,5 +48,5 @@ pub record IsSoundEvent (e : Event) : Type 0 where
 abbrev pub input_in : json.Data → Option Input
 input_in d =
     if member_count d == 3 then
-    option_and_then (λ seq. option_and_then (λ control. option_map (λ j. record { seq = seq; control = control; value = value_in j }) (get (codes "value") d)) (text_at (codes "control") d)) (number_at (codes "seq") d)
+    option_and_then (λ seq. option_and_then (λ control. option_map (λ j. record { seq = seq; control = control; value = value_in j }) (get (codes "value") d)) (member_text (codes "control") d)) (member_number (codes "seq") d)
     else None

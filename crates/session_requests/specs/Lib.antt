@@ -6,19 +6,19 @@ pub mod Posting
 pub mod Shown
 pub mod Targets
 pub use Rattle.recalc.specs as recalc
-pub mod Grounds
+pub mod WorldContext
 pub mod Performing
 pub mod Worlds
 pub mod WorldLaws
-pub mod Facts
+pub mod Propositions
 pub mod OneActing
 pub mod Triggers
 pub mod Scenes
 pub mod Running
 pub mod Writable
-pub mod Whole
+pub mod WrittenWhole
 pub mod Requests
 pub mod Transactions
 pub mod Opening
 pub mod EventLaws
-pub mod Anchors
+pub mod WorldIdentity

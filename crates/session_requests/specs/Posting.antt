@@ -4,7 +4,7 @@ use Rattle.std.specs.List.{AllByRecursion}
 use Rattle.recalc.specs.app_cells.Leaning.{LeansOn, cell_of_property, default_cell}
 use Rattle.recalc.specs.app_cells.declared.app.App.{App}
 use Rattle.recalc.specs.app_cells.declared.app.CellInfo.{CellInfo}
-use Rattle.recalc.specs.app_semantics.Chosen.{row_at}
+use Rattle.recalc.specs.app_semantics.Chosen.{row_at_position}
 use Rattle.recalc.specs.app_semantics.Present.{Present, items_of, present}
 use Rattle.recalc.specs.app_semantics.Properties.{IsPropertyForItem, is_true}
 use Rattle.fx_types.specs.Values.{Data, boolean}
@@ -17,7 +17,7 @@ use Rattle.fx_core.specs.declared.sources.Source.{Source}
 use Rattle.numbered_requests.specs.Checks.{checks, session_of}
 use Rattle.numbered_requests.specs.Directory.{find}
 use Rattle.numbered_requests.specs.declared.directory.Named.{Named}
-use Rattle.fx_base.specs.Silence.{Goes}
+use Rattle.fx_base.specs.Silence.{MayFallSilent}
 use Rattle.fx_base.specs.Telling.{Stays}
 use Rattle.row_keeper.specs.Tables.{Tables, rows_told}
 use Rattle.session_state.specs.Changes.{FitsNames}
@@ -26,7 +26,7 @@ use Rattle.view_text.specs.declared.refused.Refusal.{Refusal}
 use Rattle.session_requests.specs.Acting.{EndsEvent, EndsInput, EventWrites, InputWrites}
 use Rattle.session_requests.specs.Bodies.{event_in, input_in}
 use Rattle.session_requests.specs.Caching.{AreFreshAt}
-use Rattle.session_requests.specs.Shown.{control_named}
+use Rattle.session_requests.specs.Shown.{control_number}
 use Rattle.session_requests.specs.Targets.{event_target, input_target, or_refused}
 use Rattle.session_requests.specs.declared.event.Event.{Event}
 use Rattle.session_requests.specs.declared.input.Input.{Input}
@@ -58,14 +58,14 @@ VisibleLeansOn app k d = (j : ℕ) × (c : CellInfo) × IsPropertyAt app k (code
 -- The checks of an input look at whether its control is shown, at the bounds of it, and at its default.
 abbrev pub InputLooksAt : App → Input → ℕ → Type 0
 InputLooksAt app i d =
-    (k : ℕ) × (control_named i.control app.names ≡ Some k)
+    (k : ℕ) × (control_number i.control app.names ≡ Some k)
     × (IsPropertyAt app (shown_by app k) (codes "Visible") d ⊎ (IsPropertyAt app k (codes "Min") d ⊎ (IsPropertyAt app k (codes "Max") d ⊎ (default_cell app.names k ≡ Some d))))
 
 -- The checks of an event look at whether its control is shown, at the items of its gallery, and for an item at what says whether
 -- the control is visible.
 abbrev pub EventLooksAt : App → Event → ℕ → Type 0
 EventLooksAt app e d =
-    (k : ℕ) × (control_named e.control app.names ≡ Some k)
+    (k : ℕ) × (control_number e.control app.names ≡ Some k)
     × (IsPropertyAt app (shown_by app k) (codes "Visible") d ⊎ (IsPropertyAt app (shown_by app k) (codes "Items") d ⊎ VisibleLeansOn app k d))
 
 -- ---- inputs
@@ -76,7 +76,7 @@ pub record SendsInput (lost : Type 0) (app : App) (moment : ℕ) (name body : Li
   pub session : SessionState
   pub found : find name sessions ≡ Some session
   pub seen : Option Tables
-  pub stays : Goes lost Stays told seen
+  pub stays : MayFallSilent lost Stays told seen
   pub values : ℕ → Data
   pub fresh : ∥ AreFreshAt (present app session (rows_told seen) moment) (InputLooksAt app i) values ∥₁
   pub ends : EndsInput lost app moment name body i.seq session values (input_target app.names session values i) seen sessions said told' sessions'
@@ -104,28 +104,28 @@ ReachesInput name body sessions = (i : Input) × (checks input_in (λ (i : Input
 -- the control is visible for the item at this position of the gallery
 pub record IsVisibleFor (p : Present) (values : ℕ → Data) (k gallery at : ℕ) (b : Bool) : Type 0 where
   pub row : Fields
-  pub there : row_at at (rows_in (items_of p.app.names values gallery)) ≡ Some row
+  pub there : row_at_position at (rows_in (items_of p.app.names values gallery)) ≡ Some row
   pub value : Data
   pub is_value : IsPropertyForItem p values (record_of row) k (codes "Visible") (boolean true) value
   pub is : b ≡ is_true value
 
 -- whether a control that stands in a gallery is visible for the item; of another control nothing is left to ask
-abbrev pub IsShownFor : Present → (ℕ → Data) → ℕ → Option ℕ → Option Item → Bool → Type 0
-IsShownFor p values k (Some gallery) (Some item) b = IsVisibleFor p values k gallery item.at b
-IsShownFor p values k (Some gallery) None b = b ≡ true
-IsShownFor p values k None item b = b ≡ true
+abbrev pub IsShownToUser : Present → (ℕ → Data) → ℕ → Option ℕ → Option Item → Bool → Type 0
+IsShownToUser p values k (Some gallery) (Some item) b = IsVisibleFor p values k gallery item.at b
+IsShownToUser p values k (Some gallery) None b = b ≡ true
+IsShownToUser p values k None item b = b ≡ true
 
 -- the last check of an event: the control is shown for the item (17)
 abbrev pub IsVerdict : Present → (ℕ → Data) → Result Target Refusal → Result Target Refusal → Type 0
 IsVerdict p values (Err r) v = v ≡ Err r
-IsVerdict p values (Ok t) v = (b : Bool) × IsShownFor p values t.control (gallery_around p.app t.control) t.item b × (v ≡ or_refused b 17 (Ok t))
+IsVerdict p values (Ok t) v = (b : Bool) × IsShownToUser p values t.control (gallery_around p.app t.control) t.item b × (v ≡ or_refused b 17 (Ok t))
 
 -- an event that passed the checks of numbered requests
 pub record SendsEvent (lost : Type 0) (app : App) (moment : ℕ) (name body : List ℕ) (e : Event) (told : Option Tables) (sessions : List (Named SessionState)) (said : List ℕ) (told' : Option Tables) (sessions' : List (Named SessionState)) : Type 0 where
   pub session : SessionState
   pub found : find name sessions ≡ Some session
   pub seen : Option Tables
-  pub stays : Goes lost Stays told seen
+  pub stays : MayFallSilent lost Stays told seen
   pub values : ℕ → Data
   pub fresh : ∥ AreFreshAt (present app session (rows_told seen) moment) (EventLooksAt app e) values ∥₁
   pub verdict : Result Target Refusal

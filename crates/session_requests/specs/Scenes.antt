@@ -5,11 +5,11 @@ use Rattle.session_state.specs.Once.{nobody}
 use Rattle.session_state.specs.Sessions.{SessionState}
 
 -- the tables, and a session
-pub record Scene : Type 0 where
+pub record TablesAndSession : Type 0 where
   pub tables : Tables
   pub session : SessionState
 
-abbrev pub scene : Tables → SessionState → Scene
+abbrev pub scene : Tables → SessionState → TablesAndSession
 scene tables session = record { tables = tables; session = session }
 
 -- a session as a request begins: nothing is notified yet, and no screen was navigated to

@@ -8,9 +8,9 @@ use Rattle.fx_core.specs.declared.sources.Source.TheVariants as source
 use Rattle.recalc.specs.app_cells.declared.app.App.{App}
 use Rattle.recalc.specs.app_cells.declared.app.CellInfo.{CellInfo}
 use Rattle.view_text.specs.declared.refused.Refusal.{Refusal}
-use Rattle.session_requests.specs.Acting.{chosen_by}
-use Rattle.session_requests.specs.Shown.{control_named}
-use Rattle.session_requests.specs.Targets.{Given, gallery_of}
+use Rattle.session_requests.specs.Acting.{item_chosen}
+use Rattle.session_requests.specs.Shown.{control_number}
+use Rattle.session_requests.specs.Targets.{InputValue, event_gallery}
 use Rattle.session_requests.specs.Triggers.{cell_at}
 use Rattle.session_requests.specs.declared.event.Event.{Event}
 use Rattle.session_requests.specs.declared.input.Input.{Input}
@@ -19,8 +19,8 @@ use Rattle.session_requests.specs.declared.trigger.Trigger.{Trigger}
 use Rattle.session_requests.specs.declared.trigger.Trigger.TheVariants.{OnChange, OnCheck, OnSelect, OnUncheck, OnVisible}
 
 -- each of these sources is such a one
-abbrev pub AreAll : (Source → Type 0) → List Source → Type 0
-AreAll P ws = (x : Source) → IsAmong x ws → P x
+abbrev pub AllSources : (Source → Type 0) → List Source → Type 0
+AllSources P ws = (x : Source) → IsAmong x ws → P x
 
 -- ---- at a trigger
 
@@ -49,7 +49,7 @@ EffectMayWrite a given trigger x = IsAmong x given ⊎ RequestMayWrite a trigger
 -- an event that was let through may write what it chooses, and what the `OnSelect` of its control may
 abbrev pub TargetMayWrite : App → Result Target Refusal → Source → Type 0
 TargetMayWrite a (Err r) x = ⊥
-TargetMayWrite a (Ok t) x = EffectMayWrite a (chosen_by t.item) (OnSelect t.control) x
+TargetMayWrite a (Ok t) x = EffectMayWrite a (item_chosen t.item) (OnSelect t.control) x
 
 -- the chosen item of a gallery
 abbrev pub IsChosenOf : Option ℕ → Source → Type 0
@@ -58,7 +58,7 @@ IsChosenOf o x = (gallery : ℕ) × (o ≡ Some gallery) × (x ≡ source.Chosen
 -- AN EVENT MAY WRITE the chosen item of the gallery around its control, and what the `OnSelect` of the control may
 abbrev pub EventMayWrite : App → Event → Source → Type 0
 EventMayWrite a e x =
-    (k : ℕ) × (c : ControlName) × (control_named e.control a.names ≡ Some k) × (slice_get a.names.controls k ≡ Some c) × (IsChosenOf (gallery_of k c) x ⊎ RequestMayWrite a (OnSelect k) x)
+    (k : ℕ) × (c : ControlName) × (control_number e.control a.names ≡ Some k) × (slice_get a.names.controls k ≡ Some c) × (IsChosenOf (event_gallery k c) x ⊎ RequestMayWrite a (OnSelect k) x)
 
 -- ---- inputs
 
@@ -67,10 +67,10 @@ abbrev pub ControlMayWrite : App → ℕ → Source → Type 0
 ControlMayWrite a k x = (x ≡ source.Input k) ⊎ (RequestMayWrite a (OnChange k) x ⊎ (RequestMayWrite a (OnCheck k) x ⊎ RequestMayWrite a (OnUncheck k) x))
 
 -- so it is of an input that was let through
-abbrev pub GivenMayWrite : App → Result Given Refusal → Source → Type 0
+abbrev pub GivenMayWrite : App → Result InputValue Refusal → Source → Type 0
 GivenMayWrite a (Err r) x = ⊥
 GivenMayWrite a (Ok g) x = ControlMayWrite a g.0 x
 
 -- AN INPUT MAY WRITE what is given to its control, and what may the formulas that act then
 abbrev pub InputMayWrite : App → Input → Source → Type 0
-InputMayWrite a i x = (k : ℕ) × (control_named i.control a.names ≡ Some k) × ControlMayWrite a k x
+InputMayWrite a i x = (k : ℕ) × (control_number i.control a.names ≡ Some k) × ControlMayWrite a k x

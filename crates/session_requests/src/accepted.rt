@@ -7,7 +7,7 @@ use std::marker::Model;
 pub(crate) trait SoundApp {
     ghost use Rattle.std.specs.Prelude.{◌≡◌};
     ghost use Rattle.recalc.specs.app_cells.declared.app.App.{App};
-    ghost use Rattle.recalc.specs.app_semantics.Sound.{IsSound};
+    ghost use Rattle.recalc.specs.app_semantics.Sound.{IsSoundApp};
 
     /// The app.
     ghost app: { Self → App };
@@ -18,7 +18,7 @@ pub(crate) trait SoundApp {
 
     /// A law, and no work: it is sound.
     fn is_sound(&self)
-        ensures { IsSound (app self.now) };
+        ensures { IsSoundApp (app self.now) };
 }
 
 /// An app that is sound.
@@ -30,7 +30,7 @@ pub(crate) struct Accepted<'a> {
 impl<'a> Model for Accepted<'a> {
     ghost use Rattle.recalc.specs.app_cells.contracts.app.App.{the_row};
     ghost use Rattle.recalc.specs.app_cells.declared.app.App.{App};
-    ghost use Rattle.recalc.specs.app_semantics.Sound.{IsSound};
+    ghost use Rattle.recalc.specs.app_semantics.Sound.{IsSoundApp};
 
     ghost Value = { App };
 
@@ -38,16 +38,16 @@ impl<'a> Model for Accepted<'a> {
 
     ghost view = { λ a. a.app.now };
 
-    ghost invariant = { λ a. IsSound a.app.now };
+    ghost invariant = { λ a. IsSoundApp a.app.now };
 }
 
 impl<'a> Accepted<'a> {
     ghost use Rattle.std.specs.Prelude.{◌≡◌};
-    ghost use Rattle.recalc.specs.app_semantics.Sound.{IsSound};
+    ghost use Rattle.recalc.specs.app_semantics.Sound.{IsSoundApp};
 
     /// The app, which is sound.
     pub(crate) fn new(app: &'a App) -> Accepted<'a>
-        requires { IsSound app.now }
+        requires { IsSoundApp app.now }
         ensures { result ≡ app.now }
     {
         Accepted { app }

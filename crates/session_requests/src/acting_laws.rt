@@ -1,6 +1,6 @@
 //! Laws of behaviour formulas.
 ghost use Rattle.fx_behave.specs.Unique.{GivesOne};
-ghost use Rattle.session_requests.specs.Grounds.{gives};
+ghost use Rattle.session_requests.specs.WorldContext.{source_gives};
 ghost use Rattle.session_requests.specs.OneActing.{OneActing};
 
 use crate::app_semantics::{fitting_holds, one_fresh_at};
@@ -24,7 +24,7 @@ pub fn one_acting()
 
 /// A law, and no work: a source gives one value at most in a state.
 pub(crate) fn one_source_value()
-    ensures { GivesOne gives }
+    ensures { GivesOne source_gives }
 {
     one_fresh_at();
     fitting_holds();

@@ -3,11 +3,11 @@ ghost use Rattle.std.specs.Prelude.{◌≡◌, ◌<◌, ◌^◌, IfErr, IsTrue, 
 ghost use Rattle.fx_types.specs.ValueView.{view};
 ghost use Rattle.fx_core.specs.Lawful.{id_name};
 ghost use Rattle.session_state.specs.Sessions.{SessionState};
-ghost use Rattle.numbered_requests.specs.Replies.{is_plain, plain as plain_of};
+ghost use Rattle.numbered_requests.specs.Replies.{is_plain_refusal, plain as plain_of};
 ghost use Rattle.view_text.specs.RefusalText.{Fits};
 ghost use Rattle.session_requests.specs.Shown.{cell_values};
 ghost use Rattle.session_requests.specs.declared.input.Input.{Input as InputBody};
-ghost use Rattle.session_requests.specs.Targets.{event_at, event_target as event_target_of, gallery_of as gallery_of_control, has_event as has_event_of, input_at, input_by as input_by_kind, input_target as input_target_of, is_within as is_within_bounds, takes as takes_of, takes_input as takes_input_of, unless_moved as unless_moved_of, with_item as with_item_of};
+ghost use Rattle.session_requests.specs.Targets.{event_at, event_target as event_target_of, event_gallery as gallery_of_control, has_event as has_event_of, input_at, input_by as input_by_kind, input_target as input_target_of, is_in_bounds as is_within_bounds, control_takes as takes_of, takes_input as takes_input_of, unless_moved as unless_moved_of, with_item as with_item_of};
 
 use crate::event::{Event, Place};
 use crate::input::{Given, Input};
@@ -30,7 +30,7 @@ const GREATEST: i64 = 1_000_000;
 
 /// A refusal without a detail.
 pub(crate) fn plain(code: u8) -> Refusal
-    requires { IsTrue (is_plain code) }
+    requires { IsTrue (is_plain_refusal code) }
     ensures is { result ≡ plain_of code }
     ensures detail { Fits result.code result.detail }
 {

@@ -1,5 +1,5 @@
 //! Laws of sessions' requests.
-ghost use Rattle.session_requests.specs.Laws.{ActsOnce, IsOneOutcome, LeavesOthers};
+ghost use Rattle.session_requests.specs.Laws.{RequestActsOnce, IsOneOutcome, LeavesOthers};
 
 use crate::app_semantics::{fitting_holds, one_fresh_at};
 use crate::event_laws::one_running;
@@ -12,7 +12,7 @@ pub fn leaves_others()
 
 /// A law, and no work: the last accepted request of a session, when it comes again, gets the kept reply and acts no more.
 pub fn acts_once()
-    ensures { ActsOnce }
+    ensures { RequestActsOnce }
 {}
 
 /// A law, and no work: what a session sends has one outcome where tables are told, and the reply hangs on no other session.

@@ -1,11 +1,11 @@
 //! Sessions are opened, each in one transaction.
 ghost use Rattle.std.specs.Prelude.{◌≡◌, [], IfOk, OnErr, Some, false, true};
-ghost use Rattle.fx_base.specs.Silence.{IsLost};
+ghost use Rattle.fx_base.specs.Silence.{SilenceCause};
 ghost use Rattle.fx_base.specs.Telling.{Stays};
-ghost use Rattle.recalc.specs.app_semantics.Sound.{IsSound};
+ghost use Rattle.recalc.specs.app_semantics.Sound.{IsSoundApp};
 ghost use Rattle.row_keeper.specs.Over.{Becomes, HasCause};
 ghost use Rattle.row_requests.specs.Sound.{AreSound};
-ghost use Rattle.row_requests.specs.Written.{AreTablesBut};
+ghost use Rattle.row_requests.specs.Written.{SameTablesExcept};
 ghost use Rattle.session_state.specs.Sessions.{opened};
 ghost use Rattle.session_requests.specs.Caching.{AreSources, IsCached};
 ghost use Rattle.session_requests.specs.Opening.{CanOpen, OpensNew, OpensNewWriting};
@@ -31,7 +31,7 @@ fn prepare_session<K: Keeper, L: Ledger>(
     wrote: &mut Vec<Source>,
     steps: &mut Steps<L>,
 ) -> Result<Session, KeeperEnd>
-    requires sound { IsSound app.now }
+    requires sound { IsSoundApp app.now }
     requires opens { CanOpen app.now.names }
     requires shaped { K.shaped keeper.old ≡ Some app.now.names.schema }
     requires rows { AreSound app.now.names.schema (K.told keeper.old) }
@@ -39,7 +39,7 @@ fn prepare_session<K: Keeper, L: Ledger>(
     requires cached { IsCached app.now (opened app.now.names) (K.told keeper.old) moment cache.old }
     requires began { K.began keeper.old ≡ K.told keeper.old }
     requires wrote { wrote.old.items ≡ [] }
-    ensures wrote { IfOk result (λ s. OpensNewWriting (IsLost (K.marks keeper.old) (K.marks keeper.new)) app.now moment (K.told keeper.old) (K.told keeper.new) s wrote.new.items) }
+    ensures wrote { IfOk result (λ s. OpensNewWriting (SilenceCause (K.marks keeper.old) (K.marks keeper.new)) app.now moment (K.told keeper.old) (K.told keeper.new) s wrote.new.items) }
     ensures cached { IfOk result (λ s. IsCached app.now s (K.told keeper.new) moment cache.new) }
     ensures undoable { CanGoBack K.Keeper app.now moment (opened app.now.names) cache.new keeper.new wrote.new.items }
     ensures goes_on { GoesOn K.Keeper app.now cache.old cache.new keeper.old keeper.new wrote.old.items wrote.new.items }
@@ -76,21 +76,21 @@ pub fn open_session<K: Keeper, L: Ledger>(
     wrote: &mut Vec<Source>,
     steps: &mut Steps<L>,
 ) -> Result<Session, KeeperEnd>
-    requires sound { IsSound app.now }
+    requires sound { IsSoundApp app.now }
     requires opens { CanOpen app.now.names }
     requires shaped { K.shaped keeper.old ≡ Some app.now.names.schema }
     requires rows { AreSound app.now.names.schema (K.told keeper.old) }
     requires idle { K.in_transaction keeper.old ≡ false }
     requires cached { IsCached app.now (opened app.now.names) (K.told keeper.old) moment cache.old }
     requires wrote { wrote.old.items ≡ [] }
-    ensures opens { IfOk result (λ s. OpensNew (IsLost (K.marks keeper.old) (K.marks keeper.new)) app.now moment (K.told keeper.old) (K.told keeper.new) s) }
-    ensures wrote { IfOk result (λ s. OpensNewWriting (IsLost (K.marks keeper.old) (K.marks keeper.new)) app.now moment (K.told keeper.old) (K.told keeper.new) s wrote.new.items) }
+    ensures opens { IfOk result (λ s. OpensNew (SilenceCause (K.marks keeper.old) (K.marks keeper.new)) app.now moment (K.told keeper.old) (K.told keeper.new) s) }
+    ensures wrote { IfOk result (λ s. OpensNewWriting (SilenceCause (K.marks keeper.old) (K.marks keeper.new)) app.now moment (K.told keeper.old) (K.told keeper.new) s wrote.new.items) }
     ensures stopped { OnErr result (Becomes K.Keeper keeper.old keeper.new Stays) }
     ensures rows { AreSound app.now.names.schema (K.told keeper.new) }
     ensures shaped { K.shaped keeper.new ≡ Some app.now.names.schema }
     ensures idle { K.in_transaction keeper.new ≡ false }
     ensures cached { IfOk result (λ s. IsCached app.now s (K.told keeper.new) moment cache.new) }
-    ensures tables { Becomes K.Keeper keeper.old keeper.new (AreTablesBut wrote.new.items) }
+    ensures tables { Becomes K.Keeper keeper.old keeper.new (SameTablesExcept wrote.new.items) }
     ensures sources { AreSources app.now.names wrote.new.items }
     ensures cause { HasCause K.Keeper keeper.old keeper.new result }
     ensures loan { K.loan keeper.new ≡ K.loan keeper.old }

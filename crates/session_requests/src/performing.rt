@@ -4,21 +4,21 @@ ghost use Rattle.fx_types.specs.TypeView.{shape};
 ghost use Rattle.fx_types.specs.ValueView.{view};
 ghost use Rattle.fx_scalar.specs.ScalarFunctions.{IsToday};
 ghost use Rattle.fx_semantics.specs.Sound.{IsItemFit};
-ghost use Rattle.fx_typing.specs.Typing.{item_of};
+ghost use Rattle.fx_typing.specs.Typing.{item_context};
 ghost use Rattle.fx_value.specs.Fits.{fits_in};
-ghost use Rattle.recalc.specs.app_semantics.Sound.{IsSound};
+ghost use Rattle.recalc.specs.app_semantics.Sound.{IsSoundApp};
 ghost use Rattle.row_keeper.specs.Over.{Becomes, HasCause};
-ghost use Rattle.session_requests.specs.Performing.{Acts, IsActing, Leaves};
+ghost use Rattle.session_requests.specs.Performing.{PerformsCell, IsActingCell, ChangesOnlyWritten};
 ghost use Rattle.session_requests.specs.Transactions.{GoesOn, IsUnderWay};
 ghost use Rattle.fx_behave.specs.Writable.{MayWrite};
-ghost use Rattle.session_requests.specs.Whole.{FormulaWrites, IsInAll};
-ghost use Rattle.session_requests.specs.Writable.{AreAll};
+ghost use Rattle.session_requests.specs.WrittenWhole.{FormulaWrites, IsInAll};
+ghost use Rattle.session_requests.specs.Writable.{AllSources};
 
 use crate::accepted::{Accepted, SoundApp};
 use crate::acting_laws::one_source_value;
 use crate::app_cells::{App, CellInfo};
+use crate::session_world::SessionWorld;
 use crate::start::Start;
-use crate::world::SessionWorld;
 use fx_behave::{act, cuts_go_on};
 use fx_core::Source;
 use fx_env::Steps;
@@ -48,19 +48,19 @@ pub fn perform<K: Keeper, L: Ledger>(
     wrote: &mut Vec<Source>,
     steps: &mut Steps<L>,
 ) -> Result<Value, KeeperEnd>
-    requires sound { IsSound app.now }
-    requires acting { IsActing app.now info.now }
-    requires item { IsItemFit (option_map view item) (item_of app.now.names info.now.cell.item) }
+    requires sound { IsSoundApp app.now }
+    requires acting { IsActingCell app.now info.now }
+    requires item { IsItemFit (option_map view item) (item_context app.now.names info.now.cell.item) }
     requires under_way { IsUnderWay K.Keeper app.now moment before.now session.old cache.old keeper.old wrote.old.items }
     ensures acted { IfOk result (λ v. Becomes K.Keeper keeper.old keeper.new
-        (λ t u. Acts app.now moment info.now (option_map view item) t session.old (view v) u session.new (drop (length wrote.old.items) wrote.new.items))) }
+        (λ t u. PerformsCell app.now moment info.now (option_map view item) t session.old (view v) u session.new (drop (length wrote.old.items) wrote.new.items))) }
     ensures value { IfOk result (λ v. fits_in (view v) (shape info.now.ty) ≡ true) }
     ensures cut { OnErr result (Becomes K.Keeper keeper.old keeper.new
-        (λ t u. AreAll (IsInAll (FormulaWrites app.now moment info.now (option_map view item) t session.old)) (drop (length wrote.old.items) wrote.new.items))) }
+        (λ t u. AllSources (IsInAll (FormulaWrites app.now moment info.now (option_map view item) t session.old)) (drop (length wrote.old.items) wrote.new.items))) }
     ensures only { Becomes K.Keeper keeper.old keeper.new
-        (λ t u. AreAll (MayWrite info.now.core) (drop (length wrote.old.items) wrote.new.items)) }
+        (λ t u. AllSources (MayWrite info.now.core) (drop (length wrote.old.items) wrote.new.items)) }
     ensures leaves { Becomes K.Keeper keeper.old keeper.new
-        (λ t u. Leaves app.now moment t session.old u session.new) }
+        (λ t u. ChangesOnlyWritten app.now moment t session.old u session.new) }
     ensures under_way { IsUnderWay K.Keeper app.now moment before.now session.new cache.new keeper.new wrote.new.items }
     ensures goes_on { GoesOn K.Keeper app.now cache.old cache.new keeper.old keeper.new wrote.old.items wrote.new.items }
     ensures cause { HasCause K.Keeper keeper.old keeper.new result }
@@ -94,18 +94,18 @@ fn perform_over<'a, A: SoundApp, K: Keeper, L: Ledger, S: Start>(
     requires day { IsToday moment (view day.now) }
     requires earlier { earlier ≡ length wrote.old.items }
     requires start { S.start ≡ cache.old }
-    requires acting { IsActing (A.app app.now) info.now }
-    requires item { IsItemFit (option_map view item) (item_of (A.app app.now).names info.now.cell.item) }
+    requires acting { IsActingCell (A.app app.now) info.now }
+    requires item { IsItemFit (option_map view item) (item_context (A.app app.now).names info.now.cell.item) }
     requires under_way { IsUnderWay K.Keeper (A.app app.now) moment before.now session.old cache.old keeper.old wrote.old.items }
     ensures acted { IfOk result (λ v. Becomes K.Keeper keeper.old keeper.new
-        (λ t u. Acts (A.app app.now) moment info.now (option_map view item) t session.old (view v) u session.new (drop (length wrote.old.items) wrote.new.items))) }
+        (λ t u. PerformsCell (A.app app.now) moment info.now (option_map view item) t session.old (view v) u session.new (drop (length wrote.old.items) wrote.new.items))) }
     ensures value { IfOk result (λ v. fits_in (view v) (shape info.now.ty) ≡ true) }
     ensures cut { OnErr result (Becomes K.Keeper keeper.old keeper.new
-        (λ t u. AreAll (IsInAll (FormulaWrites (A.app app.now) moment info.now (option_map view item) t session.old)) (drop (length wrote.old.items) wrote.new.items))) }
+        (λ t u. AllSources (IsInAll (FormulaWrites (A.app app.now) moment info.now (option_map view item) t session.old)) (drop (length wrote.old.items) wrote.new.items))) }
     ensures only { Becomes K.Keeper keeper.old keeper.new
-        (λ t u. AreAll (MayWrite info.now.core) (drop (length wrote.old.items) wrote.new.items)) }
+        (λ t u. AllSources (MayWrite info.now.core) (drop (length wrote.old.items) wrote.new.items)) }
     ensures leaves { Becomes K.Keeper keeper.old keeper.new
-        (λ t u. Leaves (A.app app.now) moment t session.old u session.new) }
+        (λ t u. ChangesOnlyWritten (A.app app.now) moment t session.old u session.new) }
     ensures under_way { IsUnderWay K.Keeper (A.app app.now) moment before.now session.new cache.new keeper.new wrote.new.items }
     ensures goes_on { GoesOn K.Keeper (A.app app.now) cache.old cache.new keeper.old keeper.new wrote.old.items wrote.new.items }
     ensures cause { HasCause K.Keeper keeper.old keeper.new result }

@@ -1,11 +1,11 @@
 //! A session sends events and inputs.
 ghost use Rattle.std.specs.Prelude.{◌≡◌, [], ℕ, IfErr, IfOk, IsSome, Ok, OnErr, OnOk, Some, false};
-ghost use Rattle.fx_base.specs.Silence.{IsLost};
+ghost use Rattle.fx_base.specs.Silence.{SilenceCause};
 ghost use Rattle.fx_base.specs.Telling.{Stays};
 ghost use Rattle.fx_scalar.specs.ScalarFunctions.{IsToday};
 ghost use Rattle.recalc.specs.AskingOver.{HasRead};
 ghost use Rattle.recalc.specs.app_semantics.Present.{present};
-ghost use Rattle.recalc.specs.app_semantics.Sound.{IsSound};
+ghost use Rattle.recalc.specs.app_semantics.Sound.{IsSoundApp};
 ghost use Rattle.recalc.specs.Asking.{IsHeardOf, ToldRows};
 ghost use Rattle.recalc.specs.Values.{CellsFit, value_of as value_of_cells};
 ghost use Rattle.numbered_requests.specs.Checked.{SessionsKeepReplies};
@@ -14,26 +14,26 @@ ghost use Rattle.numbered_requests.specs.Replies.{IsReply, said};
 ghost use Rattle.row_keeper.specs.Over.{Becomes, HasCause};
 ghost use Rattle.row_keeper.specs.Tables.{rows_told};
 ghost use Rattle.row_requests.specs.Sound.{AreSound};
-ghost use Rattle.row_requests.specs.Written.{AreTablesBut};
-ghost use Rattle.recalc.specs.Changes.{IsLeftBut};
-ghost use Rattle.recalc.specs.Kept.{value_of};
+ghost use Rattle.row_requests.specs.Written.{SameTablesExcept};
+ghost use Rattle.recalc.specs.Changes.{StaysCleanExcept};
+ghost use Rattle.recalc.specs.Kept.{cached_value};
 ghost use Rattle.session_state.specs.Changes.{FitsNames};
 ghost use Rattle.session_state.specs.Sessions.{SessionState};
 ghost use Rattle.view_text.specs.RefusalText.{Fits};
 ghost use Rattle.session_requests.specs.Caching.{AreFreshAt, AreSources, IsCached};
 ghost use Rattle.session_requests.specs.Posting.{EventLooksAt, InputLooksAt, IsVerdict, SendsEvent, SendsEventWriting, SendsInput, SendsInputWriting, SessionsFit};
 ghost use Rattle.session_requests.specs.Targets.{IsTarget, event_target as event_target_of, or_refused};
-ghost use Rattle.session_requests.specs.Whole.{EventPerforms, InputPerforms, IsInAll};
-ghost use Rattle.session_requests.specs.Writable.{AreAll, EventMayWrite, InputMayWrite};
+ghost use Rattle.session_requests.specs.WrittenWhole.{EventWritesWhole, InputWritesWhole, IsInAll};
+ghost use Rattle.session_requests.specs.Writable.{AllSources, EventMayWrite, InputMayWrite};
 
-use crate::acting::{end_event, end_input};
 use crate::app_cells::App;
 use crate::app_semantics::{fitting_holds, one_fresh_at};
+use crate::checked_cells::{event_cells, input_cells};
 use crate::checks::{event_target, input_target, plain};
+use crate::effects::{end_event, end_input};
 use crate::event::Event;
 use crate::fx_semantics::one_value;
 use crate::input::Input;
-use crate::looking::{event_cells, input_cells};
 use crate::shown::control_named;
 use crate::target::Target;
 use crate::visible::is_shown_for;
@@ -66,7 +66,7 @@ pub fn send_input<K: Keeper, L: Ledger>(
     wrote: &mut Vec<Source>,
     steps: &mut Steps<L>,
 ) -> Result<Reply, KeeperEnd>
-    requires sound { IsSound app.now }
+    requires sound { IsSoundApp app.now }
     requires live { IsSome (find name.now sessions.old.items) }
     requires fit { SessionsFit app.now.names sessions.old.items }
     requires kept { SessionsKeepReplies sessions.old.items }
@@ -75,7 +75,7 @@ pub fn send_input<K: Keeper, L: Ledger>(
     requires idle { K.in_transaction keeper.old ≡ false }
     requires cached { (s : SessionState) → find name.now sessions.old.items ≡ Some s → IsCached app.now s (K.told keeper.old) moment cache.old }
     requires wrote { wrote.old.items ≡ [] }
-    ensures done { IfOk result (λ r. SendsInput (IsLost (K.marks keeper.old) (K.marks keeper.new)) app.now moment name.now body.now input (K.told keeper.old) sessions.old.items (said r) (K.told keeper.new) sessions.new.items) }
+    ensures done { IfOk result (λ r. SendsInput (SilenceCause (K.marks keeper.old) (K.marks keeper.new)) app.now moment name.now body.now input (K.told keeper.old) sessions.old.items (said r) (K.told keeper.new) sessions.new.items) }
     ensures whole { IfOk result IsReply }
     ensures stopped { OnErr result (sessions.new.items ≡ sessions.old.items) }
     ensures left { OnErr result (Becomes K.Keeper keeper.old keeper.new Stays) }
@@ -86,14 +86,14 @@ pub fn send_input<K: Keeper, L: Ledger>(
     ensures idle { K.in_transaction keeper.new ≡ false }
     ensures cause { HasCause K.Keeper keeper.old keeper.new result }
     ensures cached { (s : SessionState) → find name.now sessions.new.items ≡ Some s → IsCached app.now s (K.told keeper.new) moment cache.new }
-    ensures tables { Becomes K.Keeper keeper.old keeper.new (AreTablesBut wrote.new.items) }
+    ensures tables { Becomes K.Keeper keeper.old keeper.new (SameTablesExcept wrote.new.items) }
     ensures sources { AreSources app.now.names wrote.new.items }
-    ensures clean { IsLeftBut app.now wrote.new.items cache.old cache.new }
-    ensures wrote { IfOk result (λ r. SendsInputWriting (IsLost (K.marks keeper.old) (K.marks keeper.new)) app.now moment name.now body.now input (K.told keeper.old) sessions.old.items (said r) (K.told keeper.new) sessions.new.items wrote.new.items) }
+    ensures clean { StaysCleanExcept app.now wrote.new.items cache.old cache.new }
+    ensures wrote { IfOk result (λ r. SendsInputWriting (SilenceCause (K.marks keeper.old) (K.marks keeper.new)) app.now moment name.now body.now input (K.told keeper.old) sessions.old.items (said r) (K.told keeper.new) sessions.new.items wrote.new.items) }
     ensures only { Becomes K.Keeper keeper.old keeper.new
-        (λ t u. AreAll (InputMayWrite app.now input) wrote.new.items) }
+        (λ t u. AllSources (InputMayWrite app.now input) wrote.new.items) }
     ensures cut { OnErr result (Becomes K.Keeper keeper.old keeper.new
-        (λ t u. AreAll (IsInAll (InputPerforms app.now moment name.now input t sessions.old.items)) wrote.new.items)) }
+        (λ t u. AllSources (IsInAll (InputWritesWhole app.now moment name.now input t sessions.old.items)) wrote.new.items)) }
     ensures loan { K.loan keeper.new ≡ K.loan keeper.old }
 {
     match place_of(sessions, name) {
@@ -120,13 +120,13 @@ fn look_for_input<K: Keeper, L: Ledger>(
     moment: u64,
     steps: &mut Steps<L>,
 ) -> Result<(), KeeperEnd>
-    requires sound { IsSound app.now }
+    requires sound { IsSoundApp app.now }
     requires fits { FitsNames app.now.names session.now }
     requires cached { IsCached app.now session.now (K.told keeper.old) moment cache.old }
     requires shaped { K.shaped keeper.old ≡ Some app.now.names.schema }
     ensures cached { IsCached app.now session.now (K.told keeper.new) moment cache.new }
-    ensures clean { IsLeftBut app.now [] cache.old cache.new }
-    ensures fresh { OnOk result ∥ ((tables : ToldRows) → IsHeardOf (K.told keeper.new) tables → AreFreshAt (present app.now session.now tables moment) (InputLooksAt app.now input.now) (value_of cache.new)) ∥₁ }
+    ensures clean { StaysCleanExcept app.now [] cache.old cache.new }
+    ensures fresh { OnOk result ∥ ((tables : ToldRows) → IsHeardOf (K.told keeper.new) tables → AreFreshAt (present app.now session.now tables moment) (InputLooksAt app.now input.now) (cached_value cache.new)) ∥₁ }
     ensures read { HasRead K.Keeper keeper.old keeper.new }
     ensures cause { HasCause K.Keeper keeper.old keeper.new result }
 {
@@ -156,7 +156,7 @@ fn act_input<K: Keeper, L: Ledger>(
     wrote: &mut Vec<Source>,
     steps: &mut Steps<L>,
 ) -> Result<Reply, KeeperEnd>
-    requires sound { IsSound app.now }
+    requires sound { IsSoundApp app.now }
     requires found { find name.now sessions.old.items ≡ Some session }
     requires fits { FitsNames app.now.names session }
     requires fit { SessionsFit app.now.names sessions.old.items }
@@ -166,7 +166,7 @@ fn act_input<K: Keeper, L: Ledger>(
     requires idle { K.in_transaction keeper.old ≡ false }
     requires cached { IsCached app.now session (K.told keeper.old) moment cache.old }
     requires wrote { wrote.old.items ≡ [] }
-    ensures done { IfOk result (λ r. SendsInput (IsLost (K.marks keeper.old) (K.marks keeper.new)) app.now moment name.now body.now input (K.told keeper.old) sessions.old.items (said r) (K.told keeper.new) sessions.new.items) }
+    ensures done { IfOk result (λ r. SendsInput (SilenceCause (K.marks keeper.old) (K.marks keeper.new)) app.now moment name.now body.now input (K.told keeper.old) sessions.old.items (said r) (K.told keeper.new) sessions.new.items) }
     ensures whole { IfOk result IsReply }
     ensures stopped { OnErr result (sessions.new.items ≡ sessions.old.items) }
     ensures left { OnErr result (Becomes K.Keeper keeper.old keeper.new Stays) }
@@ -177,14 +177,14 @@ fn act_input<K: Keeper, L: Ledger>(
     ensures idle { K.in_transaction keeper.new ≡ false }
     ensures cause { HasCause K.Keeper keeper.old keeper.new result }
     ensures cached { (s : SessionState) → find name.now sessions.new.items ≡ Some s → IsCached app.now s (K.told keeper.new) moment cache.new }
-    ensures tables { Becomes K.Keeper keeper.old keeper.new (AreTablesBut wrote.new.items) }
+    ensures tables { Becomes K.Keeper keeper.old keeper.new (SameTablesExcept wrote.new.items) }
     ensures sources { AreSources app.now.names wrote.new.items }
-    ensures clean { IsLeftBut app.now wrote.new.items cache.old cache.new }
-    ensures wrote { IfOk result (λ r. SendsInputWriting (IsLost (K.marks keeper.old) (K.marks keeper.new)) app.now moment name.now body.now input (K.told keeper.old) sessions.old.items (said r) (K.told keeper.new) sessions.new.items wrote.new.items) }
+    ensures clean { StaysCleanExcept app.now wrote.new.items cache.old cache.new }
+    ensures wrote { IfOk result (λ r. SendsInputWriting (SilenceCause (K.marks keeper.old) (K.marks keeper.new)) app.now moment name.now body.now input (K.told keeper.old) sessions.old.items (said r) (K.told keeper.new) sessions.new.items wrote.new.items) }
     ensures only { Becomes K.Keeper keeper.old keeper.new
-        (λ t u. AreAll (InputMayWrite app.now input) wrote.new.items) }
+        (λ t u. AllSources (InputMayWrite app.now input) wrote.new.items) }
     ensures cut { OnErr result (Becomes K.Keeper keeper.old keeper.new
-        (λ t u. AreAll (IsInAll (InputPerforms app.now moment name.now input t sessions.old.items)) wrote.new.items)) }
+        (λ t u. AllSources (IsInAll (InputWritesWhole app.now moment name.now input t sessions.old.items)) wrote.new.items)) }
     ensures loan { K.loan keeper.new ≡ K.loan keeper.old }
 {
     fitting_holds();
@@ -219,7 +219,7 @@ pub fn send_event<K: Keeper, L: Ledger>(
     wrote: &mut Vec<Source>,
     steps: &mut Steps<L>,
 ) -> Result<Reply, KeeperEnd>
-    requires sound { IsSound app.now }
+    requires sound { IsSoundApp app.now }
     requires live { IsSome (find name.now sessions.old.items) }
     requires fit { SessionsFit app.now.names sessions.old.items }
     requires kept { SessionsKeepReplies sessions.old.items }
@@ -228,7 +228,7 @@ pub fn send_event<K: Keeper, L: Ledger>(
     requires idle { K.in_transaction keeper.old ≡ false }
     requires cached { (s : SessionState) → find name.now sessions.old.items ≡ Some s → IsCached app.now s (K.told keeper.old) moment cache.old }
     requires wrote { wrote.old.items ≡ [] }
-    ensures done { IfOk result (λ r. SendsEvent (IsLost (K.marks keeper.old) (K.marks keeper.new)) app.now moment name.now body.now event.now (K.told keeper.old) sessions.old.items (said r) (K.told keeper.new) sessions.new.items) }
+    ensures done { IfOk result (λ r. SendsEvent (SilenceCause (K.marks keeper.old) (K.marks keeper.new)) app.now moment name.now body.now event.now (K.told keeper.old) sessions.old.items (said r) (K.told keeper.new) sessions.new.items) }
     ensures whole { IfOk result IsReply }
     ensures stopped { OnErr result (sessions.new.items ≡ sessions.old.items) }
     ensures left { OnErr result (Becomes K.Keeper keeper.old keeper.new Stays) }
@@ -239,14 +239,14 @@ pub fn send_event<K: Keeper, L: Ledger>(
     ensures idle { K.in_transaction keeper.new ≡ false }
     ensures cause { HasCause K.Keeper keeper.old keeper.new result }
     ensures cached { (s : SessionState) → find name.now sessions.new.items ≡ Some s → IsCached app.now s (K.told keeper.new) moment cache.new }
-    ensures tables { Becomes K.Keeper keeper.old keeper.new (AreTablesBut wrote.new.items) }
+    ensures tables { Becomes K.Keeper keeper.old keeper.new (SameTablesExcept wrote.new.items) }
     ensures sources { AreSources app.now.names wrote.new.items }
-    ensures clean { IsLeftBut app.now wrote.new.items cache.old cache.new }
-    ensures wrote { IfOk result (λ r. SendsEventWriting (IsLost (K.marks keeper.old) (K.marks keeper.new)) app.now moment name.now body.now event.now (K.told keeper.old) sessions.old.items (said r) (K.told keeper.new) sessions.new.items wrote.new.items) }
+    ensures clean { StaysCleanExcept app.now wrote.new.items cache.old cache.new }
+    ensures wrote { IfOk result (λ r. SendsEventWriting (SilenceCause (K.marks keeper.old) (K.marks keeper.new)) app.now moment name.now body.now event.now (K.told keeper.old) sessions.old.items (said r) (K.told keeper.new) sessions.new.items wrote.new.items) }
     ensures only { Becomes K.Keeper keeper.old keeper.new
-        (λ t u. AreAll (EventMayWrite app.now event.now) wrote.new.items) }
+        (λ t u. AllSources (EventMayWrite app.now event.now) wrote.new.items) }
     ensures cut { OnErr result (Becomes K.Keeper keeper.old keeper.new
-        (λ t u. AreAll (IsInAll (EventPerforms app.now moment name.now event.now t sessions.old.items)) wrote.new.items)) }
+        (λ t u. AllSources (IsInAll (EventWritesWhole app.now moment name.now event.now t sessions.old.items)) wrote.new.items)) }
     ensures loan { K.loan keeper.new ≡ K.loan keeper.old }
 {
     match place_of(sessions, name) {
@@ -273,13 +273,13 @@ fn look_for_event<K: Keeper, L: Ledger>(
     moment: u64,
     steps: &mut Steps<L>,
 ) -> Result<(), KeeperEnd>
-    requires sound { IsSound app.now }
+    requires sound { IsSoundApp app.now }
     requires fits { FitsNames app.now.names session.now }
     requires cached { IsCached app.now session.now (K.told keeper.old) moment cache.old }
     requires shaped { K.shaped keeper.old ≡ Some app.now.names.schema }
     ensures cached { IsCached app.now session.now (K.told keeper.new) moment cache.new }
-    ensures clean { IsLeftBut app.now [] cache.old cache.new }
-    ensures fresh { OnOk result ∥ ((tables : ToldRows) → IsHeardOf (K.told keeper.new) tables → AreFreshAt (present app.now session.now tables moment) (EventLooksAt app.now event.now) (value_of cache.new)) ∥₁ }
+    ensures clean { StaysCleanExcept app.now [] cache.old cache.new }
+    ensures fresh { OnOk result ∥ ((tables : ToldRows) → IsHeardOf (K.told keeper.new) tables → AreFreshAt (present app.now session.now tables moment) (EventLooksAt app.now event.now) (cached_value cache.new)) ∥₁ }
     ensures read { HasRead K.Keeper keeper.old keeper.new }
     ensures cause { HasCause K.Keeper keeper.old keeper.new result }
 {
@@ -309,7 +309,7 @@ fn act_event<K: Keeper, L: Ledger>(
     wrote: &mut Vec<Source>,
     steps: &mut Steps<L>,
 ) -> Result<Reply, KeeperEnd>
-    requires sound { IsSound app.now }
+    requires sound { IsSoundApp app.now }
     requires found { find name.now sessions.old.items ≡ Some session }
     requires fits { FitsNames app.now.names session }
     requires fit { SessionsFit app.now.names sessions.old.items }
@@ -319,7 +319,7 @@ fn act_event<K: Keeper, L: Ledger>(
     requires idle { K.in_transaction keeper.old ≡ false }
     requires cached { IsCached app.now session (K.told keeper.old) moment cache.old }
     requires wrote { wrote.old.items ≡ [] }
-    ensures done { IfOk result (λ r. SendsEvent (IsLost (K.marks keeper.old) (K.marks keeper.new)) app.now moment name.now body.now event.now (K.told keeper.old) sessions.old.items (said r) (K.told keeper.new) sessions.new.items) }
+    ensures done { IfOk result (λ r. SendsEvent (SilenceCause (K.marks keeper.old) (K.marks keeper.new)) app.now moment name.now body.now event.now (K.told keeper.old) sessions.old.items (said r) (K.told keeper.new) sessions.new.items) }
     ensures whole { IfOk result IsReply }
     ensures stopped { OnErr result (sessions.new.items ≡ sessions.old.items) }
     ensures left { OnErr result (Becomes K.Keeper keeper.old keeper.new Stays) }
@@ -330,14 +330,14 @@ fn act_event<K: Keeper, L: Ledger>(
     ensures idle { K.in_transaction keeper.new ≡ false }
     ensures cause { HasCause K.Keeper keeper.old keeper.new result }
     ensures cached { (s : SessionState) → find name.now sessions.new.items ≡ Some s → IsCached app.now s (K.told keeper.new) moment cache.new }
-    ensures tables { Becomes K.Keeper keeper.old keeper.new (AreTablesBut wrote.new.items) }
+    ensures tables { Becomes K.Keeper keeper.old keeper.new (SameTablesExcept wrote.new.items) }
     ensures sources { AreSources app.now.names wrote.new.items }
-    ensures clean { IsLeftBut app.now wrote.new.items cache.old cache.new }
-    ensures wrote { IfOk result (λ r. SendsEventWriting (IsLost (K.marks keeper.old) (K.marks keeper.new)) app.now moment name.now body.now event.now (K.told keeper.old) sessions.old.items (said r) (K.told keeper.new) sessions.new.items wrote.new.items) }
+    ensures clean { StaysCleanExcept app.now wrote.new.items cache.old cache.new }
+    ensures wrote { IfOk result (λ r. SendsEventWriting (SilenceCause (K.marks keeper.old) (K.marks keeper.new)) app.now moment name.now body.now event.now (K.told keeper.old) sessions.old.items (said r) (K.told keeper.new) sessions.new.items wrote.new.items) }
     ensures only { Becomes K.Keeper keeper.old keeper.new
-        (λ t u. AreAll (EventMayWrite app.now event.now) wrote.new.items) }
+        (λ t u. AllSources (EventMayWrite app.now event.now) wrote.new.items) }
     ensures cut { OnErr result (Becomes K.Keeper keeper.old keeper.new
-        (λ t u. AreAll (IsInAll (EventPerforms app.now moment name.now event.now t sessions.old.items)) wrote.new.items)) }
+        (λ t u. AllSources (IsInAll (EventWritesWhole app.now moment name.now event.now t sessions.old.items)) wrote.new.items)) }
     ensures loan { K.loan keeper.new ≡ K.loan keeper.old }
 {
     fitting_holds();
@@ -362,7 +362,7 @@ fn judge_event<K: Keeper, L: Ledger>(
     event: &Event,
     steps: &mut Steps<L>,
 ) -> Result<Result<Target, Refusal>, KeeperEnd>
-    requires sound { IsSound app.now }
+    requires sound { IsSoundApp app.now }
     requires fits { FitsNames app.now.names session.now }
     requires cells { CellsFit app.now (value_of_cells valued.now) }
     requires day { (moment : ℕ) × IsToday moment valued.now.day }

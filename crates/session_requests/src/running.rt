@@ -1,14 +1,14 @@
 //! Formulas that act in a request, one after another.
 ghost use Rattle.std.specs.Prelude.{IfOk, None, OnErr, OnOk, drop, length, option_map};
-ghost use Rattle.recalc.specs.app_semantics.Sound.{IsSound};
+ghost use Rattle.recalc.specs.app_semantics.Sound.{IsSoundApp};
 ghost use Rattle.fx_types.specs.ValueView.{view};
 ghost use Rattle.row_keeper.specs.Over.{Becomes, HasCause};
 ghost use Rattle.session_requests.specs.Running.{ActsWriting, OpensWriting, RunsWriting, ShowsWriting};
 ghost use Rattle.session_requests.specs.Scenes.{scene};
 ghost use Rattle.session_requests.specs.Transactions.{GoesOn, IsUnderWay};
 ghost use Rattle.session_requests.specs.Triggers.{ItemFits, cell_at as cell_of};
-ghost use Rattle.session_requests.specs.Whole.{IsInAll, RequestWrites, ScreenWrites, TriggerWrites};
-ghost use Rattle.session_requests.specs.Writable.{AreAll, RequestMayWrite, ScreenMayWrite, TriggerMayWrite};
+ghost use Rattle.session_requests.specs.WrittenWhole.{IsInAll, RequestWrites, ScreenWrites, TriggerWrites};
+ghost use Rattle.session_requests.specs.Writable.{AllSources, RequestMayWrite, ScreenMayWrite, TriggerMayWrite};
 
 use crate::acting_laws::one_acting;
 use crate::app_cells::App;
@@ -37,15 +37,15 @@ fn act<K: Keeper, L: Ledger>(
     wrote: &mut Vec<Source>,
     steps: &mut Steps<L>,
 ) -> Result<Value, KeeperEnd>
-    requires sound { IsSound app.now }
+    requires sound { IsSoundApp app.now }
     requires item { ItemFits app.now trigger (option_map view item) }
     requires under_way { IsUnderWay K.Keeper app.now moment before.now session.old cache.old keeper.old wrote.old.items }
     ensures wrote { IfOk result (λ v. Becomes K.Keeper keeper.old keeper.new
         (λ t u. ActsWriting app.now moment (cell_of trigger app.now) (option_map view item) (scene t session.old) (view v) (scene u session.new) (drop (length wrote.old.items) wrote.new.items))) }
     ensures cut { OnErr result (Becomes K.Keeper keeper.old keeper.new
-        (λ t u. AreAll (IsInAll (TriggerWrites app.now moment trigger (option_map view item) (scene t session.old))) (drop (length wrote.old.items) wrote.new.items))) }
+        (λ t u. AllSources (IsInAll (TriggerWrites app.now moment trigger (option_map view item) (scene t session.old))) (drop (length wrote.old.items) wrote.new.items))) }
     ensures only { Becomes K.Keeper keeper.old keeper.new
-        (λ t u. AreAll (TriggerMayWrite app.now trigger) (drop (length wrote.old.items) wrote.new.items)) }
+        (λ t u. AllSources (TriggerMayWrite app.now trigger) (drop (length wrote.old.items) wrote.new.items)) }
     ensures under_way { IsUnderWay K.Keeper app.now moment before.now session.new cache.new keeper.new wrote.new.items }
     ensures goes_on { GoesOn K.Keeper app.now cache.old cache.new keeper.old keeper.new wrote.old.items wrote.new.items }
     ensures cause { HasCause K.Keeper keeper.old keeper.new result }
@@ -75,14 +75,14 @@ fn show<K: Keeper, L: Ledger>(
     wrote: &mut Vec<Source>,
     steps: &mut Steps<L>,
 ) -> Result<(), KeeperEnd>
-    requires sound { IsSound app.now }
+    requires sound { IsSoundApp app.now }
     requires under_way { IsUnderWay K.Keeper app.now moment before.now session.old cache.old keeper.old wrote.old.items }
     ensures wrote { OnOk result (Becomes K.Keeper keeper.old keeper.new
         (λ t u. ShowsWriting app.now moment (scene t session.old) (scene u session.new) (drop (length wrote.old.items) wrote.new.items))) }
     ensures cut { OnErr result (Becomes K.Keeper keeper.old keeper.new
-        (λ t u. AreAll (IsInAll (ScreenWrites app.now moment (scene t session.old))) (drop (length wrote.old.items) wrote.new.items))) }
+        (λ t u. AllSources (IsInAll (ScreenWrites app.now moment (scene t session.old))) (drop (length wrote.old.items) wrote.new.items))) }
     ensures only { Becomes K.Keeper keeper.old keeper.new
-        (λ t u. AreAll (ScreenMayWrite app.now) (drop (length wrote.old.items) wrote.new.items)) }
+        (λ t u. AllSources (ScreenMayWrite app.now) (drop (length wrote.old.items) wrote.new.items)) }
     ensures under_way { IsUnderWay K.Keeper app.now moment before.now session.new cache.new keeper.new wrote.new.items }
     ensures goes_on { GoesOn K.Keeper app.now cache.old cache.new keeper.old keeper.new wrote.old.items wrote.new.items }
     ensures cause { HasCause K.Keeper keeper.old keeper.new result }
@@ -111,15 +111,15 @@ pub(crate) fn run<K: Keeper, L: Ledger>(
     wrote: &mut Vec<Source>,
     steps: &mut Steps<L>,
 ) -> Result<Value, KeeperEnd>
-    requires sound { IsSound app.now }
+    requires sound { IsSoundApp app.now }
     requires item { ItemFits app.now trigger (option_map view item) }
     requires under_way { IsUnderWay K.Keeper app.now moment before.now session.old cache.old keeper.old wrote.old.items }
     ensures wrote { IfOk result (λ v. Becomes K.Keeper keeper.old keeper.new
         (λ t u. RunsWriting app.now moment trigger (option_map view item) (scene t session.old) (view v) (scene u session.new) (drop (length wrote.old.items) wrote.new.items))) }
     ensures cut { OnErr result (Becomes K.Keeper keeper.old keeper.new
-        (λ t u. AreAll (IsInAll (RequestWrites app.now moment trigger (option_map view item) (scene t session.old))) (drop (length wrote.old.items) wrote.new.items))) }
+        (λ t u. AllSources (IsInAll (RequestWrites app.now moment trigger (option_map view item) (scene t session.old))) (drop (length wrote.old.items) wrote.new.items))) }
     ensures only { Becomes K.Keeper keeper.old keeper.new
-        (λ t u. AreAll (RequestMayWrite app.now trigger) (drop (length wrote.old.items) wrote.new.items)) }
+        (λ t u. AllSources (RequestMayWrite app.now trigger) (drop (length wrote.old.items) wrote.new.items)) }
     ensures under_way { IsUnderWay K.Keeper app.now moment before.now session.new cache.new keeper.new wrote.new.items }
     ensures goes_on { GoesOn K.Keeper app.now cache.old cache.new keeper.old keeper.new wrote.old.items wrote.new.items }
     ensures cause { HasCause K.Keeper keeper.old keeper.new result }
@@ -151,7 +151,7 @@ pub(crate) fn open<K: Keeper, L: Ledger>(
     wrote: &mut Vec<Source>,
     steps: &mut Steps<L>,
 ) -> Result<(), KeeperEnd>
-    requires sound { IsSound app.now }
+    requires sound { IsSoundApp app.now }
     requires under_way { IsUnderWay K.Keeper app.now moment before.now session.old cache.old keeper.old wrote.old.items }
     ensures wrote { OnOk result (Becomes K.Keeper keeper.old keeper.new
         (λ t u. OpensWriting app.now moment (scene t session.old) (scene u session.new) (drop (length wrote.old.items) wrote.new.items))) }

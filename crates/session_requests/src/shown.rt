@@ -1,13 +1,13 @@
 //! Controls that requests name, and whether they are shown.
 ghost use Rattle.std.specs.Prelude.{◌≡◌, ◌<◌, IfSome, length, option_map, unwrap_or};
-ghost use Rattle.recalc.specs.app_semantics.Chosen.{row_at as row_at_position};
+ghost use Rattle.recalc.specs.app_semantics.Chosen.{row_at_position};
 ghost use Rattle.recalc.specs.app_semantics.Present.{items_of};
 ghost use Rattle.recalc.specs.app_semantics.Properties.{property_value};
 ghost use Rattle.fx_types.specs.ValueView.{view};
 ghost use Rattle.fx_types.specs.Values.{blank, number as number_data};
 ghost use Rattle.recalc.specs.fx_semantics.Rows.{rows_in};
 ghost use Rattle.session_state.specs.Sessions.{SessionState};
-ghost use Rattle.session_requests.specs.Shown.{cell_values, control_named as control_of, is_shown as is_shown_of};
+ghost use Rattle.session_requests.specs.Shown.{cell_values, control_number as control_of, is_shown_or_in_shown_gallery as is_shown_of};
 ghost use Rattle.session_requests.specs.Targets.{bound_of};
 
 use fx_core::Names;

@@ -2,7 +2,7 @@
 ghost use Rattle.std.specs.Prelude.{◌≡◌, IfOk, OnErr, drop, length, option_map};
 ghost use Rattle.fx_base.specs.Telling.{Stays};
 ghost use Rattle.fx_types.specs.ValueView.{view};
-ghost use Rattle.recalc.specs.app_semantics.Sound.{IsSound};
+ghost use Rattle.recalc.specs.app_semantics.Sound.{IsSoundApp};
 ghost use Rattle.numbered_requests.specs.Replies.{IsReply, said};
 ghost use Rattle.recalc.specs.app_cells.declared.app.App.{App as AnApp};
 ghost use Rattle.recalc.specs.Kept.{IsInOrder};
@@ -12,8 +12,8 @@ ghost use Rattle.session_requests.specs.Requests.{accepted_reply};
 ghost use Rattle.session_requests.specs.Scenes.{begun, quiet, scene};
 ghost use Rattle.session_requests.specs.Transactions.{CanBegin, CanGoBack, GoesOn, HasEnded, IsAccepted, IsUnderWay};
 ghost use Rattle.session_requests.specs.Triggers.{ItemFits};
-ghost use Rattle.session_requests.specs.Whole.{IsInAll, RequestWrites};
-ghost use Rattle.session_requests.specs.Writable.{AreAll, RequestMayWrite};
+ghost use Rattle.session_requests.specs.WrittenWhole.{IsInAll, RequestWrites};
+ghost use Rattle.session_requests.specs.Writable.{AllSources, RequestMayWrite};
 
 use crate::acting_laws::one_acting;
 use crate::app_cells::App;
@@ -54,14 +54,14 @@ fn prepare<K: Keeper, L: Ledger>(
     wrote: &mut Vec<Source>,
     steps: &mut Steps<L>,
 ) -> Result<Accepted, KeeperEnd>
-    requires sound { IsSound app.now }
+    requires sound { IsSoundApp app.now }
     requires item { ItemFits app.now trigger (option_map view item) }
     requires under_way { IsUnderWay K.Keeper app.now moment before.now session cache.old keeper.old wrote.old.items }
     ensures accepted { IfOk result (IsAccepted K.Keeper app.now moment trigger (option_map view item) seq session cache.new keeper.old keeper.new (drop (length wrote.old.items) wrote.new.items)) }
     ensures cut { OnErr result (Becomes K.Keeper keeper.old keeper.new
-        (λ t u. AreAll (IsInAll (RequestWrites app.now moment trigger (option_map view item) (scene t (begun session)))) (drop (length wrote.old.items) wrote.new.items))) }
+        (λ t u. AllSources (IsInAll (RequestWrites app.now moment trigger (option_map view item) (scene t (begun session)))) (drop (length wrote.old.items) wrote.new.items))) }
     ensures only { Becomes K.Keeper keeper.old keeper.new
-        (λ t u. AreAll (RequestMayWrite app.now trigger) (drop (length wrote.old.items) wrote.new.items)) }
+        (λ t u. AllSources (RequestMayWrite app.now trigger) (drop (length wrote.old.items) wrote.new.items)) }
     ensures undoable { CanGoBack K.Keeper app.now moment before.now cache.new keeper.new wrote.new.items }
     ensures goes_on { GoesOn K.Keeper app.now cache.old cache.new keeper.old keeper.new wrote.old.items wrote.new.items }
     ensures cause { HasCause K.Keeper keeper.old keeper.new result }
@@ -125,16 +125,16 @@ fn transact<K: Keeper, L: Ledger>(
     wrote: &mut Vec<Source>,
     steps: &mut Steps<L>,
 ) -> Result<Accepted, KeeperEnd>
-    requires sound { IsSound app.now }
+    requires sound { IsSoundApp app.now }
     requires item { ItemFits app.now trigger (option_map view item) }
     requires ready { CanBegin K.Keeper app.now moment before.now session cache.old keeper.old wrote.old.items }
     ensures accepted { IfOk result (IsAccepted K.Keeper app.now moment trigger (option_map view item) seq session cache.new keeper.old keeper.new (drop (length wrote.old.items) wrote.new.items)) }
     ensures stopped { OnErr result (Becomes K.Keeper keeper.old keeper.new Stays) }
     ensures pending { OnErr result (IsPending app.now before.now (K.told keeper.new) moment wrote.new.items cache.new) }
     ensures cut { OnErr result (Becomes K.Keeper keeper.old keeper.new
-        (λ t u. AreAll (IsInAll (RequestWrites app.now moment trigger (option_map view item) (scene t (begun session)))) (drop (length wrote.old.items) wrote.new.items))) }
+        (λ t u. AllSources (IsInAll (RequestWrites app.now moment trigger (option_map view item) (scene t (begun session)))) (drop (length wrote.old.items) wrote.new.items))) }
     ensures only { Becomes K.Keeper keeper.old keeper.new
-        (λ t u. AreAll (RequestMayWrite app.now trigger) (drop (length wrote.old.items) wrote.new.items)) }
+        (λ t u. AllSources (RequestMayWrite app.now trigger) (drop (length wrote.old.items) wrote.new.items)) }
     ensures ended { HasEnded K.Keeper app.now cache.old cache.new keeper.old keeper.new wrote.old.items wrote.new.items }
     ensures cause { HasCause K.Keeper keeper.old keeper.new result }
 {
@@ -185,16 +185,16 @@ pub fn accept_request<K: Keeper, L: Ledger>(
     wrote: &mut Vec<Source>,
     steps: &mut Steps<L>,
 ) -> Result<Accepted, KeeperEnd>
-    requires sound { IsSound app.now }
+    requires sound { IsSoundApp app.now }
     requires item { ItemFits app.now trigger (option_map view item) }
     requires ready { CanBegin K.Keeper app.now moment before.now session cache.old keeper.old wrote.old.items }
     ensures accepted { IfOk result (IsAccepted K.Keeper app.now moment trigger (option_map view item) seq session cache.new keeper.old keeper.new (drop (length wrote.old.items) wrote.new.items)) }
     ensures stopped { OnErr result (Becomes K.Keeper keeper.old keeper.new Stays) }
     ensures undone { OnErr result (IsCached app.now before.now (K.told keeper.new) moment cache.new) }
     ensures cut { OnErr result (Becomes K.Keeper keeper.old keeper.new
-        (λ t u. AreAll (IsInAll (RequestWrites app.now moment trigger (option_map view item) (scene t (begun session)))) (drop (length wrote.old.items) wrote.new.items))) }
+        (λ t u. AllSources (IsInAll (RequestWrites app.now moment trigger (option_map view item) (scene t (begun session)))) (drop (length wrote.old.items) wrote.new.items))) }
     ensures only { Becomes K.Keeper keeper.old keeper.new
-        (λ t u. AreAll (RequestMayWrite app.now trigger) (drop (length wrote.old.items) wrote.new.items)) }
+        (λ t u. AllSources (RequestMayWrite app.now trigger) (drop (length wrote.old.items) wrote.new.items)) }
     ensures ended { HasEnded K.Keeper app.now cache.old cache.new keeper.old keeper.new wrote.old.items wrote.new.items }
     ensures cause { HasCause K.Keeper keeper.old keeper.new result }
 {

@@ -1,17 +1,17 @@
 //! Whether controls in galleries are visible for an item.
 ghost use Rattle.std.specs.Prelude.{◌≡◌, ℕ, IfOk, Some};
 ghost use Rattle.recalc.specs.AskingOver.{HasRead};
-ghost use Rattle.recalc.specs.app_semantics.Chosen.{row_at};
+ghost use Rattle.recalc.specs.app_semantics.Chosen.{row_at_position};
 ghost use Rattle.recalc.specs.app_semantics.Holding.{HoldsFitting};
 ghost use Rattle.recalc.specs.app_semantics.Present.{items_of, present};
-ghost use Rattle.recalc.specs.app_semantics.Sound.{IsSound};
+ghost use Rattle.recalc.specs.app_semantics.Sound.{IsSoundApp};
 ghost use Rattle.fx_scalar.specs.ScalarFunctions.{IsToday};
 ghost use Rattle.recalc.specs.fx_semantics.Rows.{rows_in};
 ghost use Rattle.fx_value.specs.Columns.{Row};
 ghost use Rattle.recalc.specs.Asking.{IsHeardOf, ToldRows};
 ghost use Rattle.recalc.specs.Templates.{StandsIn};
 ghost use Rattle.recalc.specs.Values.{CellsFit, value_of};
-ghost use Rattle.session_requests.specs.Posting.{IsShownFor, IsVisibleFor, gallery_around as gallery_around_of};
+ghost use Rattle.session_requests.specs.Posting.{IsShownToUser, IsVisibleFor, gallery_around as gallery_around_of};
 ghost use Rattle.session_requests.specs.Targets.{IsTarget};
 ghost use Rattle.row_keeper.specs.Over.{HasCause};
 
@@ -36,14 +36,14 @@ pub(crate) fn is_shown_for<K: Keeper, L: Ledger>(
     target: Target,
     steps: &mut Steps<L>,
 ) -> Result<bool, KeeperEnd>
-    requires sound { IsSound app.now }
+    requires sound { IsSoundApp app.now }
     requires holds { HoldsFitting app.now.names session.now }
     requires fits { CellsFit app.now (value_of valued.now) }
     requires day { (moment : ℕ) × IsToday moment valued.now.day }
     requires target { IsTarget app.now.names (value_of valued.now) target }
     requires shaped { K.shaped keeper.old ≡ Some app.now.names.schema }
     ensures shows { IfOk result (λ b. (moment : ℕ) (tables : ToldRows) → IsToday moment valued.now.day → IsHeardOf (K.told keeper.new) tables →
-        IsShownFor (present app.now session.now tables moment) (value_of valued.now) target.control (gallery_around_of app.now target.control) target.item b) }
+        IsShownToUser (present app.now session.now tables moment) (value_of valued.now) target.control (gallery_around_of app.now target.control) target.item b) }
     ensures read { HasRead K.Keeper keeper.old keeper.new }
     ensures cause { HasCause K.Keeper keeper.old keeper.new result }
 {
@@ -83,12 +83,12 @@ fn is_visible_at<K: Keeper, L: Ledger>(
     item: Item,
     steps: &mut Steps<L>,
 ) -> Result<bool, KeeperEnd>
-    requires sound { IsSound app.now }
+    requires sound { IsSoundApp app.now }
     requires holds { HoldsFitting app.now.names session.now }
     requires fits { CellsFit app.now (value_of valued.now) }
     requires day { (moment : ℕ) × IsToday moment valued.now.day }
     requires stands { StandsIn app.now.names control item.gallery }
-    requires there { (row : Row) × (row_at item.at (rows_in (items_of app.now.names (value_of valued.now) item.gallery)) ≡ Some row) }
+    requires there { (row : Row) × (row_at_position item.at (rows_in (items_of app.now.names (value_of valued.now) item.gallery)) ≡ Some row) }
     requires shaped { K.shaped keeper.old ≡ Some app.now.names.schema }
     ensures shows { IfOk result (λ b. (moment : ℕ) (tables : ToldRows) → IsToday moment valued.now.day → IsHeardOf (K.told keeper.new) tables →
         IsVisibleFor (present app.now session.now tables moment) (value_of valued.now) control item.gallery item.at b) }

@@ -2,10 +2,10 @@
 ghost use Rattle.std.specs.Prelude.{◌≡◌, ◌<◌, ◌++◌, IfSome, Option, length};
 ghost use Rattle.std.specs.Option.{option_to_list};
 ghost use Rattle.std.specs.Vec.{vec_capacity, vec_len};
-ghost use Rattle.session_requests.specs.Worlds.{when as when_done, written_by as by_put};
+ghost use Rattle.session_requests.specs.Worlds.{source_if_done as when_done, written_by as by_put};
 ghost use Rattle.fx_deeds.specs.Changed.{written as sources_of};
 ghost use Rattle.recalc.specs.app_cells.declared.app.App.{App as AnApp};
-ghost use Rattle.recalc.specs.Kept.{place_of};
+ghost use Rattle.recalc.specs.Kept.{source_index};
 ghost use Rattle.session_requests.specs.Caching.{IsTouchedIf};
 
 use crate::app_cells::App;
@@ -48,7 +48,7 @@ pub(crate) fn when(done: bool, source: Option<Source>) -> Option<Source>
 /// Notes a source that was written, if one was, for which there is room, and tells the cache of it.
 pub(crate) fn note(app: &App, wrote: &mut Vec<Source>, cache: &mut Cache, source: Option<Source>)
     requires room { vec_len wrote.old < vec_capacity wrote.old }
-    requires place { IfSome source (λ s. place_of s < length cache.old.versions) }
+    requires place { IfSome source (λ s. source_index s < length cache.old.versions) }
     ensures wrote { wrote.new.items ≡ wrote.old.items ++ option_to_list source }
     ensures touched { (a : AnApp) → IsTouchedIf a source cache.old cache.new }
 {

@@ -19,9 +19,9 @@ use Rattle.fx_core.specs.declared.names.Variable.{Variable}
 use Rattle.fx_core.specs.declared.sources.Source.{Source}
 use Rattle.fx_core.specs.declared.sources.Source.TheVariants as source
 use Rattle.fx_typing.proofs.Same.{shape_same}
-use Rattle.session_state.specs.Carrying.{AreAlike, carried, carried_values, value_or, is_same_screen, is_same_variable, variable_was, collection_was, place_of_variable, place_of_collection}
+use Rattle.session_state.specs.Carrying.{AreAlike, carried, carried_values, value_or, is_screen_of_same_name, is_same_variable, variable_was, collection_was, place_of_variable, place_of_collection}
 use Rattle.session_state.specs.Changes.{FitsNames, HoldsTables, IsOwn}
-use Rattle.session_state.specs.Sessions.{Holds, SessionState, held}
+use Rattle.session_state.specs.Sessions.{Holds, SessionState, stored_value}
 use Rattle.session_state.proofs.Fitting.{mapped_within, typed_within}
 use Rattle.session_state.proofs.Moving.{was}
 
@@ -49,15 +49,15 @@ same_variable n m a b i found at =
     let passes = (position-Some (λ v. is_same_variable n m v b) n.variables i a found).1 in
     ap (λ (v : Variable). is_same_variable n m v b) (sym (get_or_from_slice_get n.variables i a a at)) ∙ passes
 
-same_screen : (n m : Names) (a b : Variable) → is_same_variable n m a b ≡ true → is_same_screen n m a.screen b.screen ≡ true
+same_screen : (n m : Names) (a b : Variable) → is_same_variable n m a b ≡ true → is_screen_of_same_name n m a.screen b.screen ≡ true
 same_screen n m a b e = (and_parts _ _ e).1
 
-one_global : (n m : Names) (o p : Option ℕ) (s t : Shape) → is_same_screen n m o p ≡ true → if_global p t ≡ Some s → if_global o t ≡ Some s
+one_global : (n m : Names) (o p : Option ℕ) (s t : Shape) → is_screen_of_same_name n m o p ≡ true → if_global p t ≡ Some s → if_global o t ≡ Some s
 one_global n m None None s t e f = f
 one_global n m (Some j) None s t e f = absurd cc
 one_global n m o (Some k) s t e f = absurd cc
 
-one_context : (n m : Names) (o p : Option ℕ) (s t : Shape) → is_same_screen n m o p ≡ true → if_context p t ≡ Some s → if_context o t ≡ Some s
+one_context : (n m : Names) (o p : Option ℕ) (s t : Shape) → is_screen_of_same_name n m o p ≡ true → if_context p t ≡ Some s → if_context o t ≡ Some s
 one_context n m (Some j) (Some k) s t e f = f
 one_context n m None (Some k) s t e f = absurd cc
 one_context n m o None s t e f = absurd cc
@@ -66,7 +66,7 @@ module _ (n m : Names) (s : SessionState) (alike : AreAlike n m) (tables : Holds
   -- a variable that kept its value, by its kind
   kept : (X : ℕ → Source) (kind : Option ℕ → Shape → Option Shape)
       → ((x : Variable) (i : ℕ) (u : Shape) → slice_get n.variables i ≡ Some x → kind x.screen (shape x.ty) ≡ Some u → fits_in (get_or s.variables i blank) u ≡ true)
-      → ((o p : Option ℕ) (u t : Shape) → is_same_screen n m o p ≡ true → kind p t ≡ Some u → kind o t ≡ Some u)
+      → ((o p : Option ℕ) (u t : Shape) → is_screen_of_same_name n m o p ≡ true → kind p t ≡ Some u → kind o t ≡ Some u)
       → (k i : ℕ) (t : Shape) → option_and_then (λ (v : Variable). kind v.screen (shape v.ty)) (slice_get m.variables k) ≡ Some t → variable_was n m k ≡ Some i
       → fits_in (get_or s.variables i blank) t ≡ true
   kept X kind fits one k i t e g =
@@ -76,13 +76,13 @@ module _ (n m : Names) (s : SessionState) (alike : AreAlike n m) (tables : Holds
       let old : kind w.old.screen (shape w.new.ty) ≡ Some t = one w.old.screen w.new.screen t (shape w.new.ty) screens new in
       fits w.old i t w.old_at (ap (kind w.old.screen) (shape_same _ _ w.type_same) ∙ old)
 
-  fits_global : (k : ℕ) (t : Shape) → sources m (source.Global k) ≡ Some t → fits_in (held (carried n m s) (source.Global k)) t ≡ true
+  fits_global : (k : ℕ) (t : Shape) → sources m (source.Global k) ≡ Some t → fits_in (stored_value (carried n m s) (source.Global k)) t ≡ true
   fits_global k t e =
       let lt = typed_within m.variables k t (λ (v : Variable). if_global v.screen (shape v.ty)) e in
       carried_fits_at (variable_was n m) blank s.variables (length m.variables) k t _ lt refl refl
       (λ i g. kept (λ j. source.Global j) if_global (λ x j u at h. f.values_fit (source.Global j) u tt (ap (option_and_then (λ (v : Variable). if_global v.screen (shape v.ty))) at ∙ h)) (λ o p u t' h h'. one_global n m o p u t' h h') k i t e g)
 
-  fits_context : (k : ℕ) (t : Shape) → sources m (source.Context k) ≡ Some t → fits_in (held (carried n m s) (source.Context k)) t ≡ true
+  fits_context : (k : ℕ) (t : Shape) → sources m (source.Context k) ≡ Some t → fits_in (stored_value (carried n m s) (source.Context k)) t ≡ true
   fits_context k t e =
       let lt = typed_within m.variables k t (λ (v : Variable). if_context v.screen (shape v.ty)) e in
       carried_fits_at (variable_was n m) blank s.variables (length m.variables) k t _ lt refl refl
@@ -97,7 +97,7 @@ module _ (n m : Names) (s : SessionState) (alike : AreAlike n m) (tables : Holds
       let there : i < length s.collections = f.sources_held (source.Gathered i) t tt old in
       ap (λ (d : Data). fits_in d t) (get_or_within s.collections i (tab no_rows) blank there) ∙ f.values_fit (source.Gathered i) t tt old
 
-  fits_gathered : (k : ℕ) (t : Shape) → sources m (source.Gathered k) ≡ Some t → fits_in (held (carried n m s) (source.Gathered k)) t ≡ true
+  fits_gathered : (k : ℕ) (t : Shape) → sources m (source.Gathered k) ≡ Some t → fits_in (stored_value (carried n m s) (source.Gathered k)) t ≡ true
   fits_gathered k t e =
       let lt = mapped_within m.collections k t (λ (c : Collection). shape c.ty) e in
       carried_fits_at (collection_was n m) (tab no_rows) s.collections (length m.collections) k t _ lt refl (tables k t e) (λ i g. kept_collection k i t e g)
@@ -123,7 +123,7 @@ module _ (n m : Names) (s : SessionState) (alike : AreAlike n m) (tables : Holds
   holds (source.Table k) t own e = own
   holds source.Today t own e = own
 
-  fits : (x : Source) (t : Shape) → IsOwn x → sources m x ≡ Some t → fits_in (held (carried n m s) x) t ≡ true
+  fits : (x : Source) (t : Shape) → IsOwn x → sources m x ≡ Some t → fits_in (stored_value (carried n m s) x) t ≡ true
   fits (source.Global k) t own e = fits_global k t e
   fits (source.Context k) t own e = fits_context k t e
   fits (source.Gathered k) t own e = fits_gathered k t e

@@ -21,7 +21,7 @@ use Rattle.fx_core.specs.declared.names.Variable.{Variable}
 use Rattle.fx_core.specs.SourceTypes.{sources, if_global, if_context}
 use Rattle.session_state.specs.declared.change.Change.{Change}
 use Rattle.session_state.specs.declared.change.Change.TheVariants.{Global, Context, Gather, Empty, Input, Choose, Screen, Notice}
-use Rattle.session_state.specs.Sessions.{SessionState, held, Holds, opened}
+use Rattle.session_state.specs.Sessions.{SessionState, stored_value, Holds, opened}
 use Rattle.session_state.specs.Changes.{made, IsOwn, FitsNames, FitsSource, FitsChange, HoldsTables}
 
 -- a value that fits where its source has a type
@@ -64,7 +64,7 @@ holds_variable n s k d f (source.Chosen j) t own e = own
 holds_variable n s k d f (source.Table j) t own e = own
 holds_variable n s k d f source.Today t own e = own
 
-fits_variable : (n : Names) (s : SessionState) (k : ℕ) (d : Data) → k < length s.variables → FitsNames n s → FitsAt n (source.Global k) d → FitsAt n (source.Context k) d → (x : Source) (t : Shape) → IsOwn x → sources n x ≡ Some t → fits_in (held (record s { variables = set s.variables k d }) x) t ≡ true
+fits_variable : (n : Names) (s : SessionState) (k : ℕ) (d : Data) → k < length s.variables → FitsNames n s → FitsAt n (source.Global k) d → FitsAt n (source.Context k) d → (x : Source) (t : Shape) → IsOwn x → sources n x ≡ Some t → fits_in (stored_value (record s { variables = set s.variables k d }) x) t ≡ true
 fits_variable n s k d lt f g h (source.Global j) t own e = put_fits s.variables k j d t lt (moved n k j (λ m. source.Global m) d t g e) (f.values_fit (source.Global j) t tt e)
 fits_variable n s k d lt f g h (source.Context j) t own e = put_fits s.variables k j d t lt (moved n k j (λ m. source.Context m) d t h e) (f.values_fit (source.Context j) t tt e)
 fits_variable n s k d lt f g h (source.Gathered j) t own e = f.values_fit (source.Gathered j) t tt e
@@ -94,7 +94,7 @@ holds_collection n s k d f (source.Chosen j) t own e = own
 holds_collection n s k d f (source.Table j) t own e = own
 holds_collection n s k d f source.Today t own e = own
 
-fits_collection : (n : Names) (s : SessionState) (k : ℕ) (d : Data) → k < length s.collections → FitsNames n s → FitsAt n (source.Gathered k) d → (x : Source) (t : Shape) → IsOwn x → sources n x ≡ Some t → fits_in (held (record s { collections = set s.collections k d }) x) t ≡ true
+fits_collection : (n : Names) (s : SessionState) (k : ℕ) (d : Data) → k < length s.collections → FitsNames n s → FitsAt n (source.Gathered k) d → (x : Source) (t : Shape) → IsOwn x → sources n x ≡ Some t → fits_in (stored_value (record s { collections = set s.collections k d }) x) t ≡ true
 fits_collection n s k d lt f g (source.Global j) t own e = f.values_fit (source.Global j) t tt e
 fits_collection n s k d lt f g (source.Context j) t own e = f.values_fit (source.Context j) t tt e
 fits_collection n s k d lt f g (source.Gathered j) t own e = put_fits s.collections k j d t lt (moved n k j (λ m. source.Gathered m) d t g e) (f.values_fit (source.Gathered j) t tt e)
@@ -130,7 +130,7 @@ holds_input n s k d f (source.Chosen j) t own e = own
 holds_input n s k d f (source.Table j) t own e = own
 holds_input n s k d f source.Today t own e = own
 
-fits_input : (n : Names) (s : SessionState) (k : ℕ) (d : Option Data) → k < length s.inputs → FitsNames n s → FitsAt n (source.Input k) (unwrap_or d blank) → (x : Source) (t : Shape) → IsOwn x → sources n x ≡ Some t → fits_in (held (record s { inputs = set s.inputs k d }) x) t ≡ true
+fits_input : (n : Names) (s : SessionState) (k : ℕ) (d : Option Data) → k < length s.inputs → FitsNames n s → FitsAt n (source.Input k) (unwrap_or d blank) → (x : Source) (t : Shape) → IsOwn x → sources n x ≡ Some t → fits_in (stored_value (record s { inputs = set s.inputs k d }) x) t ≡ true
 fits_input n s k d lt f g (source.Global j) t own e = f.values_fit (source.Global j) t tt e
 fits_input n s k d lt f g (source.Context j) t own e = f.values_fit (source.Context j) t tt e
 fits_input n s k d lt f g (source.Gathered j) t own e = f.values_fit (source.Gathered j) t tt e
@@ -160,7 +160,7 @@ holds_same s s' vs cs is (source.Chosen j) h = h
 holds_same s s' vs cs is (source.Table j) h = h
 holds_same s s' vs cs is source.Today h = h
 
-held_same : (s s' : SessionState) → s'.variables ≡ s.variables → s'.collections ≡ s.collections → s'.inputs ≡ s.inputs → (x : Source) → held s' x ≡ held s x
+held_same : (s s' : SessionState) → s'.variables ≡ s.variables → s'.collections ≡ s.collections → s'.inputs ≡ s.inputs → (x : Source) → stored_value s' x ≡ stored_value s x
 held_same s s' vs cs is (source.Global j) = ap (λ (xs : List Data). get_or xs j blank) vs
 held_same s s' vs cs is (source.Context j) = ap (λ (xs : List Data). get_or xs j blank) vs
 held_same s s' vs cs is (source.Gathered j) = ap (λ (xs : List Data). get_or xs j blank) cs
@@ -207,7 +207,7 @@ own (source.Chosen j) s h = h
 own (source.Table j) s h = h
 own source.Today s h = h
 
-pub held_fits : (n : Names) (s : SessionState) (x : Source) (t : Shape) → Holds s x → FitsNames n s → sources n x ≡ Some t → fits_in (held s x) t ≡ true
+pub held_fits : (n : Names) (s : SessionState) (x : Source) (t : Shape) → Holds s x → FitsNames n s → sources n x ≡ Some t → fits_in (stored_value s x) t ≡ true
 held_fits n s x t h f e = f.values_fit x t (own x s h) e
 
 -- a session as it is opened
@@ -240,7 +240,7 @@ opened_holds n (source.Chosen j) t own e = own
 opened_holds n (source.Table j) t own e = own
 opened_holds n source.Today t own e = own
 
-opened_fits : (n : Names) → HoldsTables n → (x : Source) (t : Shape) → IsOwn x → sources n x ≡ Some t → fits_in (held (opened n) x) t ≡ true
+opened_fits : (n : Names) → HoldsTables n → (x : Source) (t : Shape) → IsOwn x → sources n x ≡ Some t → fits_in (stored_value (opened n) x) t ≡ true
 opened_fits n h (source.Global j) t own e = let lt = typed_within n.variables j t (λ (v : Variable). if_global v.screen (shape v.ty)) e in ap (λ (d : Data). fits_in d t) (get_or-replicate (length n.variables) j blank blank lt)
 opened_fits n h (source.Context j) t own e = let lt = typed_within n.variables j t (λ (v : Variable). if_context v.screen (shape v.ty)) e in ap (λ (d : Data). fits_in d t) (get_or-replicate (length n.variables) j blank blank lt)
 opened_fits n h (source.Gathered j) t own e = let lt = mapped_within n.collections j t (λ (c : Collection). shape c.ty) e in ap (λ (d : Data). fits_in d t) (get_or-replicate (length n.collections) j (tab no_rows) blank lt) ∙ h j t e

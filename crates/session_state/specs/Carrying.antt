@@ -10,7 +10,7 @@ use Rattle.fx_core.specs.declared.names.Names.{Names}
 use Rattle.fx_core.specs.declared.names.Variable.{Variable}
 use Rattle.fx_typing.specs.Ways.{same_shape}
 use Rattle.session_state.specs.Changes.{FitsNames, HoldsTables}
-use Rattle.session_state.specs.Sessions.{SessionState, no_room}
+use Rattle.session_state.specs.Sessions.{SessionState, no_session_room}
 
 -- both are there, and they are one name
 abbrev pub is_same_name : Option (List ℕ) → Option (List ℕ) → Bool
@@ -18,14 +18,14 @@ is_same_name (Some a) (Some b) = bytes_eq a b
 is_same_name a b = false
 
 -- two screens, by their numbers among these names and those, have one name; or both are none
-abbrev pub is_same_screen : Names → Names → Option ℕ → Option ℕ → Bool
-is_same_screen n m (Some j) (Some k) = is_same_name (slice_get n.screens j) (slice_get m.screens k)
-is_same_screen n m None None = true
-is_same_screen n m a b = false
+abbrev pub is_screen_of_same_name : Names → Names → Option ℕ → Option ℕ → Bool
+is_screen_of_same_name n m (Some j) (Some k) = is_same_name (slice_get n.screens j) (slice_get m.screens k)
+is_screen_of_same_name n m None None = true
+is_screen_of_same_name n m a b = false
 
 -- a variable of these names and one of those are one: both are global, or of screens of one name
 abbrev pub is_same_variable : Names → Names → Variable → Variable → Bool
-is_same_variable n m v w = bytes_eq v.name w.name && is_same_screen n m v.screen w.screen
+is_same_variable n m v w = bytes_eq v.name w.name && is_screen_of_same_name n m v.screen w.screen
 
 -- where a variable of those names stands among these
 abbrev pub place_of_variable : Names → Names → Variable → Option ℕ
@@ -71,7 +71,7 @@ abbrev pub carried : Names → Names → SessionState → SessionState
 carried old new s = record s {
   variables = carried_values (variable_was old new) blank s.variables (length new.variables);
   collections = carried_values (collection_was old new) (tab no_rows) s.collections (length new.collections);
-  room = no_room;
+  room = no_session_room;
 }
 
 -- two apps have as many screens, and controls of the same kinds

@@ -10,7 +10,7 @@ use Rattle.fx_core.specs.declared.names.Names.{Names}
 use Rattle.fx_core.specs.SourceTypes.{sources}
 use Rattle.session_state.specs.declared.change.Change.{Change}
 use Rattle.session_state.specs.declared.change.Change.TheVariants.{Global, Context, Gather, Empty, Input, Choose, Screen, Notice}
-use Rattle.session_state.specs.Sessions.{SessionState, no_room, weight, may_weigh, held, Holds}
+use Rattle.session_state.specs.Sessions.{SessionState, no_session_room, weight, may_weigh, stored_value, Holds}
 
 -- the session that a change makes
 abbrev pub made : Change → SessionState → SessionState
@@ -34,8 +34,8 @@ is_eleventh (Notice w) s = nat_le 10 (length s.notices)
 is_eleventh c s = false
 
 -- a change is refused where the session would weigh too much, and at the eleventh notice
-abbrev pub is_refused : Change → SessionState → Bool
-is_refused c s = not (may_weigh (weight s) (weight (made c s))) || is_eleventh c s
+abbrev pub is_change_refused : Change → SessionState → Bool
+is_change_refused c s = not (may_weigh (weight s) (weight (made c s))) || is_eleventh c s
 
 -- what a change names is there
 abbrev pub IsThere : Change → SessionState → Type 0
@@ -62,8 +62,8 @@ pub record FitsNames (n : Names) (s : SessionState) : Type 0 where
   pub screen : s.screen < length n.screens
   pub controls : length s.chosen ≡ length n.controls
   pub sources_held : (x : Source) (t : Shape) → IsOwn x → sources n x ≡ Some t → Holds s x
-  pub values_fit : (x : Source) (t : Shape) → IsOwn x → sources n x ≡ Some t → fits_in (held s x) t ≡ true
-  pub spare : s.room ≡ no_room
+  pub values_fit : (x : Source) (t : Shape) → IsOwn x → sources n x ≡ Some t → fits_in (stored_value s x) t ≡ true
+  pub spare : s.room ≡ no_session_room
 
 -- an empty table fits the type of each collection
 abbrev pub HoldsTables : Names → Type 0

@@ -6,22 +6,22 @@ use Rattle.fx_value.specs.Weight.{weight_of}
 use Rattle.fx_core.specs.declared.sources.Source.{Source}
 use Rattle.fx_core.specs.declared.sources.Source.TheVariants as source
 use Rattle.fx_core.specs.declared.names.Names.{Names}
-use Rattle.session_state.specs.Once.{Kept, nobody}
+use Rattle.session_state.specs.Once.{LastRequest, nobody}
 
 -- for how many variables and collections there is room beside a session, for an app that is edited
-pub record Room : Type 0 where
+pub record SessionRoom : Type 0 where
   pub variables : ℕ
   pub collections : ℕ
 
-abbrev pub no_room : Room
-no_room = record { variables = 0; collections = 0 }
+abbrev pub no_session_room : SessionRoom
+no_session_room = record { variables = 0; collections = 0 }
 
 -- as much as the names want, and no less than there is
-abbrev pub room_with : Names → Room → Room
+abbrev pub room_with : Names → SessionRoom → SessionRoom
 room_with n r = record { variables = max (length n.variables) r.variables; collections = max (length n.collections) r.collections }
 
 -- there is as much as the names want
-pub record HasRoom (n : Names) (r : Room) : Type 0 where
+pub record HasSessionRoom (n : Names) (r : SessionRoom) : Type 0 where
   pub variables : length n.variables ≤ r.variables
   pub collections : length n.collections ≤ r.collections
 
@@ -35,9 +35,9 @@ pub record SessionState : Type 0 where
   pub collections : List Data
   pub inputs : List (Option Data)
   pub chosen : List (Option (ℕ × Option ℕ))
-  pub kept : Kept
+  pub kept : LastRequest
   pub notices : List (List ℕ)
-  pub room : Room
+  pub room : SessionRoom
 
 -- a session at first: the first screen, blank variables, empty collections, and nothing else
 abbrev pub opened : Names → SessionState
@@ -50,7 +50,7 @@ opened n = record {
   chosen = replicate (length n.controls) None;
   kept = nobody;
   notices = [];
-  room = no_room;
+  room = no_session_room;
 }
 
 -- what a value weighs, as far as 64 bits can tell
@@ -77,9 +77,9 @@ Holds s (source.Input k) = k < length s.inputs
 Holds s x = ⊥
 
 -- its value, which is blank where a user gave nothing
-abbrev pub held : SessionState → Source → Data
-held s (source.Global k) = slice_index_or s.variables k blank
-held s (source.Context k) = slice_index_or s.variables k blank
-held s (source.Gathered k) = slice_index_or s.collections k blank
-held s (source.Input k) = unwrap_or (slice_index_or s.inputs k None) blank
-held s x = blank
+abbrev pub stored_value : SessionState → Source → Data
+stored_value s (source.Global k) = slice_index_or s.variables k blank
+stored_value s (source.Context k) = slice_index_or s.variables k blank
+stored_value s (source.Gathered k) = slice_index_or s.collections k blank
+stored_value s (source.Input k) = unwrap_or (slice_index_or s.inputs k None) blank
+stored_value s x = blank

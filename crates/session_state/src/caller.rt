@@ -16,9 +16,9 @@ pub(crate) struct Caller {
 }
 
 impl Model for Caller {
-    ghost use Rattle.session_state.specs.Once.{Kept};
+    ghost use Rattle.session_state.specs.Once.{LastRequest};
 
-    ghost Value = { Kept };
+    ghost Value = { LastRequest };
 
     ghost view = { λ c. record { last = c.last; body = c.body.items; reply = c.reply.items } };
 }

@@ -24,7 +24,7 @@ fn are_one(names: &Names, others: &Names, one: usize, other: usize) -> bool
 
 // Whether a screen of these names and one of others have one name, or both are none.
 fn is_same_screen(names: &Names, others: &Names, one: Option<u32>, other: Option<u32>) -> bool
-    ensures { result ≡ carrying.is_same_screen names.now others.now one other }
+    ensures { result ≡ carrying.is_screen_of_same_name names.now others.now one other }
 {
     match (one, other) {
         (Some(one), Some(other)) => are_one(names, others, one as usize, other as usize),

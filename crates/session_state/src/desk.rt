@@ -14,9 +14,9 @@ pub struct Desk {
 }
 
 impl Model for Desk {
-    ghost use Rattle.session_state.specs.Once.{Kept};
+    ghost use Rattle.session_state.specs.Once.{LastRequest};
 
-    ghost Value = { Kept };
+    ghost Value = { LastRequest };
 
     ghost view = { λ d. d.caller };
 }

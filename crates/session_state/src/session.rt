@@ -100,8 +100,8 @@ impl Session {
     ghost use Rattle.fx_core.specs.SourceTypes.{sources};
     ghost use Rattle.session_state.specs.Once.{turn_of};
     ghost use Rattle.session_state.specs.Carrying.{carried};
-    ghost use Rattle.session_state.specs.Sessions.{HasRoom, opened, held, Holds, no_room, room_with, weight as weight_of, may_weigh};
-    ghost use Rattle.session_state.specs.Changes.{made, is_refused, IsNotice, IsThere, FitsNames, FitsChange, HoldsTables};
+    ghost use Rattle.session_state.specs.Sessions.{HasSessionRoom, opened, stored_value, Holds, no_session_room, room_with, weight as weight_of, may_weigh};
+    ghost use Rattle.session_state.specs.Changes.{made, is_change_refused, IsNotice, IsThere, FitsNames, FitsChange, HoldsTables};
 
     /// A session of an app: on its first screen, with blank variables, empty collections, and nothing given, chosen or
     /// accepted yet.
@@ -180,7 +180,7 @@ impl Session {
 
     /// Gives the room back.
     pub fn drop_room(&mut self)
-        ensures { self.new ≡ record self.old { room = no_room } }
+        ensures { self.new ≡ record self.old { room = no_session_room } }
     {
         self.spare_variables = Vec::new(self.alloc);
         self.spare_collections = Vec::new(self.alloc);
@@ -188,7 +188,7 @@ impl Session {
 
     /// Goes over to an edited app. What both apps have keeps its value, and the room is used up. It takes no memory.
     pub fn carry(&mut self, old: &Names, new: &Names)
-        requires { HasRoom new.now self.old.room }
+        requires { HasSessionRoom new.now self.old.room }
         ensures { self.new ≡ carried old.now new.now self.old }
     {
         let mut variables = mem::replace(&mut self.spare_variables, Vec::new(self.alloc));
@@ -209,8 +209,8 @@ impl Session {
     /// The value of a variable or a collection, or what the user gave, which is blank where nothing was given.
     pub fn get(&self, source: Source) -> Result<Value, Memory>
         requires { Holds self.now source }
-        ensures value { IfOk result (λ v. view v ≡ held self.now source) }
-        ensures fits { (names : AppNames) (t : Shape) → FitsNames names self.now → sources names source ≡ Some t → fits_in (held self.now source) t ≡ true }
+        ensures value { IfOk result (λ v. view v ≡ stored_value self.now source) }
+        ensures fits { (names : AppNames) (t : Shape) → FitsNames names self.now → sources names source ≡ Some t → fits_in (stored_value self.now source) t ≡ true }
     {
         match source {
             Source::Global(number) | Source::Context(number) => {
@@ -230,7 +230,7 @@ impl Session {
     /// weigh more than before and more than 4,194,304 bytes, and at the eleventh notice. Only a notice takes memory.
     pub fn change(&mut self, change: Change) -> Result<bool, Memory>
         requires { IsThere change self.old }
-        ensures answer { IfOk result (λ done. done ≡ not (is_refused change self.old)) }
+        ensures answer { IfOk result (λ done. done ≡ not (is_change_refused change self.old)) }
         ensures changed { IfOk result (λ done. self.new ≡ (if done then made change self.old else self.old)) }
         ensures err { OnErr result (self.new ≡ self.old) }
         ensures memory { OnErr result (IsNotice change) }
@@ -243,7 +243,7 @@ impl Session {
     // over these clauses alone.
     fn make(&mut self, change: Change) -> Result<bool, Memory>
         requires { IsThere change self.old }
-        ensures answer { IfOk result (λ done. done ≡ not (is_refused change self.old)) }
+        ensures answer { IfOk result (λ done. done ≡ not (is_change_refused change self.old)) }
         ensures changed { IfOk result (λ done. self.new ≡ (if done then made change self.old else self.old)) }
         ensures err { OnErr result (self.new ≡ self.old) }
         ensures memory { OnErr result (IsNotice change) }

@@ -9,9 +9,9 @@ use Rattle.std.proofs.lemmas.List.{length_push}
 use Rattle.recalc.proofs.of_app_semantics.CellTypes.{equal}
 use Rattle.recalc.specs.Templates.{steps_of}
 use Rattle.recalc.specs.app_cells.Leaning.{cell_of_property, is_property}
-use Rattle.session_views.specs.Bounds.{control_steps, count_of, formulas_for, is_called, is_for_items, is_in_gallery, items_steps, shown_steps}
+use Rattle.session_views.specs.Bounds.{control_steps, items_shown, formulas_for, is_called, is_for_items, is_in_gallery, items_steps, shown_steps}
 use Rattle.session_views.specs.Looking.{is_it, is_one}
-use Rattle.session_views.specs.Views.{is_in, put}
+use Rattle.session_views.specs.Views.{is_in, put_if_some}
 use Rattle.fx_core.specs.declared.names.ControlName.{ControlName}
 use Rattle.fx_core.specs.declared.names.Names.{Names}
 use Rattle.fx_core.specs.declared.names.Property.{Property}
@@ -166,19 +166,19 @@ pub shown_both : (n : Names) (xs ys : List Shown) → shown_steps n (xs ++ ys) �
 shown_both n [] ys = let none : shown_steps n [] ≡ 0 = refl in omega (arith, none)
 shown_both n (x ∷ xs) ys =
     let rest = shown_both n xs ys in
-    let all : shown_steps n ((x ∷ xs) ++ ys) ≡ count_of x.items * formulas_for n (is_called n x.name) + shown_steps n (xs ++ ys) = refl in
-    let first : shown_steps n (x ∷ xs) ≡ count_of x.items * formulas_for n (is_called n x.name) + shown_steps n xs = refl in
+    let all : shown_steps n ((x ∷ xs) ++ ys) ≡ items_shown x.items * formulas_for n (is_called n x.name) + shown_steps n (xs ++ ys) = refl in
+    let first : shown_steps n (x ∷ xs) ≡ items_shown x.items * formulas_for n (is_called n x.name) + shown_steps n xs = refl in
     omega (arith, rest, all, first)
 
 -- what one control shows more
-pub shown_more : (n : Names) (xs more : List Shown) (o : Option Shown) (first before after : ℕ) → more ≡ xs ++ put o [] → after ≤ before + shown_steps n (put o []) → before ≤ first + shown_steps n xs → after ≤ first + shown_steps n more
+pub shown_more : (n : Names) (xs more : List Shown) (o : Option Shown) (first before after : ℕ) → more ≡ xs ++ put_if_some o [] → after ≤ before + shown_steps n (put_if_some o []) → before ≤ first + shown_steps n xs → after ≤ first + shown_steps n more
 shown_more n xs more o first before after grown one all =
-    let both : shown_steps n more ≡ shown_steps n xs + shown_steps n (put o []) = ap (shown_steps n) grown ∙ shown_both n xs (put o []) in
+    let both : shown_steps n more ≡ shown_steps n xs + shown_steps n (put_if_some o []) = ap (shown_steps n) grown ∙ shown_both n xs (put_if_some o []) in
     omega (arith, both, one, all)
 
 -- a gallery that is shown, by its name
 pub shown_one : (n : Names) (g : ℕ) (c : ControlName) (s : Shown) (o : Option Items) → slice_get n.controls g ≡ Some c → s.name ≡ c.name → s.items ≡ o → items_steps n g o ≤ shown_steps n (s ∷ [])
 shown_one n g c s o there name items =
-    let less = times_less (count_of o) (formulas_for n (is_it g)) (formulas_for n (is_called n c.name)) (by_name n g c there) in
-    let same : shown_steps n (s ∷ []) ≡ count_of o * formulas_for n (is_called n c.name) + 0 = ap (λ (m : List ℕ). count_of s.items * formulas_for n (is_called n m) + 0) name ∙ ap (λ (q : Option Items). count_of q * formulas_for n (is_called n c.name) + 0) items in
+    let less = times_less (items_shown o) (formulas_for n (is_it g)) (formulas_for n (is_called n c.name)) (by_name n g c there) in
+    let same : shown_steps n (s ∷ []) ≡ items_shown o * formulas_for n (is_called n c.name) + 0 = ap (λ (m : List ℕ). items_shown s.items * formulas_for n (is_called n m) + 0) name ∙ ap (λ (q : Option Items). items_shown q * formulas_for n (is_called n c.name) + 0) items in
     omega (arith, less, same)

@@ -6,7 +6,7 @@ use Rattle.std.proofs.lemmas.Bool.{both_ways}
 use Rattle.recalc.specs.app_semantics.Holding.{HoldsFitting}
 use Rattle.recalc.specs.app_semantics.Present.{Present}
 use Rattle.session_views.specs.Galleries.{is_gallery}
-use Rattle.session_views.specs.Views.{IsShownFor, ShowsFirstItems, is_in}
+use Rattle.session_views.specs.Views.{IsItemControlShown, ShowsFirstItems, is_in}
 use Rattle.fx_types.specs.Types.{Shape}
 use Rattle.fx_types.specs.Values.{Data}
 use Rattle.fx_types.specs.declared.controls.Control.TheVariants as control
@@ -22,7 +22,7 @@ pub input_held : (n : Names) (s : SessionState) (k : ℕ) (c : ControlName) (t :
 input_held n s k c t holds there takes = holds.sources_held (source.Input k) t tt (ap (λ (o : Option ControlName). option_and_then (λ (d : ControlName). input_type d.kind) o) there ∙ takes)
 
 -- a control outside a gallery's template isn't shown for its items
-pub not_in : (p : Present) (values : ℕ → Data) (g : ℕ) (item : Data) (k : ℕ) (c : ControlName) → is_in g c.gallery ≡ false → IsShownFor p values g item k c None
+pub not_in : (p : Present) (values : ℕ → Data) (g : ℕ) (item : Data) (k : ℕ) (c : ControlName) → is_in g c.gallery ≡ false → IsItemControlShown p values g item k c None
 not_in p values g item k c out = λ h. absurd (both_ways (is_in g c.gallery) out h)
 
 -- a control that is no gallery has no items

@@ -8,8 +8,8 @@ use Rattle.std.proofs.lemmas.Bool.{and_parts}
 use Rattle.recalc.specs.app_cells.Leaning.{cell_of_property, items_cell}
 use Rattle.recalc.specs.app_cells.declared.app.App.{App}
 use Rattle.recalc.proofs.of_app_semantics.CellTypes.{equal, found, items_have, property_found, type_by}
-use Rattle.recalc.specs.app_semantics.Present.{items_of, value_or}
-use Rattle.recalc.specs.app_semantics.Sound.{IsSound}
+use Rattle.recalc.specs.app_semantics.Present.{items_of, cell_value_or}
+use Rattle.recalc.specs.app_semantics.Sound.{IsSoundApp}
 use Rattle.session_views.specs.Galleries.{is_gallery, is_gallery_named}
 use Rattle.session_views.specs.Ready.{IsGalleryOf, IsItemOf}
 use Rattle.session_views.specs.Views.{is_in}
@@ -29,7 +29,7 @@ use Rattle.fx_core.specs.Lawful.{Has, IsLawfulProperty}
 use Rattle.fx_core.specs.SourceTypes.{item_columns, item_type}
 use Rattle.fx_core.specs.declared.names.ControlName.{ControlName}
 use Rattle.fx_core.specs.declared.names.Names.{Names}
-use Rattle.fx_typing.specs.Typing.{item_of}
+use Rattle.fx_typing.specs.Typing.{item_context}
 use Rattle.fx_value.specs.Fits.{fits_in}
 use Rattle.recalc.specs.Values.{CellsFit}
 use Rattle.recalc.specs.Templates.{IsTemplateProperty}
@@ -51,7 +51,7 @@ text_type control.DatePicker items h = absurd cc
 text_type control.Gallery items h = absurd cc
 
 -- a written property is one that its control's kind has
-pub has_it : (a : App) (k d : ℕ) (name : List ℕ) (c : ControlName) → IsSound a → cell_of_property a.names k name ≡ Some d → slice_get a.names.controls k ≡ Some c → has_property c.kind name ≡ true
+pub has_it : (a : App) (k d : ℕ) (name : List ℕ) (c : ControlName) → IsSoundApp a → cell_of_property a.names k name ≡ Some d → slice_get a.names.controls k ≡ Some c → has_property c.kind name ≡ true
 has_it a k d name c s e there =
     let at = found a.names.properties k name d e in
     let place : IsLawfulProperty a.names at.property = subst (IsLawfulProperty a.names) (get_or_from_slice_get a.names.properties at.place at.property at.property at.there)
@@ -60,15 +60,15 @@ has_it a k d name c s e there =
     let has : Has at.property.name (Some c) = subst (Has at.property.name) control place in
     subst (λ x. has_property c.kind x ≡ true) at.name_is has
 
-pub text_for : (a : App) (g k : ℕ) (c : ControlName) → IsSound a → slice_get a.names.controls k ≡ Some c → is_in g c.gallery ≡ true → IsTemplateProperty a g (cell_of_property a.names k (codes "Text"))
+pub text_for : (a : App) (g k : ℕ) (c : ControlName) → IsSoundApp a → slice_get a.names.controls k ≡ Some c → is_in g c.gallery ≡ true → IsTemplateProperty a g (cell_of_property a.names k (codes "Text"))
 text_for a g k c s there i =
     template a g (cell_of_property a.names k (codes "Text")) (λ d e. in_gallery a g d c.gallery texts (is_in_gallery g c.gallery i)
     (property_found a k (codes "Text") d c texts s e there (text_type c.kind (shape c.items) (has_it a k d (codes "Text") c s e there))))
 
 -- an item fits what the formulas of the template see
-pub item_fits : (n : Names) (g : ℕ) (r : Row) → IsItemOf n g r → IsItemFit (Some (record_of r)) (item_of n (Some g))
+pub item_fits : (n : Names) (g : ℕ) (r : Row) → IsItemOf n g r → IsItemFit (Some (record_of r)) (item_context n (Some g))
 item_fits n g r h =
-    let type : item_of n (Some g) ≡ Some (item_type h.0) = ap (λ p. option_map item_type p) (h.1).there in
+    let type : item_context n (Some g) ≡ Some (item_type h.0) = ap (λ p. option_map item_type p) (h.1).there in
     subst (λ t. IsItemFit (Some (record_of r)) t) (sym type) h.2
 
 -- ---- a gallery by its name
@@ -100,7 +100,7 @@ none_got : (i : ℕ) (r : Row) → slice_get [] i ≡ Some r → ⊥
 none_got i r there = cc
 
 -- each row of its items is an item
-pub rows_are_items : (a : App) (values : ℕ → Data) (g : ℕ) (rows : List Row) (d : Data) → IsSound a → CellsFit a values → IsGalleryOf a.names g → d ≡ items_of a.names values g → rows ≡ rows_in d →
+pub rows_are_items : (a : App) (values : ℕ → Data) (g : ℕ) (rows : List Row) (d : Data) → IsSoundApp a → CellsFit a values → IsGalleryOf a.names g → d ≡ items_of a.names values g → rows ≡ rows_in d →
     (i : ℕ) (r : Row) → slice_get rows i ≡ Some r → IsItemOf a.names g r
 rows_are_items a values g rows d s fit at is all i r there =
     by (items_cell a.names g) refl (subst (λ (rs : List Row). slice_get rs i ≡ Some r) (all ∙ ap rows_in is) there)
@@ -108,7 +108,7 @@ rows_are_items a values g rows d s fit at is all i r there =
     cs : ColumnList
     cs = item_columns (shape (at.0).items)
 
-    by : (o : Option ℕ) → items_cell a.names g ≡ o → slice_get (rows_in (value_or values (tab no_rows) o)) i ≡ Some r → IsItemOf a.names g r
+    by : (o : Option ℕ) → items_cell a.names g ≡ o → slice_get (rows_in (cell_value_or values (tab no_rows) o)) i ≡ Some r → IsItemOf a.names g r
     by None e found = absurd (none_got i r found)
     by (Some k) e found =
         let has = items_have a g k at.0 s e (at.1).there (at.1).kind in

@@ -6,7 +6,7 @@ use Rattle.session_views.proofs.Galleries.{is_in_gallery, text_for}
 use Rattle.session_views.proofs.Looks.{Agrees, at, could, for_moved, it_is, items_same, on_screen, shown_moved, under}
 use Rattle.session_views.proofs.Single.{as_masked, as_other, for_one, ground, masked, masked_fits, shown_one}
 use Rattle.session_views.specs.Laws.{OneItemsVisit, OneScreenVisits}
-use Rattle.session_views.specs.Looking.{AreFreshFor, is_it, is_on}
+use Rattle.session_views.specs.Looking.{AreFreshFor, is_it, is_on_screen}
 use Rattle.session_views.specs.Views.{IsShown, fault_in, is_in}
 use Rattle.session_views.specs.Visits.{AreVisited, ControlVisits, FirstItemsVisit, GivenItemsVisit, ItemAtVisits, ItemsUnlessVisit, ItemsVisit, OrNone, PropertyVisits, ShownVisits, TemplateVisits}
 use Rattle.fx_types.specs.Values.{Data}
@@ -23,7 +23,7 @@ use Rattle.recalc.specs.app_semantics.Holding.{HoldsFitting}
 use Rattle.recalc.specs.app_semantics.Laws.{OneFreshAt}
 use Rattle.recalc.specs.app_semantics.Present.{Present, items_of, present}
 use Rattle.recalc.specs.app_semantics.Properties.{is_visible}
-use Rattle.recalc.specs.app_semantics.Sound.{IsSound}
+use Rattle.recalc.specs.app_semantics.Sound.{IsSoundApp}
 use Rattle.recalc.specs.fx_eval.Laws.{AreHeld}
 use Rattle.recalc.specs.fx_eval.Visits.{Both}
 use Rattle.recalc.specs.fx_semantics.Around.{record_of}
@@ -52,7 +52,7 @@ visited_one {C} {A} P Q k (c ∷ cs) xs ys n l one (o, us, is, both) (q, ws, too
     (λ x y g h. visited_one P Q (suc k) cs us ws x y (λ i place d u w v z e there. one (suc i) place d u w v z (omega (arith, e)) there) g h) both others
 
 -- where cells that are looked at have fresh values, by whatever numbers these are given
-module _ (one : OneValue) (once : OneFreshAt) (law : OneItemVisits) (a : App) (s : SessionState) (rows : List (List Row)) (m : ℕ) (sound : IsSound a) (holds : HoldsFitting a.names s) (known : AreKnown a (Some rows))
+module _ (one : OneValue) (once : OneFreshAt) (law : OneItemVisits) (a : App) (s : SessionState) (rows : List (List Row)) (m : ℕ) (sound : IsSoundApp a) (holds : HoldsFitting a.names s) (known : AreKnown a (Some rows))
     (held : AreHeld (record { shapes = a.names.schema.tables; rows = rows })) (of : ℕ → Bool) (values others : ℕ → Data) (fresh : AreFreshFor (present a s (Some rows) m) values of) (also : AreFreshFor (present a s (Some rows) m) others of) where
   abbrev p : Present
   p = present a s (Some rows) m
@@ -124,8 +124,8 @@ one_items_visit one once law a s rows m values others g from o n l sound holds k
     given_one one once law a s rows m sound holds known held (is_it g) values others fresh also g from gallery.0 o n l (it_is g) (gallery.1).there h j
 
 -- a control of the screen
-shown_visits_one : OneValue → OneFreshAt → OneItemVisits → (a : App) (s : SessionState) (rows : List (List Row)) (m : ℕ) (values others : ℕ → Data) (k : ℕ) (c : ControlName) (o q : Option Shown) (x y : ℕ) → IsSound a → HoldsFitting a.names s → AreKnown a (Some rows) →
-    AreHeld (record { shapes = a.names.schema.tables; rows = rows }) → AreFreshFor (present a s (Some rows) m) values (is_on a.names s.screen) → AreFreshFor (present a s (Some rows) m) others (is_on a.names s.screen) → slice_get a.names.controls k ≡ Some c →
+shown_visits_one : OneValue → OneFreshAt → OneItemVisits → (a : App) (s : SessionState) (rows : List (List Row)) (m : ℕ) (values others : ℕ → Data) (k : ℕ) (c : ControlName) (o q : Option Shown) (x y : ℕ) → IsSoundApp a → HoldsFitting a.names s → AreKnown a (Some rows) →
+    AreHeld (record { shapes = a.names.schema.tables; rows = rows }) → AreFreshFor (present a s (Some rows) m) values (is_on_screen a.names s.screen) → AreFreshFor (present a s (Some rows) m) others (is_on_screen a.names s.screen) → slice_get a.names.controls k ≡ Some c →
     ShownVisits a s rows m values k c o x → ShownVisits a s rows m others k c q y → x ≡ y
 shown_visits_one one once law a s rows m values others k c o q x y sound holds known held fresh also there h j =
     by o h.0 h.1 (subst (λ (r : Option Shown). FirstItemsVisit a s rows m others k r y) (sym same) j.1)
@@ -136,14 +136,14 @@ shown_visits_one one once law a s rows m values others k c o q x y sound holds k
     same : o ≡ q
     same =
         shown_one p (masked a values) (ground one p (masked a values) sound holds known (masked_fits a values)) k c o q
-        (shown_moved p values (masked a values) k c o sound (as_masked p (is_on a.names s.screen) values sound holds known fresh) there h.0)
-        (shown_moved p others (masked a values) k c q sound (as_other once p (is_on a.names s.screen) values others sound holds known fresh also) there j.0)
+        (shown_moved p values (masked a values) k c o sound (as_masked p (is_on_screen a.names s.screen) values sound holds known fresh) there h.0)
+        (shown_moved p others (masked a values) k c q sound (as_other once p (is_on_screen a.names s.screen) values others sound holds known fresh also) there j.0)
 
     by : (r : Option Shown) → IsShown p values k c r → FirstItemsVisit a s rows m values k r x → FirstItemsVisit a s rows m others k r y → x ≡ y
     by None w u v = u ∙ sym v
     by (Some z) w u v =
-        let own : is_on a.names s.screen k ≡ true = on_screen a.names s.screen k c there ∙ could (is_none c.gallery) (c.screen == s.screen) (is_visible a.names values k) w.0 in
-        given_one one once law a s rows m sound holds known held (is_on a.names s.screen) values others fresh also k 1 c z.items x y own there u v
+        let own : is_on_screen a.names s.screen k ≡ true = on_screen a.names s.screen k c there ∙ could (is_none c.gallery) (c.screen == s.screen) (is_visible a.names values k) w.0 in
+        given_one one once law a s rows m sound holds known held (is_on_screen a.names s.screen) values others fresh also k 1 c z.items x y own there u v
 
 -- ONE NUMBER FOR A SCREEN
 pub one_screen_visits : OneValue → OneFreshAt → OneItemVisits → OneScreenVisits

@@ -5,7 +5,7 @@ use Rattle.std.proofs.Math.Seq.{take-nil}
 use Rattle.std.proofs.lemmas.List.{drop_min, length-take, take_rest}
 use Rattle.std.specs.List.{slice_get}
 use Rattle.recalc.specs.app_semantics.Present.{Present}
-use Rattle.session_views.specs.Views.{AreGiven, AreItemsIn, AreItemsUnless, AreRowItems, fault_in}
+use Rattle.session_views.specs.Views.{AreEachGiven, AreItemsIn, AreItemsUnless, AreRowItems, fault_in}
 use Rattle.fx_types.specs.Values.{Data}
 use Rattle.fx_types.specs.declared.faults.Fault.{Fault}
 use Rattle.recalc.specs.fx_semantics.Rows.{rows_in}
@@ -68,7 +68,7 @@ pub page_row : {A : Type 0} (n : ℕ) (xs shown : List A) (i : ℕ) (x : A) → 
 page_row {A} n xs shown i x same h = behind_some n xs i x (taken 100 (drop n xs) i x (subst (λ (ys : List A). slice_get ys i ≡ Some x) same h))
 
 -- what is given for a page from a position on
-pub paged : {A B : Type 0} (P : ℕ → A → Option B → Type 0) (from first at : ℕ) (shown rows : List A) (list : List B) → first ≡ max from 1 → at ≡ first → shown ≡ take 100 (drop (first - 1) rows) → AreGiven P at shown list →
-    AreGiven P (max from 1) (take 100 (drop (max from 1 - 1) rows)) list
+pub paged : {A B : Type 0} (P : ℕ → A → Option B → Type 0) (from first at : ℕ) (shown rows : List A) (list : List B) → first ≡ max from 1 → at ≡ first → shown ≡ take 100 (drop (first - 1) rows) → AreEachGiven P at shown list →
+    AreEachGiven P (max from 1) (take 100 (drop (max from 1 - 1) rows)) list
 paged {A} P from first at shown rows list begins place same h =
-    subst (λ (n : ℕ). AreGiven P n (take 100 (drop (n - 1) rows)) list) begins (subst (λ (xs : List A). AreGiven P first xs list) same (subst (λ (n : ℕ). AreGiven P n shown list) place h))
+    subst (λ (n : ℕ). AreEachGiven P n (take 100 (drop (n - 1) rows)) list) begins (subst (λ (xs : List A). AreEachGiven P first xs list) same (subst (λ (n : ℕ). AreEachGiven P n shown list) place h))

@@ -5,13 +5,13 @@ use Rattle.std.proofs.Props.{props}
 use Rattle.recalc.specs.app_semantics.Fresh.{AreKnown}
 use Rattle.recalc.specs.app_semantics.Holding.{HoldsFitting}
 use Rattle.recalc.specs.app_semantics.Present.{Present, present}
-use Rattle.recalc.specs.app_semantics.Sound.{IsSound}
+use Rattle.recalc.specs.app_semantics.Sound.{IsSoundApp}
 use Rattle.session_views.specs.Galleries.{gallery_named}
 use Rattle.session_views.specs.Laws.{OneItems, OneItemsReply, OneView, OneViewReply}
 use Rattle.session_views.specs.Shows.{SaysItemsOf, items_reply}
 use Rattle.session_views.specs.Views.{IsFreshView}
 use Rattle.app_wire.specs.ReplyBytes.{reply}
-use Rattle.fx_base.specs.Silence.{IsLost}
+use Rattle.fx_base.specs.Silence.{SilenceCause}
 use Rattle.row_keeper.specs.Tables.{Tables, rows_told}
 use Rattle.row_queries.specs.declared.rows.Row.{Row}
 use Rattle.view_text.specs.ViewText.{view_text}
@@ -27,7 +27,7 @@ one_view_reply one k l m n app moment (Some s) a b c d said said' sound holds kn
     let second : IsFreshView (present app s (rows_told b) moment) j.0.0 = subst (λ (r : Option (List (List Row))). IsFreshView (present app s r moment) j.0.0) (sym same) y in
     h.0.2 ∙ ap (λ (v : View). reply 200 (view_text v)) (one (present app s (rows_told b) moment) h.0.0 j.0.0 sound (holds s refl) known x second) ∙ sym j.0.2))
 
-says_one : OneItems → (lost lost' : Type 0) (p : Present) (from : ℕ) (o : Option ℕ) (a b c d : Option Tables) (said said' : List ℕ) → IsSound p.app → HoldsFitting p.app.names p.session → AreKnown p.app p.tables →
+says_one : OneItems → (lost lost' : Type 0) (p : Present) (from : ℕ) (o : Option ℕ) (a b c d : Option Tables) (said said' : List ℕ) → IsSoundApp p.app → HoldsFitting p.app.names p.session → AreKnown p.app p.tables →
     SaysItemsOf lost p from o a said b → SaysItemsOf lost' p from o c said' d → said ≡ said'
 says_one one lost lost' p from None a b c d said said' sound holds known h k = h.0 ∙ sym k.0
 says_one one lost lost' p from (Some g) a b c d said said' sound holds known h k =
@@ -36,5 +36,5 @@ says_one one lost lost' p from (Some g) a b c d said said' sound holds known h k
 pub one_items_reply : OneItems → OneItemsReply
 one_items_reply one k l m n app moment gallery from None a b c d said said' sound holds known same h j = h.0 ∙ sym j.0
 one_items_reply one k l m n app moment gallery from (Some s) a b c d said said' sound holds known same h j =
-    says_one one (IsLost k l) (IsLost m n) (present app s (rows_told b) moment) from (gallery_named gallery app.names) a b c d said said' sound (holds s refl) known h
-    (subst (λ (r : Option (List (List Row))). SaysItemsOf (IsLost m n) (present app s r moment) from (gallery_named gallery app.names) c said' d) (sym same) j)
+    says_one one (SilenceCause k l) (SilenceCause m n) (present app s (rows_told b) moment) from (gallery_named gallery app.names) a b c d said said' sound (holds s refl) known h
+    (subst (λ (r : Option (List (List Row))). SaysItemsOf (SilenceCause m n) (present app s r moment) from (gallery_named gallery app.names) c said' d) (sym same) j)

@@ -13,11 +13,11 @@ use Rattle.recalc.specs.app_semantics.Holding.{HoldsFitting}
 use Rattle.recalc.specs.app_semantics.Laws.{OneFreshAt}
 use Rattle.recalc.specs.app_semantics.Present.{Present, items_of}
 use Rattle.recalc.specs.app_semantics.Properties.{is_true}
-use Rattle.recalc.specs.app_semantics.Sound.{IsSound}
+use Rattle.recalc.specs.app_semantics.Sound.{IsSoundApp}
 use Rattle.session_views.proofs.Looks.{Agrees, seen_moved, view_moved}
 use Rattle.session_views.specs.Laws.{OneItems, OneView}
-use Rattle.session_views.specs.Looking.{AreFreshFor, is_it, is_on}
-use Rattle.session_views.specs.Views.{AreGiven, AreItemsFrom, AreItemsUnless, AreRowItems, AreSeenItems, IsItemAt, IsItemControl, IsShown, IsShownControl, IsShownFor, IsView, ShowsFirstItems, fault_in, is_seen_at, is_shown, put}
+use Rattle.session_views.specs.Looking.{AreFreshFor, is_it, is_on_screen}
+use Rattle.session_views.specs.Views.{AreEachGiven, AreItemsFrom, AreItemsUnless, AreRowItems, AreSeenItems, IsItemAt, IsItemControl, IsShown, IsShownControl, IsItemControlShown, IsView, ShowsFirstItems, fault_in, is_seen_at, is_top_level_shown, put_if_some}
 use Rattle.fx_types.specs.TypeView.{shape}
 use Rattle.fx_types.specs.Types.{Shape}
 use Rattle.fx_types.specs.Values.{Data, blank, text, boolean}
@@ -41,10 +41,10 @@ use Rattle.view_text.specs.declared.views.View.{View}
 abbrev IsSingle : {C A : Type 0} → (ℕ → C → Option A → Type 0) → Type 0
 IsSingle {C} {A} P = (k : ℕ) (c : C) (o q : Option A) → P k c o → P k c q → o ≡ q
 
-given_one : {C A : Type 0} (P : ℕ → C → Option A → Type 0) (k : ℕ) (cs : List C) (xs ys : List A) → IsSingle P → AreGiven P k cs xs → AreGiven P k cs ys → xs ≡ ys
+given_one : {C A : Type 0} (P : ℕ → C → Option A → Type 0) (k : ℕ) (cs : List C) (xs ys : List A) → IsSingle P → AreEachGiven P k cs xs → AreEachGiven P k cs ys → xs ≡ ys
 given_one P k [] xs ys one h j = h ∙ sym j
 given_one {C} {A} P k (c ∷ cs) xs ys one h j =
-    h.4 ∙ ap (λ (o : Option A). put o h.1) (one k c h.0 j.0 h.2 j.2) ∙ ap (λ (rest : List A). put j.0 rest) (given_one P (suc k) cs h.1 j.1 one h.3 j.3) ∙ sym j.4
+    h.4 ∙ ap (λ (o : Option A). put_if_some o h.1) (one k c h.0 j.0 h.2 j.2) ∙ ap (λ (rest : List A). put_if_some j.0 rest) (given_one P (suc k) cs h.1 j.1 one h.3 j.3) ∙ sym j.4
 
 -- ---- items
 
@@ -56,7 +56,7 @@ control_one p values item k c s t g h j =
     let kind : s.kind ≡ t.kind = h.kind ∙ sym j.kind in
     λ i. record { name = name i; kind = kind i; values = shows i }
 
-pub for_one : (p : Present) (values : ℕ → Data) (gallery : ℕ) (item : Data) → Ground p values → IsSingle (IsShownFor p values gallery item)
+pub for_one : (p : Present) (values : ℕ → Data) (gallery : ℕ) (item : Data) → Ground p values → IsSingle (IsItemControlShown p values gallery item)
 for_one p values gallery item g k c None None h j = refl
 for_one p values gallery item g k c (Some s) (Some t) h j = ap (λ (x : ItemControl). Some x) (control_one p values item k c s t g h.2 j.2)
 for_one p values gallery item g k c None (Some t) h j =
@@ -74,7 +74,7 @@ item_one p values gallery g k row (Some s) None h j = absurd j
 item_one p values gallery g k row (Some s) (Some t) h j =
     let at : s.at ≡ t.at = h.0 ∙ sym j.0 in
     let id : s.id ≡ t.id = h.1 ∙ sym j.1 in
-    let shown : s.shown ≡ t.shown = given_one (IsShownFor p values gallery (record_of row)) 0 p.app.names.controls s.shown t.shown (for_one p values gallery (record_of row) g) h.2 j.2 in
+    let shown : s.shown ≡ t.shown = given_one (IsItemControlShown p values gallery (record_of row)) 0 p.app.names.controls s.shown t.shown (for_one p values gallery (record_of row) g) h.2 j.2 in
     λ i. Some (record { at = at i; id = id i; shown = shown i })
 
 row_items_one : (p : Present) (values : ℕ → Data) (gallery from : ℕ) (rows : List Row) (s t : Items) → Ground p values → AreRowItems p values gallery from rows s → AreRowItems p values gallery from rows t → s ≡ t
@@ -119,8 +119,8 @@ shown_control_one p values k c s t g h j =
 
 pub shown_one : (p : Present) (values : ℕ → Data) → Ground p values → IsSingle (IsShown p values)
 shown_one p values g k c None None h j = refl
-shown_one p values g k c None (Some t) h j = absurd (both_ways (is_shown p.app.names p.session values k c) h j.0)
-shown_one p values g k c (Some s) None h j = absurd (both_ways (is_shown p.app.names p.session values k c) j h.0)
+shown_one p values g k c None (Some t) h j = absurd (both_ways (is_top_level_shown p.app.names p.session values k c) h j.0)
+shown_one p values g k c (Some s) None h j = absurd (both_ways (is_top_level_shown p.app.names p.session values k c) j h.0)
 shown_one p values g k c (Some s) (Some t) h j = ap (λ (x : Shown). Some x) (shown_control_one p values k c s t g h.1 j.1)
 
 same_name : (m n : List ℕ) (o : Option (List ℕ)) → o ≡ Some m → o ≡ Some n → m ≡ n
@@ -154,20 +154,20 @@ masked_fits a values k c there = subst (λ o. fits_in (fitting o (values k)) (sh
 masked_same : (a : App) (values : ℕ → Data) (k : ℕ) (c : CellInfo) → slice_get a.cells k ≡ Some c → fits_in (values k) (shape c.ty) ≡ true → values k ≡ masked a values k
 masked_same a values k c there fit = sym (ap (λ o. fitting o (values k)) there ∙ ap (λ (b : Bool). if b then values k else blank) fit)
 
-pub ground : OneValue → (p : Present) (values : ℕ → Data) → IsSound p.app → HoldsFitting p.app.names p.session → AreKnown p.app p.tables → CellsFit p.app values → Ground p values
+pub ground : OneValue → (p : Present) (values : ℕ → Data) → IsSoundApp p.app → HoldsFitting p.app.names p.session → AreKnown p.app p.tables → CellsFit p.app values → Ground p values
 ground one p values s n known fit = record { one = one; sound = s; holds = n; known = known; fits = fit }
 
 -- fresh values fit where they are looked at, and are the only ones there
-pub as_masked : (p : Present) (of : ℕ → Bool) (values : ℕ → Data) → IsSound p.app → HoldsFitting p.app.names p.session → AreKnown p.app p.tables → AreFreshFor p values of → Agrees p.app of values (masked p.app values)
+pub as_masked : (p : Present) (of : ℕ → Bool) (values : ℕ → Data) → IsSoundApp p.app → HoldsFitting p.app.names p.session → AreKnown p.app p.tables → AreFreshFor p values of → Agrees p.app of values (masked p.app values)
 as_masked p of values s n known fresh = λ k c looked there. masked_same p.app values k c there (fits_at p values k s n known.fit (fresh k looked) k c there (itself k))
 
-pub as_other : OneFreshAt → (p : Present) (of : ℕ → Bool) (values others : ℕ → Data) → IsSound p.app → HoldsFitting p.app.names p.session → AreKnown p.app p.tables → AreFreshFor p values of → AreFreshFor p others of → Agrees p.app of others (masked p.app values)
+pub as_other : OneFreshAt → (p : Present) (of : ℕ → Bool) (values others : ℕ → Data) → IsSoundApp p.app → HoldsFitting p.app.names p.session → AreKnown p.app p.tables → AreFreshFor p values of → AreFreshFor p others of → Agrees p.app of others (masked p.app values)
 as_other once p of values others s n known fresh also = λ k c looked there. once p others values k c s n known there (also k looked) (fresh k looked) ∙ as_masked p of values s n known fresh k c looked there
 
 -- ONE VIEW
 pub one_view : OneValue → OneFreshAt → OneView
 one_view one once p v w s n known h j =
-    let of : ℕ → Bool = is_on p.app.names p.session.screen in
+    let of : ℕ → Bool = is_on_screen p.app.names p.session.screen in
     view_one p (masked p.app h.values) v w (ground one p (masked p.app h.values) s n known (masked_fits p.app h.values))
     (view_moved p h.values (masked p.app h.values) v s (as_masked p of h.values s n known h.fresh) h.shows)
     (view_moved p j.values (masked p.app h.values) w s (as_other once p of h.values j.values s n known h.fresh j.fresh) j.shows)

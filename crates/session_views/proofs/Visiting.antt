@@ -12,17 +12,17 @@ use Rattle.fx_types.specs.declared.faults.Fault.{Fault}
 use Rattle.recalc.specs.fx_eval.Visits.{AtMost, Both}
 use Rattle.recalc.specs.fx_semantics.Rows.{rows_in}
 use Rattle.fx_value.specs.Columns.{Row as Fields}
-use Rattle.row_keeper.specs.Tables.{Tables, rows_of}
+use Rattle.row_keeper.specs.Tables.{Tables, rows_of_tables}
 use Rattle.row_queries.specs.declared.rows.Row.{Row}
 use Rattle.session_state.specs.Sessions.{SessionState}
 use Rattle.view_text.specs.declared.views.Items.{Items}
 use Rattle.session_views.proofs.Giving.{put_more, split}
-use Rattle.session_views.specs.Views.{fault_in, put}
+use Rattle.session_views.specs.Views.{fault_in, put_if_some}
 use Rattle.session_views.specs.Visits.{AreVisited, ItemsUnlessVisit, ItemsVisit, OrNone, RowItemsVisit}
 
 -- where these rows are told, they are heard of
-pub heard_at : (told : Option Tables) (t : Tables) → told ≡ Some t → IsHeardOf told (Some (rows_of t.states))
-heard_at told t is = subst (λ o. IsHeardOf o (Some (rows_of t.states))) (sym is) (heard_told (Some t))
+pub heard_at : (told : Option Tables) (t : Tables) → told ≡ Some t → IsHeardOf told (Some (rows_of_tables t.states))
+heard_at told t is = subst (λ o. IsHeardOf o (Some (rows_of_tables t.states))) (sym is) (heard_told (Some t))
 
 -- what holds of what a call gives, by two of its clauses
 pub ok_both : {X E : Type 0} (r : Result X E) (P Q R : X → Type 0) → ((x : X) → P x → Q x → R x) → IfOk r P → IfOk r Q → IfOk r R
@@ -67,18 +67,18 @@ none_visited {C} {A} P k i cs given start first e =
     (0, subst (λ (n : ℕ). VisitedUpTo P k cs n given 0) (sym first) (subst (λ (xs : List A). VisitedUpTo P k cs 0 xs 0) (sym e) (none P k cs)), omega arith)
 
 one : {C A : Type 0} (P : ℕ → C → Option A → ℕ → Type 0) (k : ℕ) (cs : List C) (i : ℕ) (c : C) (o : Option A) (given : List A) (n m : ℕ) → i < length cs → c ≡ get_or cs i c → P (k + i) c o m →
-    VisitedUpTo P k cs i given n → VisitedUpTo P k cs (i + 1) (given ++ put o []) (n + m)
+    VisitedUpTo P k cs i given n → VisitedUpTo P k cs (i + 1) (given ++ put_if_some o []) (n + m)
 one {C} {A} P k cs i c o given n m l e p before rest x h =
     let next : suc (k + i) ≡ k + (i + 1) = omega arith in
     let others : AreVisited P (suc (k + i)) (drop (i + 1) cs) rest x = subst (λ j. AreVisited P j (drop (i + 1) cs) rest x) (sym next) h in
-    let here : AreVisited P (k + i) (drop i cs) (put o rest) (m + x) = subst (λ ds. AreVisited P (k + i) ds (put o rest) (m + x)) (sym (split cs i c l e)) (o, rest, refl, (m, x, p, others, refl)) in
+    let here : AreVisited P (k + i) (drop i cs) (put_if_some o rest) (m + x) = subst (λ ds. AreVisited P (k + i) ds (put_if_some o rest) (m + x)) (sym (split cs i c l e)) (o, rest, refl, (m, x, p, others, refl)) in
     let sum : n + (m + x) ≡ n + m + x = omega arith in
-    subst (λ y. AreVisited P k cs ((given ++ put o []) ++ rest) y) sum
-    (subst (λ xs. AreVisited P k cs xs (n + (m + x))) (ap (λ xs. given ++ xs) (put_more o rest) ∙ sym (append_assoc given (put o []) rest)) (before (put o rest) (m + x) here))
+    subst (λ y. AreVisited P k cs ((given ++ put_if_some o []) ++ rest) y) sum
+    (subst (λ xs. AreVisited P k cs xs (n + (m + x))) (ap (λ xs. given ++ xs) (put_more o rest) ∙ sym (append_assoc given (put_if_some o []) rest)) (before (put_if_some o rest) (m + x) here))
 
 -- one more
 pub one_visited : {C A : Type 0} (P : ℕ → C → Option A → ℕ → Type 0) (k at i : ℕ) (list cs : List C) (c : C) (o : Option A) (given more : List A) (start mid now : ℕ) →
-    at ≡ k + i → list ≡ cs → i < length list → c ≡ get_or list i c → AtMost (P at c o) mid now → more ≡ given ++ put o [] → AtMost (VisitedUpTo P k cs i given) start mid → AtMost (VisitedUpTo P k cs (i + 1) more) start now
+    at ≡ k + i → list ≡ cs → i < length list → c ≡ get_or list i c → AtMost (P at c o) mid now → more ≡ given ++ put_if_some o [] → AtMost (VisitedUpTo P k cs i given) start mid → AtMost (VisitedUpTo P k cs (i + 1) more) start now
 one_visited {C} {A} P k at i list cs c o given more start mid now place same l e p grown before =
     let low = before.2 in
     let high = p.2 in (

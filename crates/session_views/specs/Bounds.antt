@@ -8,7 +8,7 @@ use Rattle.recalc.specs.app_semantics.Needed.{Needs, is_alone}
 use Rattle.fx_core.specs.declared.names.ControlName.{ControlName}
 use Rattle.fx_core.specs.declared.names.Names.{Names}
 use Rattle.fx_core.specs.declared.names.Property.{Property}
-use Rattle.recalc.specs.Kept.{IsClean, Kept}
+use Rattle.recalc.specs.Kept.{IsClean, CacheState}
 use Rattle.recalc.specs.Steps.{OncePerCell}
 use Rattle.session_views.specs.Looking.{AreLookedAt, IsLookedAt, is_it, is_one}
 use Rattle.view_text.specs.declared.views.Items.{Items}
@@ -33,18 +33,18 @@ abbrev pub is_called : Names → List ℕ → ℕ → Bool
 is_called n name k = unwrap_or (option_map (λ (c : ControlName). bytes_eq c.name name) (slice_get n.controls k)) false
 
 -- how many items are shown
-abbrev pub count_of : Option Items → ℕ
-count_of (Some i) = length i.list
-count_of None = 0
+abbrev pub items_shown : Option Items → ℕ
+items_shown (Some i) = length i.list
+items_shown None = 0
 
 -- ONCE PER FORMULA AND ITEM: of a gallery
 abbrev pub items_steps : Names → ℕ → Option Items → ℕ
-items_steps n g o = count_of o * formulas_for n (is_it g)
+items_steps n g o = items_shown o * formulas_for n (is_it g)
 
 -- and of all that is shown on a screen
 abbrev pub shown_steps : Names → List Shown → ℕ
 shown_steps n [] = 0
-shown_steps n (s ∷ ss) = count_of s.items * formulas_for n (is_called n s.name) + shown_steps n ss
+shown_steps n (s ∷ ss) = items_shown s.items * formulas_for n (is_called n s.name) + shown_steps n ss
 
 -- a control in a template takes them for an item: for whether it is visible, and for its text; another one none
 abbrev pub control_steps : Names → ℕ → Bool → ℕ
@@ -54,7 +54,7 @@ control_steps n k false = 0
 -- ---- cells
 
 -- THE STEPS: one at most for each cell that is needed for what is looked at, wasn't clean, and isn't cut off; and these beside
-pub record AreSteps (a : App) (of : ℕ → Bool) (start after : Kept) (beside old new : ℕ) : Type 0 where
+pub record AreSteps (a : App) (of : ℕ → Bool) (start after : CacheState) (beside old new : ℕ) : Type 0 where
   pub roots : List ℕ
   pub looked : AreLookedAt a of roots
   pub between : ℕ
@@ -62,5 +62,5 @@ pub record AreSteps (a : App) (of : ℕ → Bool) (start after : Kept) (beside o
   pub others : new ≤ between + beside
 
 -- each cell that is needed for what is looked at is clean
-abbrev pub AreMade : App → (ℕ → Bool) → Kept → Type 0
+abbrev pub AreMade : App → (ℕ → Bool) → CacheState → Type 0
 AreMade a of c = (r k : ℕ) → IsLookedAt a of r → Needs a r k → is_alone a.cells k ≡ true → IsClean a c k

@@ -16,17 +16,17 @@ use Rattle.session_views.specs.declared.roots.Part.TheVariants as part
 -- ---- controls
 
 -- a control stands on a screen, and in no gallery
-abbrev pub is_on : Names → ℕ → ℕ → Bool
-is_on n s k = unwrap_or (option_map (λ (c : ControlName). is_none c.gallery && (c.screen == s)) (slice_get n.controls k)) false
+abbrev pub is_on_screen : Names → ℕ → ℕ → Bool
+is_on_screen n s k = unwrap_or (option_map (λ (c : ControlName). is_none c.gallery && (c.screen == s)) (slice_get n.controls k)) false
 
 -- it is this one
 abbrev pub is_it : ℕ → ℕ → Bool
 is_it g k = k == g
 
 -- the controls of a part of what is shown
-abbrev pub is_among : Names → Part → ℕ → Bool
-is_among n (part.Screen s) k = is_on n s k
-is_among n (part.Gallery g) k = is_it g k
+abbrev pub is_control_among : Names → Part → ℕ → Bool
+is_control_among n (part.Screen s) k = is_on_screen n s k
+is_control_among n (part.Gallery g) k = is_it g k
 
 -- a gallery is one of these, if there is one
 abbrev pub is_one : (ℕ → Bool) → Option ℕ → Bool
@@ -36,16 +36,16 @@ is_one of None = false
 -- ---- cells
 
 -- a cell is the formula of a property of these controls
-abbrev pub IsOwn : Names → (ℕ → Bool) → Property → ℕ → Type 0
-IsOwn n of p k = (of p.control ≡ true) × (p.cell ≡ k)
+abbrev pub IsOwnCell : Names → (ℕ → Bool) → Property → ℕ → Type 0
+IsOwnCell n of p k = (of p.control ≡ true) × (p.cell ≡ k)
 
 -- a formula stands in the template of a gallery of these: it sees an item of it, and doesn't act
 abbrev pub is_in_template : (ℕ → Bool) → CellInfo → Bool
 is_in_template of c = not c.cell.acts && is_one of c.cell.item
 
 -- such a formula leans on a cell
-abbrev pub IsUnder : Names → (ℕ → Bool) → CellInfo → ℕ → Type 0
-IsUnder n of c k = (is_in_template of c ≡ true) × LeansOn n c k
+abbrev pub IsLeanedOn : Names → (ℕ → Bool) → CellInfo → ℕ → Type 0
+IsLeanedOn n of c k = (is_in_template of c ≡ true) × LeansOn n c k
 
 -- it is so through one of these
 abbrev pub IsThrough : {A : Type 0} → (A → ℕ → Type 0) → List A → ℕ → Type 0
@@ -54,7 +54,7 @@ IsThrough {A} P xs k = (i : ℕ) × (x : A) × (slice_get xs i ≡ Some x) × P 
 -- A CELL IS LOOKED AT for these controls: it is the formula of a property of one of them, or a formula leans on it that stands in
 -- the template of one
 abbrev pub IsLookedAt : App → (ℕ → Bool) → ℕ → Type 0
-IsLookedAt a of k = IsThrough (IsOwn a.names of) a.names.properties k ⊎ IsThrough (IsUnder a.names of) a.cells k
+IsLookedAt a of k = IsThrough (IsOwnCell a.names of) a.names.properties k ⊎ IsThrough (IsLeanedOn a.names of) a.cells k
 
 -- these are the cells that are looked at, but those that have no value by themselves
 abbrev pub AreLookedAt : App → (ℕ → Bool) → List ℕ → Type 0

@@ -1,7 +1,7 @@
 -- What a session shows.
 use Rattle.std.specs.Prelude.{◌≡◌, ℕ, suc, pos, ◌-◌, ◌&&◌, ◌==◌, List, [], ◌∷◌, Bool, true, false, codes, length, take, drop, max, Option, Some, None, is_none, option_map, slice_get, unwrap_or}
 use Rattle.recalc.specs.app_semantics.Chosen.{item_id}
-use Rattle.session_views.specs.Looking.{AreFreshFor, is_it, is_on}
+use Rattle.session_views.specs.Looking.{AreFreshFor, is_it, is_on_screen}
 use Rattle.recalc.specs.app_semantics.Present.{Present, input_of, items_of}
 use Rattle.recalc.specs.app_semantics.Properties.{IsPropertyForItem, is_true, is_visible, property_value}
 use Rattle.fx_types.specs.Values.{Data, number, text, boolean, fault}
@@ -34,14 +34,14 @@ displayed n s values k control.DatePicker = (codes "SelectedDate", input_of n s 
 displayed n s values k control.Gallery = []
 
 -- ---- lists that are made of what each of others gives, if it gives anything
-abbrev pub put : {A : Type 0} → Option A → List A → List A
-put (Some x) xs = x ∷ xs
-put None xs = xs
+abbrev pub put_if_some : {A : Type 0} → Option A → List A → List A
+put_if_some (Some x) xs = x ∷ xs
+put_if_some None xs = xs
 
 -- P tells what each of these gives, which are numbered from k on
-abbrev pub AreGiven : {C A : Type 0} → (ℕ → C → Option A → Type 0) → ℕ → List C → List A → Type 0
-AreGiven P k [] given = given ≡ []
-AreGiven {C} {A} P k (c ∷ cs) given = (o : Option A) × (rest : List A) × P k c o × AreGiven P (suc k) cs rest × (given ≡ put o rest)
+abbrev pub AreEachGiven : {C A : Type 0} → (ℕ → C → Option A → Type 0) → ℕ → List C → List A → Type 0
+AreEachGiven P k [] given = given ≡ []
+AreEachGiven {C} {A} P k (c ∷ cs) given = (o : Option A) × (rest : List A) × P k c o × AreEachGiven P (suc k) cs rest × (given ≡ put_if_some o rest)
 
 -- ---- items
 abbrev pub is_in : ℕ → Option ℕ → Bool
@@ -57,9 +57,9 @@ pub record IsItemControl (p : Present) (values : ℕ → Data) (item : Data) (k 
   pub shows : s.values ≡ (codes "Text", words) ∷ []
 
 -- a control is shown for an item where it stands in the gallery, and its Visible for the item is true
-abbrev pub IsShownFor : Present → (ℕ → Data) → ℕ → Data → ℕ → ControlName → Option ItemControl → Type 0
-IsShownFor p values g item k c None = is_in g c.gallery ≡ true → (v : Data) × IsPropertyForItem p values item k (codes "Visible") (boolean true) v × (is_true v ≡ false)
-IsShownFor p values g item k c (Some s) =
+abbrev pub IsItemControlShown : Present → (ℕ → Data) → ℕ → Data → ℕ → ControlName → Option ItemControl → Type 0
+IsItemControlShown p values g item k c None = is_in g c.gallery ≡ true → (v : Data) × IsPropertyForItem p values item k (codes "Visible") (boolean true) v × (is_true v ≡ false)
+IsItemControlShown p values g item k c (Some s) =
     (is_in g c.gallery ≡ true) × ((v : Data) × IsPropertyForItem p values item k (codes "Visible") (boolean true) v × (is_true v ≡ true))
     × IsItemControl p values item k c s
 
@@ -67,12 +67,12 @@ IsShownFor p values g item k c (Some s) =
 abbrev pub IsItemAt : Present → (ℕ → Data) → ℕ → ℕ → Row → Option ItemView → Type 0
 IsItemAt p values g at row None = ⊥
 IsItemAt p values g at row (Some i) =
-    (i.at ≡ at) × (i.id ≡ item_id row) × AreGiven (IsShownFor p values g (record_of row)) 0 p.app.names.controls i.shown
+    (i.at ≡ at) × (i.id ≡ item_id row) × AreEachGiven (IsItemControlShown p values g (record_of row)) 0 p.app.names.controls i.shown
 
 -- the items of these rows from a position on, where 0 counts as 1: how many there are, and a hundred of them at most
 abbrev pub AreRowItems : Present → (ℕ → Data) → ℕ → ℕ → List Row → Items → Type 0
 AreRowItems p values g from rows i =
-    (i.fault ≡ None) × (i.total ≡ length rows) × AreGiven (IsItemAt p values g) (max from 1) (take 100 (drop (max from 1 - 1) rows)) i.list
+    (i.fault ≡ None) × (i.total ≡ length rows) × AreEachGiven (IsItemAt p values g) (max from 1) (take 100 (drop (max from 1 - 1) rows)) i.list
 
 -- the error that a value is, if it is one
 abbrev pub fault_in : Data → Option Fault
@@ -97,8 +97,8 @@ abbrev pub is_seen : Names → SessionState → (ℕ → Data) → ℕ → Contr
 is_seen n s values k c = (c.screen == s.screen) && is_visible n values k
 
 -- such a control is shown by itself, unless it stands in a gallery
-abbrev pub is_shown : Names → SessionState → (ℕ → Data) → ℕ → ControlName → Bool
-is_shown n s values k c = is_none c.gallery && is_seen n s values k c
+abbrev pub is_top_level_shown : Names → SessionState → (ℕ → Data) → ℕ → ControlName → Bool
+is_top_level_shown n s values k c = is_none c.gallery && is_seen n s values k c
 
 -- a gallery shows its first items, and other controls none
 abbrev pub ShowsFirstItems : Present → (ℕ → Data) → ℕ → Control → Option Items → Type 0
@@ -113,18 +113,18 @@ pub record IsShownControl (p : Present) (values : ℕ → Data) (k : ℕ) (c : C
   pub items : ShowsFirstItems p values k c.kind s.items
 
 abbrev pub IsShown : Present → (ℕ → Data) → ℕ → ControlName → Option Shown → Type 0
-IsShown p values k c None = is_shown p.app.names p.session values k c ≡ false
-IsShown p values k c (Some s) = (is_shown p.app.names p.session values k c ≡ true) × IsShownControl p values k c s
+IsShown p values k c None = is_top_level_shown p.app.names p.session values k c ≡ false
+IsShown p values k c (Some s) = (is_top_level_shown p.app.names p.session values k c ≡ true) × IsShownControl p values k c s
 
 -- WHAT A SESSION SHOWS, where cells have these values: its screen, and the controls that are shown on it, in app order
 pub record IsView (p : Present) (values : ℕ → Data) (v : View) : Type 0 where
   pub screen : slice_get p.app.names.screens p.session.screen ≡ Some v.screen
-  pub shown : AreGiven (IsShown p values) 0 p.app.names.controls v.shown
+  pub shown : AreEachGiven (IsShown p values) 0 p.app.names.controls v.shown
 
 -- THE VIEW AT A MOMENT: the cells that are looked at have their fresh values
 pub record IsFreshView (p : Present) (v : View) : Type 0 where
   pub values : ℕ → Data
-  pub fresh : AreFreshFor p values (is_on p.app.names p.session.screen)
+  pub fresh : AreFreshFor p values (is_on_screen p.app.names p.session.screen)
   pub shows : IsView p values v
 
 -- ---- the items of a gallery alone

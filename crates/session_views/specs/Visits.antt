@@ -12,7 +12,7 @@ use Rattle.recalc.specs.fx_semantics.Rows.{rows_in}
 use Rattle.fx_value.specs.Columns.{Row as Fields}
 use Rattle.fx_core.specs.declared.names.ControlName.{ControlName}
 use Rattle.recalc.specs.ItemVisits.{ItemVisits}
-use Rattle.recalc.specs.Kept.{Kept}
+use Rattle.recalc.specs.Kept.{CacheState}
 use Rattle.recalc.specs.Visits.{VisitsPerCell}
 use Rattle.row_queries.specs.declared.rows.Row.{Row}
 use Rattle.session_state.specs.Sessions.{SessionState}
@@ -21,12 +21,12 @@ use Rattle.view_text.specs.declared.views.ItemView.{ItemView}
 use Rattle.view_text.specs.declared.views.Items.{Items}
 use Rattle.view_text.specs.declared.views.Shown.{Shown}
 use Rattle.session_views.specs.Looking.{AreFreshFor, AreLookedAt}
-use Rattle.session_views.specs.Views.{IsShown, IsShownFor, fault_in, is_in, put}
+use Rattle.session_views.specs.Views.{IsShown, IsItemControlShown, fault_in, is_in, put_if_some}
 
 -- so many rows in all, where P tells how many making what each of these gives visits
 abbrev pub AreVisited : {C A : Type 0} → (ℕ → C → Option A → ℕ → Type 0) → ℕ → List C → List A → ℕ → Type 0
 AreVisited P k [] given n = (given ≡ []) × (n ≡ 0)
-AreVisited {C} {A} P k (c ∷ cs) given n = (o : Option A) × (rest : List A) × (given ≡ put o rest) × Both (P k c o) (AreVisited P (suc k) cs rest) n
+AreVisited {C} {A} P k (c ∷ cs) given n = (o : Option A) × (rest : List A) × (given ≡ put_if_some o rest) × Both (P k c o) (AreVisited P (suc k) cs rest) n
 
 -- so many, or none
 abbrev pub OrNone : Bool → (ℕ → Type 0) → ℕ → Type 0
@@ -46,7 +46,7 @@ module _ (a : App) (s : SessionState) (rows : List (List Row)) (m : ℕ) (values
 
   -- if it stands in this gallery, with what it shows for the item
   abbrev pub TemplateVisits : ℕ → Data → ℕ → ControlName → Option ItemControl → ℕ → Type 0
-  TemplateVisits g item k c o n = IsShownFor (present a s (Some rows) m) values g item k c o × OrNone (is_in g c.gallery) (ControlVisits item k o) n
+  TemplateVisits g item k c o n = IsItemControlShown (present a s (Some rows) m) values g item k c o × OrNone (is_in g c.gallery) (ControlVisits item k o) n
 
   -- AN ITEM: the controls of the template
   abbrev pub ItemAtVisits : ℕ → ℕ → Fields → Option ItemView → ℕ → Type 0
@@ -86,7 +86,7 @@ module _ (a : App) (s : SessionState) (rows : List (List Row)) (m : ℕ) (values
 
 -- THE ROWS VISITED: no more than evaluating the cells visits that are needed for what is looked at, weren't clean, and aren't cut off,
 -- and than these beside where the cells that are looked at have their fresh values
-pub record AreRowsVisited (a : App) (s : SessionState) (rows : List (List Row)) (m : ℕ) (of : ℕ → Bool) (start after : Kept) (beside : (ℕ → Data) → ℕ → Type 0) (old before now : ℕ) : Type 0 where
+pub record AreRowsVisited (a : App) (s : SessionState) (rows : List (List Row)) (m : ℕ) (of : ℕ → Bool) (start after : CacheState) (beside : (ℕ → Data) → ℕ → Type 0) (old before now : ℕ) : Type 0 where
   pub roots : List ℕ
   pub looked : AreLookedAt a of roots
   pub between : ℕ

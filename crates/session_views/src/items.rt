@@ -3,12 +3,12 @@ ghost use Rattle.std.specs.Prelude.{◌≡◌, ◌<◌, ◌≤◌, ◌+◌, ◌*
 ghost use Rattle.recalc.specs.AskingOver.{HasRead};
 ghost use Rattle.recalc.specs.app_semantics.Holding.{HoldsFitting};
 ghost use Rattle.recalc.specs.app_semantics.Present.{present};
-ghost use Rattle.recalc.specs.app_semantics.Sound.{IsSound};
+ghost use Rattle.recalc.specs.app_semantics.Sound.{IsSoundApp};
 ghost use Rattle.session_views.specs.Bounds.{AreMade, AreSteps, formulas_for, items_steps};
 ghost use Rattle.session_views.specs.Looking.{is_it};
 ghost use Rattle.session_views.specs.Galleries.{gallery_named as named_gallery, is_gallery as is_gallery_kind, is_gallery_named as is_named_gallery};
 ghost use Rattle.session_views.specs.Ready.{CanShow, IsGalleryOf, IsItemOf};
-ghost use Rattle.session_views.specs.Views.{AreFreshItems, AreGiven, AreItemsFrom, AreRowItems, AreSeenItems, IsItemAt, fault_in as fault_of, is_seen_at as is_seen_by_number};
+ghost use Rattle.session_views.specs.Views.{AreFreshItems, AreEachGiven, AreItemsFrom, AreRowItems, AreSeenItems, IsItemAt, fault_in as fault_of, is_seen_at as is_seen_by_number};
 ghost use Rattle.session_views.specs.Visits.{AreRowsVisited, AreVisited, GivenItemsVisit, ItemAtVisits, ItemsVisit, RowItemsVisit};
 ghost use Rattle.fx_types.specs.ValueView.{view};
 ghost use Rattle.fx_scalar.specs.ScalarFunctions.{IsToday};
@@ -18,10 +18,10 @@ ghost use Rattle.recalc.specs.Asking.{IsHeardOf, ToldRows};
 ghost use Rattle.recalc.specs.Values.{value_of};
 ghost use Rattle.recalc.specs.Visits.{WhereTold};
 ghost use Rattle.recalc.specs.fx_eval.Visits.{AtMost};
-ghost use Rattle.recalc.specs.Changes.{IsLeftBut};
-ghost use Rattle.recalc.specs.Kept.{HasRoom, IsInOrder};
+ghost use Rattle.recalc.specs.Changes.{StaysCleanExcept};
+ghost use Rattle.recalc.specs.Kept.{HasNumbersLeft, IsInOrder};
 ghost use Rattle.recalc.specs.Outcomes.{IsRightOver};
-ghost use Rattle.recalc.specs.Steps.{Leaves};
+ghost use Rattle.recalc.specs.Steps.{KeepsClean};
 ghost use Rattle.row_keeper.specs.Over.{HasCause};
 
 use crate::app_cells::App;
@@ -88,7 +88,7 @@ fn item_views<K: Keeper, L: Ledger>(
     requires rows { (i : ℕ) (r : Row) → slice_get rows.now i ≡ Some r → IsItemOf app.now.names gallery r }
     requires few { first + length rows.now < 2 ^ 64 }
     requires shaped { K.shaped keeper.old ≡ Some app.now.names.schema }
-    ensures shows { IfOk result (λ l. (moment : ℕ) (tables : ToldRows) → IsToday moment valued.now.day → IsHeardOf (K.told keeper.new) tables → AreGiven (IsItemAt (present app.now session.now tables moment) (value_of valued.now) gallery) first rows.now l) }
+    ensures shows { IfOk result (λ l. (moment : ℕ) (tables : ToldRows) → IsToday moment valued.now.day → IsHeardOf (K.told keeper.new) tables → AreEachGiven (IsItemAt (present app.now session.now tables moment) (value_of valued.now) gallery) first rows.now l) }
     ensures ticks { IfOk result (λ l. steps.new ≤ steps.old + length l * formulas_for app.now.names (is_it gallery)) }
     ensures visits { IfOk result (λ l. (moment : ℕ) → IsToday moment valued.now.day → WhereTold (K.told keeper.new) (λ told.
         AtMost (AreVisited (ItemAtVisits app.now session.now told moment (value_of valued.now) gallery) first rows.now l) (K.visited keeper.old) (K.visited keeper.new))) }
@@ -252,7 +252,7 @@ pub fn items_of<K: Keeper, L: Ledger>(
     from: u32,
     steps: &mut Steps<L>,
 ) -> Result<Option<Items>, KeeperEnd>
-    requires sound { IsSound app.now }
+    requires sound { IsSoundApp app.now }
     requires holds { HoldsFitting app.now.names session.now }
     requires gallery { IsGalleryOf app.now.names gallery }
     requires shaped { K.shaped keeper.old ≡ Some app.now.names.schema }
@@ -262,11 +262,11 @@ pub fn items_of<K: Keeper, L: Ledger>(
     ensures order { IsInOrder app.now cache.new }
     ensures right { IsRightOver app.now session.now (K.told keeper.old) moment cache.old → IsRightOver app.now session.now (K.told keeper.new) moment cache.new }
     ensures day { cache.new.values.day ≡ cache.old.values.day }
-    ensures left { HasRoom cache.old.last → Leaves app.now cache.old cache.new }
-    ensures but { IsLeftBut app.now [] cache.old cache.new }
+    ensures left { HasNumbersLeft cache.old.last → KeepsClean app.now cache.old cache.new }
+    ensures but { StaysCleanExcept app.now [] cache.old cache.new }
     ensures made { OnOk result (AreMade app.now (is_it gallery) cache.new) }
-    ensures ticks { IfOk result (λ o. HasRoom cache.old.last → AreSteps app.now (is_it gallery) cache.old cache.new (items_steps app.now.names gallery o) steps.old steps.new) }
-    ensures visits { IfOk result (λ o. IsRightOver app.now session.now (K.told keeper.old) moment cache.old → HasRoom cache.old.last → WhereTold (K.told keeper.new) (λ told.
+    ensures ticks { IfOk result (λ o. HasNumbersLeft cache.old.last → AreSteps app.now (is_it gallery) cache.old cache.new (items_steps app.now.names gallery o) steps.old steps.new) }
+    ensures visits { IfOk result (λ o. IsRightOver app.now session.now (K.told keeper.old) moment cache.old → HasNumbersLeft cache.old.last → WhereTold (K.told keeper.new) (λ told.
         AreRowsVisited app.now session.now told moment (is_it gallery) cache.old cache.new (λ values. GivenItemsVisit app.now session.now told moment values gallery from o) steps.old (K.visited keeper.old) (K.visited keeper.new))) }
     ensures read { HasRead K.Keeper keeper.old keeper.new }
     ensures cause { HasCause K.Keeper keeper.old keeper.new result }

@@ -2,19 +2,19 @@
 ghost use Rattle.std.specs.Prelude.{◌≡◌, [], IfOk, IsErrOf, IsSome, OnOk, Some};
 ghost use Rattle.session_views.specs.Bounds.{AreMade};
 ghost use Rattle.session_views.specs.Galleries.{gallery_named as named_gallery};
-ghost use Rattle.session_views.specs.Looking.{is_on};
+ghost use Rattle.session_views.specs.Looking.{is_on_screen};
 ghost use Rattle.session_views.specs.Ready.{IsGalleryOf};
 ghost use Rattle.session_views.specs.Shows.{CostsItems, CostsView, MakesItems, SaysItemsOf, ShowsItemsTo, ShowsViewTo, VisitsItems, VisitsView, items_reply as reply_of_items};
 ghost use Rattle.app_wire.specs.ReplyBytes.{reply};
 ghost use Rattle.recalc.specs.AskingOver.{HasRead};
 ghost use Rattle.recalc.specs.app_semantics.Present.{present};
-ghost use Rattle.recalc.specs.app_semantics.Sound.{IsSound};
-ghost use Rattle.fx_base.specs.Silence.{IsLost};
+ghost use Rattle.recalc.specs.app_semantics.Sound.{IsSoundApp};
+ghost use Rattle.fx_base.specs.Silence.{SilenceCause};
 ghost use Rattle.fx_scalar.specs.ScalarFunctions.{IsToday};
-ghost use Rattle.recalc.specs.Changes.{IsLeftBut};
-ghost use Rattle.recalc.specs.Kept.{HasRoom, IsInOrder};
+ghost use Rattle.recalc.specs.Changes.{StaysCleanExcept};
+ghost use Rattle.recalc.specs.Kept.{HasNumbersLeft, IsInOrder};
 ghost use Rattle.recalc.specs.Outcomes.{IsRightOver};
-ghost use Rattle.recalc.specs.Steps.{Leaves};
+ghost use Rattle.recalc.specs.Steps.{KeepsClean};
 ghost use Rattle.recalc.specs.Visits.{WhereTold};
 ghost use Rattle.numbered_requests.specs.Replies.{IsReply, said};
 ghost use Rattle.row_keeper.specs.Over.{HasCause};
@@ -49,22 +49,22 @@ pub fn show_view<K: Keeper, L: Ledger>(
     moment: u64,
     steps: &mut Steps<L>,
 ) -> Result<Reply, KeeperEnd>
-    requires sound { IsSound app.now }
+    requires sound { IsSoundApp app.now }
     requires fits { FitsNames app.now.names session.now }
     requires shaped { K.shaped keeper.old ≡ Some app.now.names.schema }
     requires day { IsToday moment cache.old.values.day }
     requires order { IsInOrder app.now cache.old }
     requires right { ∥ IsRightOver app.now session.now (K.told keeper.old) moment cache.old ∥₁ }
-    ensures done { IfOk result (λ r. ShowsViewTo (IsLost (K.marks keeper.old) (K.marks keeper.new)) app.now moment (Some session.now) (K.told keeper.old) (said r) (K.told keeper.new)) }
+    ensures done { IfOk result (λ r. ShowsViewTo (SilenceCause (K.marks keeper.old) (K.marks keeper.new)) app.now moment (Some session.now) (K.told keeper.old) (said r) (K.told keeper.new)) }
     ensures whole { IfOk result IsReply }
     ensures order { IsInOrder app.now cache.new }
     ensures right { ∥ IsRightOver app.now session.now (K.told keeper.new) moment cache.new ∥₁ }
     ensures day { cache.new.values.day ≡ cache.old.values.day }
-    ensures left { HasRoom cache.old.last → Leaves app.now cache.old cache.new }
-    ensures but { IsLeftBut app.now [] cache.old cache.new }
-    ensures made { OnOk result (AreMade app.now (is_on app.now.names session.now.screen) cache.new) }
-    ensures ticks { IfOk result (λ r. HasRoom cache.old.last → CostsView app.now session.now cache.old cache.new steps.old steps.new (said r)) }
-    ensures visits { IfOk result (λ r. HasRoom cache.old.last → WhereTold (K.told keeper.new) (λ told. VisitsView app.now session.now told moment cache.old cache.new steps.old (K.visited keeper.old) (K.visited keeper.new) (said r))) }
+    ensures left { HasNumbersLeft cache.old.last → KeepsClean app.now cache.old cache.new }
+    ensures but { StaysCleanExcept app.now [] cache.old cache.new }
+    ensures made { OnOk result (AreMade app.now (is_on_screen app.now.names session.now.screen) cache.new) }
+    ensures ticks { IfOk result (λ r. HasNumbersLeft cache.old.last → CostsView app.now session.now cache.old cache.new steps.old steps.new (said r)) }
+    ensures visits { IfOk result (λ r. HasNumbersLeft cache.old.last → WhereTold (K.told keeper.new) (λ told. VisitsView app.now session.now told moment cache.old cache.new steps.old (K.visited keeper.old) (K.visited keeper.new) (said r))) }
     ensures read { HasRead K.Keeper keeper.old keeper.new }
     ensures cause { HasCause K.Keeper keeper.old keeper.new result }
 {
@@ -98,23 +98,23 @@ pub fn show_items<K: Keeper, L: Ledger>(
     moment: u64,
     steps: &mut Steps<L>,
 ) -> Result<Reply, KeeperEnd>
-    requires sound { IsSound app.now }
+    requires sound { IsSoundApp app.now }
     requires fits { FitsNames app.now.names session.now }
     requires shaped { K.shaped keeper.old ≡ Some app.now.names.schema }
     requires day { IsToday moment cache.old.values.day }
     requires order { IsInOrder app.now cache.old }
     requires right { ∥ IsRightOver app.now session.now (K.told keeper.old) moment cache.old ∥₁ }
-    ensures done { IfOk result (λ r. ShowsItemsTo (IsLost (K.marks keeper.old) (K.marks keeper.new)) app.now moment gallery.now from (Some session.now) (K.told keeper.old) (said r) (K.told keeper.new)) }
+    ensures done { IfOk result (λ r. ShowsItemsTo (SilenceCause (K.marks keeper.old) (K.marks keeper.new)) app.now moment gallery.now from (Some session.now) (K.told keeper.old) (said r) (K.told keeper.new)) }
     ensures whole { IfOk result IsReply }
     ensures reached { IsErrOf result Failed → IsSome (named_gallery gallery.now app.now.names) }
     ensures order { IsInOrder app.now cache.new }
     ensures right { ∥ IsRightOver app.now session.now (K.told keeper.new) moment cache.new ∥₁ }
     ensures day { cache.new.values.day ≡ cache.old.values.day }
-    ensures left { HasRoom cache.old.last → Leaves app.now cache.old cache.new }
-    ensures but { IsLeftBut app.now [] cache.old cache.new }
+    ensures left { HasNumbersLeft cache.old.last → KeepsClean app.now cache.old cache.new }
+    ensures but { StaysCleanExcept app.now [] cache.old cache.new }
     ensures made { OnOk result (MakesItems app.now (named_gallery gallery.now app.now.names) cache.new) }
-    ensures ticks { IfOk result (λ r. HasRoom cache.old.last → CostsItems app.now (named_gallery gallery.now app.now.names) cache.old cache.new steps.old steps.new (said r)) }
-    ensures visits { IfOk result (λ r. HasRoom cache.old.last → WhereTold (K.told keeper.new) (λ told. VisitsItems app.now session.now told moment from (named_gallery gallery.now app.now.names) cache.old cache.new steps.old (K.visited keeper.old) (K.visited keeper.new) (said r))) }
+    ensures ticks { IfOk result (λ r. HasNumbersLeft cache.old.last → CostsItems app.now (named_gallery gallery.now app.now.names) cache.old cache.new steps.old steps.new (said r)) }
+    ensures visits { IfOk result (λ r. HasNumbersLeft cache.old.last → WhereTold (K.told keeper.new) (λ told. VisitsItems app.now session.now told moment from (named_gallery gallery.now app.now.names) cache.old cache.new steps.old (K.visited keeper.old) (K.visited keeper.new) (said r))) }
     ensures read { HasRead K.Keeper keeper.old keeper.new }
     ensures cause { HasCause K.Keeper keeper.old keeper.new result }
 {
@@ -138,23 +138,23 @@ fn show_items_of<K: Keeper, L: Ledger>(
     moment: u64,
     steps: &mut Steps<L>,
 ) -> Result<Reply, KeeperEnd>
-    requires sound { IsSound app.now }
+    requires sound { IsSoundApp app.now }
     requires fits { FitsNames app.now.names session.now }
     requires gallery { IsGalleryOf app.now.names gallery }
     requires shaped { K.shaped keeper.old ≡ Some app.now.names.schema }
     requires day { IsToday moment cache.old.values.day }
     requires order { IsInOrder app.now cache.old }
     requires right { ∥ IsRightOver app.now session.now (K.told keeper.old) moment cache.old ∥₁ }
-    ensures done { IfOk result (λ r. SaysItemsOf (IsLost (K.marks keeper.old) (K.marks keeper.new)) (present app.now session.now (rows_told (K.told keeper.new)) moment) from (Some gallery) (K.told keeper.old) (said r) (K.told keeper.new)) }
+    ensures done { IfOk result (λ r. SaysItemsOf (SilenceCause (K.marks keeper.old) (K.marks keeper.new)) (present app.now session.now (rows_told (K.told keeper.new)) moment) from (Some gallery) (K.told keeper.old) (said r) (K.told keeper.new)) }
     ensures whole { IfOk result IsReply }
     ensures order { IsInOrder app.now cache.new }
     ensures right { ∥ IsRightOver app.now session.now (K.told keeper.new) moment cache.new ∥₁ }
     ensures day { cache.new.values.day ≡ cache.old.values.day }
-    ensures left { HasRoom cache.old.last → Leaves app.now cache.old cache.new }
-    ensures but { IsLeftBut app.now [] cache.old cache.new }
+    ensures left { HasNumbersLeft cache.old.last → KeepsClean app.now cache.old cache.new }
+    ensures but { StaysCleanExcept app.now [] cache.old cache.new }
     ensures made { OnOk result (MakesItems app.now (Some gallery) cache.new) }
-    ensures ticks { IfOk result (λ r. HasRoom cache.old.last → CostsItems app.now (Some gallery) cache.old cache.new steps.old steps.new (said r)) }
-    ensures visits { IfOk result (λ r. HasRoom cache.old.last → WhereTold (K.told keeper.new) (λ told. VisitsItems app.now session.now told moment from (Some gallery) cache.old cache.new steps.old (K.visited keeper.old) (K.visited keeper.new) (said r))) }
+    ensures ticks { IfOk result (λ r. HasNumbersLeft cache.old.last → CostsItems app.now (Some gallery) cache.old cache.new steps.old steps.new (said r)) }
+    ensures visits { IfOk result (λ r. HasNumbersLeft cache.old.last → WhereTold (K.told keeper.new) (λ told. VisitsItems app.now session.now told moment from (Some gallery) cache.old cache.new steps.old (K.visited keeper.old) (K.visited keeper.new) (said r))) }
     ensures read { HasRead K.Keeper keeper.old keeper.new }
     ensures cause { HasCause K.Keeper keeper.old keeper.new result }
 {

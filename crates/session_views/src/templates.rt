@@ -4,7 +4,7 @@ ghost use Rattle.recalc.specs.AskingOver.{HasRead};
 ghost use Rattle.recalc.specs.app_semantics.Present.{present};
 ghost use Rattle.recalc.specs.app_semantics.Properties.{IsPropertyForItem};
 ghost use Rattle.session_views.specs.Ready.{CanShow, IsItemOf};
-ghost use Rattle.session_views.specs.Views.{AreGiven, IsShownFor, is_in as is_in_of, put};
+ghost use Rattle.session_views.specs.Views.{AreEachGiven, IsItemControlShown, is_in as is_in_of, put_if_some};
 ghost use Rattle.session_views.specs.Visits.{AreVisited, ControlVisits, PropertyVisits, TemplateVisits};
 ghost use Rattle.fx_types.specs.ValueView.{view};
 ghost use Rattle.fx_types.specs.Values.{text as text_data};
@@ -34,7 +34,7 @@ use view_text::{ItemControl, ItemControlList};
 
 /// Adds what is given, if anything is.
 pub(crate) fn add<T: Drop>(list: &mut InOrder<T>, given: Option<T>) -> Result<(), Memory>
-    ensures { OnOk result (list.new ≡ list.old ++ put given []) }
+    ensures { OnOk result (list.new ≡ list.old ++ put_if_some given []) }
 {
     match given {
         Some(item) => list.push(item),
@@ -120,7 +120,7 @@ fn template_control<K: Keeper, L: Ledger>(
     requires within { is_in_of gallery control.now.gallery ≡ true }
     requires row { IsItemOf app.now.names gallery row.now }
     requires shaped { K.shaped keeper.old ≡ Some app.now.names.schema }
-    ensures shows { IfOk result (λ o. (moment : ℕ) (tables : ToldRows) → IsToday moment valued.now.day → IsHeardOf (K.told keeper.new) tables → IsShownFor (present app.now session.now tables moment) (value_of valued.now) gallery (record_of row.now) number control.now o) }
+    ensures shows { IfOk result (λ o. (moment : ℕ) (tables : ToldRows) → IsToday moment valued.now.day → IsHeardOf (K.told keeper.new) tables → IsItemControlShown (present app.now session.now tables moment) (value_of valued.now) gallery (record_of row.now) number control.now o) }
     ensures ticks { IfOk result (λ o. steps.new ≤ steps.old + control_steps app.now.names number true) }
     ensures visits { IfOk result (λ o. (moment : ℕ) → IsToday moment valued.now.day → WhereTold (K.told keeper.new) (λ told.
         AtMost (ControlVisits app.now session.now told moment (value_of valued.now) (record_of row.now) number o) (K.visited keeper.old) (K.visited keeper.new))) }
@@ -159,7 +159,7 @@ fn item_control<K: Keeper, L: Ledger>(
     requires control { slice_get app.now.names.controls number ≡ Some control.now }
     requires row { IsItemOf app.now.names gallery row.now }
     requires shaped { K.shaped keeper.old ≡ Some app.now.names.schema }
-    ensures shows { IfOk result (λ o. (moment : ℕ) (tables : ToldRows) → IsToday moment valued.now.day → IsHeardOf (K.told keeper.new) tables → IsShownFor (present app.now session.now tables moment) (value_of valued.now) gallery (record_of row.now) number control.now o) }
+    ensures shows { IfOk result (λ o. (moment : ℕ) (tables : ToldRows) → IsToday moment valued.now.day → IsHeardOf (K.told keeper.new) tables → IsItemControlShown (present app.now session.now tables moment) (value_of valued.now) gallery (record_of row.now) number control.now o) }
     ensures ticks { IfOk result (λ o. steps.new ≤ steps.old + control_steps app.now.names number (is_in_of gallery control.now.gallery)) }
     ensures visits { IfOk result (λ o. (moment : ℕ) → IsToday moment valued.now.day → WhereTold (K.told keeper.new) (λ told.
         AtMost (TemplateVisits app.now session.now told moment (value_of valued.now) gallery (record_of row.now) number control.now o) (K.visited keeper.old) (K.visited keeper.new))) }
@@ -190,7 +190,7 @@ pub(crate) fn item_controls<K: Keeper, L: Ledger>(
     requires ready { CanShow app.now session.now valued.now }
     requires row { IsItemOf app.now.names gallery row.now }
     requires shaped { K.shaped keeper.old ≡ Some app.now.names.schema }
-    ensures shows { IfOk result (λ l. (moment : ℕ) (tables : ToldRows) → IsToday moment valued.now.day → IsHeardOf (K.told keeper.new) tables → AreGiven (IsShownFor (present app.now session.now tables moment) (value_of valued.now) gallery (record_of row.now)) 0 app.now.names.controls l) }
+    ensures shows { IfOk result (λ l. (moment : ℕ) (tables : ToldRows) → IsToday moment valued.now.day → IsHeardOf (K.told keeper.new) tables → AreEachGiven (IsItemControlShown (present app.now session.now tables moment) (value_of valued.now) gallery (record_of row.now)) 0 app.now.names.controls l) }
     ensures ticks { IfOk result (λ l. steps.new ≤ steps.old + formulas_for app.now.names (is_it gallery)) }
     ensures visits { IfOk result (λ l. (moment : ℕ) → IsToday moment valued.now.day → WhereTold (K.told keeper.new) (λ told.
         AtMost (AreVisited (TemplateVisits app.now session.now told moment (value_of valued.now) gallery (record_of row.now)) 0 app.now.names.controls l) (K.visited keeper.old) (K.visited keeper.new))) }

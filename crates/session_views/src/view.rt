@@ -3,21 +3,21 @@ ghost use Rattle.std.specs.Prelude.{◌≡◌, ◌+◌, ◌<◌, ◌≤◌, ◌�
 ghost use Rattle.recalc.specs.AskingOver.{HasRead};
 ghost use Rattle.recalc.specs.app_semantics.Holding.{HoldsFitting};
 ghost use Rattle.recalc.specs.app_semantics.Present.{present};
-ghost use Rattle.recalc.specs.app_semantics.Sound.{IsSound};
+ghost use Rattle.recalc.specs.app_semantics.Sound.{IsSoundApp};
 ghost use Rattle.session_views.specs.Bounds.{AreMade, AreSteps, items_steps, shown_steps};
-ghost use Rattle.session_views.specs.Looking.{is_on};
+ghost use Rattle.session_views.specs.Looking.{is_on_screen};
 ghost use Rattle.session_views.specs.Ready.{CanShow};
-ghost use Rattle.session_views.specs.Views.{AreGiven, IsFreshView, IsShown, IsShownControl, IsView, ShowsFirstItems, is_shown as is_shown_of, put};
+ghost use Rattle.session_views.specs.Views.{AreEachGiven, IsFreshView, IsShown, IsShownControl, IsView, ShowsFirstItems, is_top_level_shown as is_shown_of, put_if_some};
 ghost use Rattle.session_views.specs.Visits.{AreRowsVisited, GivenItemsVisit, ScreenVisits, ShownVisits};
 ghost use Rattle.fx_scalar.specs.ScalarFunctions.{IsToday};
 ghost use Rattle.recalc.specs.Asking.{IsHeardOf, ToldRows};
 ghost use Rattle.recalc.specs.Values.{value_of};
 ghost use Rattle.recalc.specs.Visits.{WhereTold};
 ghost use Rattle.recalc.specs.fx_eval.Visits.{AtMost};
-ghost use Rattle.recalc.specs.Changes.{IsLeftBut};
-ghost use Rattle.recalc.specs.Kept.{HasRoom, IsInOrder};
+ghost use Rattle.recalc.specs.Changes.{StaysCleanExcept};
+ghost use Rattle.recalc.specs.Kept.{HasNumbersLeft, IsInOrder};
 ghost use Rattle.recalc.specs.Outcomes.{IsRightOver};
-ghost use Rattle.recalc.specs.Steps.{Leaves};
+ghost use Rattle.recalc.specs.Steps.{KeepsClean};
 ghost use Rattle.row_keeper.specs.Over.{HasCause};
 
 use crate::app_cells::App;
@@ -48,7 +48,7 @@ pub fn view_of<K: Keeper, L: Ledger>(
     moment: u64,
     steps: &mut Steps<L>,
 ) -> Result<View, KeeperEnd>
-    requires sound { IsSound app.now }
+    requires sound { IsSoundApp app.now }
     requires holds { HoldsFitting app.now.names session.now }
     requires screen { session.now.screen < length app.now.names.screens }
     requires shaped { K.shaped keeper.old ≡ Some app.now.names.schema }
@@ -58,12 +58,12 @@ pub fn view_of<K: Keeper, L: Ledger>(
     ensures order { IsInOrder app.now cache.new }
     ensures right { IsRightOver app.now session.now (K.told keeper.old) moment cache.old → IsRightOver app.now session.now (K.told keeper.new) moment cache.new }
     ensures day { cache.new.values.day ≡ cache.old.values.day }
-    ensures left { HasRoom cache.old.last → Leaves app.now cache.old cache.new }
-    ensures but { IsLeftBut app.now [] cache.old cache.new }
-    ensures made { OnOk result (AreMade app.now (is_on app.now.names session.now.screen) cache.new) }
-    ensures ticks { IfOk result (λ v. HasRoom cache.old.last → AreSteps app.now (is_on app.now.names session.now.screen) cache.old cache.new (shown_steps app.now.names v.shown) steps.old steps.new) }
-    ensures visits { IfOk result (λ v. IsRightOver app.now session.now (K.told keeper.old) moment cache.old → HasRoom cache.old.last → WhereTold (K.told keeper.new) (λ told.
-        AreRowsVisited app.now session.now told moment (is_on app.now.names session.now.screen) cache.old cache.new (λ values. ScreenVisits app.now session.now told moment values v.shown) steps.old (K.visited keeper.old) (K.visited keeper.new))) }
+    ensures left { HasNumbersLeft cache.old.last → KeepsClean app.now cache.old cache.new }
+    ensures but { StaysCleanExcept app.now [] cache.old cache.new }
+    ensures made { OnOk result (AreMade app.now (is_on_screen app.now.names session.now.screen) cache.new) }
+    ensures ticks { IfOk result (λ v. HasNumbersLeft cache.old.last → AreSteps app.now (is_on_screen app.now.names session.now.screen) cache.old cache.new (shown_steps app.now.names v.shown) steps.old steps.new) }
+    ensures visits { IfOk result (λ v. IsRightOver app.now session.now (K.told keeper.old) moment cache.old → HasNumbersLeft cache.old.last → WhereTold (K.told keeper.new) (λ told.
+        AreRowsVisited app.now session.now told moment (is_on_screen app.now.names session.now.screen) cache.old cache.new (λ values. ScreenVisits app.now session.now told moment values v.shown) steps.old (K.visited keeper.old) (K.visited keeper.new))) }
     ensures read { HasRead K.Keeper keeper.old keeper.new }
     ensures cause { HasCause K.Keeper keeper.old keeper.new result }
 {
@@ -116,7 +116,7 @@ fn all_shown<K: Keeper, L: Ledger>(
 ) -> Result<ShownList, KeeperEnd>
     requires ready { CanShow app.now session.now valued.now }
     requires shaped { K.shaped keeper.old ≡ Some app.now.names.schema }
-    ensures shows { IfOk result (λ l. (moment : ℕ) (tables : ToldRows) → IsToday moment valued.now.day → IsHeardOf (K.told keeper.new) tables → AreGiven (IsShown (present app.now session.now tables moment) (value_of valued.now)) 0 app.now.names.controls l) }
+    ensures shows { IfOk result (λ l. (moment : ℕ) (tables : ToldRows) → IsToday moment valued.now.day → IsHeardOf (K.told keeper.new) tables → AreEachGiven (IsShown (present app.now session.now tables moment) (value_of valued.now)) 0 app.now.names.controls l) }
     ensures ticks { IfOk result (λ l. steps.new ≤ steps.old + shown_steps app.now.names l) }
     ensures visits { IfOk result (λ l. (moment : ℕ) → IsToday moment valued.now.day → WhereTold (K.told keeper.new) (λ told.
         AtMost (ScreenVisits app.now session.now told moment (value_of valued.now) l) (K.visited keeper.old) (K.visited keeper.new))) }
@@ -163,7 +163,7 @@ fn shown_control<K: Keeper, L: Ledger>(
     requires control { slice_get app.now.names.controls number ≡ Some control.now }
     requires shaped { K.shaped keeper.old ≡ Some app.now.names.schema }
     ensures shows { IfOk result (λ o. (moment : ℕ) (tables : ToldRows) → IsToday moment valued.now.day → IsHeardOf (K.told keeper.new) tables → IsShown (present app.now session.now tables moment) (value_of valued.now) number control.now o) }
-    ensures ticks { IfOk result (λ o. steps.new ≤ steps.old + shown_steps app.now.names (put o [])) }
+    ensures ticks { IfOk result (λ o. steps.new ≤ steps.old + shown_steps app.now.names (put_if_some o [])) }
     ensures visits { IfOk result (λ o. (moment : ℕ) → IsToday moment valued.now.day → WhereTold (K.told keeper.new) (λ told.
         AtMost (ShownVisits app.now session.now told moment (value_of valued.now) number control.now o) (K.visited keeper.old) (K.visited keeper.new))) }
     ensures read { HasRead K.Keeper keeper.old keeper.new }

@@ -9,7 +9,7 @@ use Rattle.fx_types.specs.declared.aggregates.Totals.{Totals}
 use Rattle.fx_value.specs.Aggregates.{SumsUp, numbers_in}
 use Rattle.fx_core.specs.declared.schema.TableShape.{TableShape}
 use Rattle.row_queries.specs.Answers.{IsCountAnswer, IsScanAnswer, IsTotalAnswer, OfRows}
-use Rattle.row_queries.specs.Queries.{AreAsked, first_fault, given_of, lies, outcome_on, row_order, rows_or_fault}
+use Rattle.row_queries.specs.Queries.{AreAsked, first_outcome_fault, given_of, lies, outcome_on, row_order, rows_or_fault}
 use Rattle.row_queries.specs.TableRows.{AreHeldRows, AreInIdOrder, IsHeldRow, IsRowOf, value_at, values_of}
 use Rattle.row_queries.specs.declared.queries.Query.{Query}
 use Rattle.row_queries.specs.declared.rows.Row.{Row}
@@ -62,7 +62,7 @@ asked_of t q read first last fit p rise lie m sorted = (
 
 -- ---- what is answered of them, where no rows are told
 
-pub scanned : (shapes : List TableShape) (q : Query) (asked : List Row) (a : RowList) → OfRows shapes None q (λ t held. AreAsked q held asked) → a ≡ rows_or_fault (given_of q asked) (first_fault (map (outcome_on q) asked)) → IsScanAnswer shapes None q a
+pub scanned : (shapes : List TableShape) (q : Query) (asked : List Row) (a : RowList) → OfRows shapes None q (λ t held. AreAsked q held asked) → a ≡ rows_or_fault (given_of q asked) (first_outcome_fault (map (outcome_on q) asked)) → IsScanAnswer shapes None q a
 scanned shapes q asked a h e = (h.0, h.1, h.2, (asked, h.3, e))
 
 pub given : (shapes : List TableShape) (q : Query) (asked rows : List Row) → OfRows shapes None q (λ t held. AreAsked q held asked) → rows ≡ given_of q asked → OfRows shapes None q (λ t held. IsGivenOf q held rows)

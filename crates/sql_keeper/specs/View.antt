@@ -15,8 +15,8 @@ pub record SqlView : Type 0 where
   pub faults : ℕ
 
 -- no doubt is told, since no tables are
-abbrev pub marks_of : SqlView → Marks
-marks_of k = record { faults = k.faults; doubt = 0 }
+abbrev pub sql_marks : SqlView → Marks
+sql_marks k = record { faults = k.faults; doubt = 0 }
 
 -- the faults after a call: one more exactly where it failed
 abbrev pub faults_after : ℕ → Option KeeperEnd → ℕ

@@ -337,7 +337,7 @@ impl SqlKeeper {
 
 impl Keeper for SqlKeeper {
     ghost use Rattle.std.specs.Prelude.{◌≡◌, None, refl};
-    ghost use Rattle.sql_keeper.specs.View.{CountsFailures, marks_of};
+    ghost use Rattle.sql_keeper.specs.View.{CountsFailures, sql_marks};
 
     ghost told = { λ _. None };
 
@@ -349,7 +349,7 @@ impl Keeper for SqlKeeper {
 
     ghost in_transaction = { λ k. k.is_begun };
 
-    ghost marks = { marks_of };
+    ghost marks = { sql_marks };
 
     ghost visited = { λ k. k.visited };
 

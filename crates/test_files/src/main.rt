@@ -8,7 +8,7 @@ mod files;
 
 ghost use Rattle.std.specs.Prelude.{All};
 ghost use Rattle.app_cells.specs.Spots.{IsFrame, IsPlaced};
-ghost use Rattle.app_texts.specs.Files.{IsSound};
+ghost use Rattle.app_texts.specs.Files.{IsSoundFile};
 
 use crate::files::file_of;
 use app_cells::{Cell, Frame};
@@ -48,7 +48,7 @@ fn answer(alloc: Global, file: &str) -> Result<String, Memory> {
 
 /// What a file holds, and then what is broken of its formulas, or how many it has.
 fn whole(alloc: Global, app: AppFile) -> Result<String, Memory>
-    requires { IsSound app }
+    requires { IsSoundFile app }
 {
     let mut text = short_summary(alloc, &app)?;
     let formulas = match read_texts(alloc, app) {

@@ -8,7 +8,7 @@ use Rattle.serde_json.specs.Written.{has_float, items_have_float, members_have_f
 use Rattle.serde_json.specs.Find.{of_integer, is_float}
 use Rattle.fx_types.specs.Values.{Data, blank, number, text, boolean, date, rec, tab, fault, FieldList, field_list, no_fields, field, RowList, no_rows, row}
 use Rattle.fx_types.specs.ValueView.{view}
-use Rattle.view_text.specs.JsonText.{value_data, fields_data, rows_data, tagged, whole_of}
+use Rattle.view_text.specs.JsonText.{value_data, fields_data, rows_data, tagged, whole_units}
 use Rattle.view_text.specs.ReplyText.{named_data, all_named_data}
 use Rattle.view_text.specs.RefusalText.{detail_data, line_data, id_data, refusal_data}
 use Rattle.view_text.specs.ViewText.{control_data, item_control_data, item_data, items_data, listed_data, shown_data, shown_with, told_data, event_data, view_data, gallery_data}
@@ -35,7 +35,7 @@ either_has_none false c d h k = k
 mutual
   pub value_has_none : (d : Data) → has_float (value_data d) ≡ false
   value_has_none blank = refl
-  value_has_none (number z) = either_has_none (unsigned_abs z % 10000 == 0) (json.number (of_integer (whole_of z))) (tagged (codes "n") (json.string (text_of z))) (integer_has_none (whole_of z)) refl
+  value_has_none (number z) = either_has_none (unsigned_abs z % 10000 == 0) (json.number (of_integer (whole_units z))) (tagged (codes "n") (json.string (text_of z))) (integer_has_none (whole_units z)) refl
   value_has_none (text cs) = refl
   value_has_none (boolean b) = refl
   value_has_none (date z) = refl

@@ -10,7 +10,7 @@ use Rattle.serde_json.specs.Data.{put, member, item, object}
 use Rattle.serde_json.specs.View.{items_of}
 use Rattle.fx_types.specs.Values.{Data, field_list, row_list}
 use Rattle.fx_types.specs.ValueView.{view, fields_view}
-use Rattle.fx_types.specs.Rising.{AreRising, IsAboveAll}
+use Rattle.fx_types.specs.Rising.{AreNamesRising, IsAboveAll}
 use Rattle.fx_types.specs.declared.values.Value.{Value}
 use Rattle.fx_types.proofs.Risings.{names_of, rising_names, above_before}
 use Rattle.fx_types.proofs.Utf8Order.{slice_cmp-encodes}
@@ -41,7 +41,7 @@ pub record IsMore (fs : List (List ℕ × Value)) (i : ℕ) (f : List ℕ × Val
   pub texts : AreTexts (take (i + 1) fs)
   pub members : put (encode_utf8_all f.0) (value_data (view f.1)) (fields_data (field_list (fields_view (take i fs)))) ≡ fields_data (field_list (fields_view (take (i + 1) fs)))
 
-pub one_more : (fs : List (List ℕ × Value)) (i : ℕ) (f : List ℕ × Value) → i < length fs → f ≡ get_or fs i f → AreRising (fields_view fs)
+pub one_more : (fs : List (List ℕ × Value)) (i : ℕ) (f : List ℕ × Value) → i < length fs → f ≡ get_or fs i f → AreNamesRising (fields_view fs)
     → AreTexts (take i fs) → all_scalars f.0 ≡ true → IsMore fs i f
 one_more fs i f h e r t s =
     let more : take (i + 1) fs ≡ take i fs ++ f ∷ [] = take_more fs i f h ∙ ap (λ g. take i fs ++ g ∷ []) (sym e) in

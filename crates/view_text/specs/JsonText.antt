@@ -14,14 +14,14 @@ abbrev pub tagged : List ℕ → json.Data → json.Data
 tagged key d = object (member key d no_members)
 
 -- a number that is whole, of so many ten-thousandths
-abbrev pub whole_of : ℤ → ℤ
-whole_of (pos n) = pos (n / 10000)
-whole_of (negsuc n) = neg_ℤ (pos (suc n / 10000))
+abbrev pub whole_units : ℤ → ℤ
+whole_units (pos n) = pos (n / 10000)
+whole_units (negsuc n) = neg_ℤ (pos (suc n / 10000))
 
 -- a whole number is a JSON number, and another stands as its text in `{"n":".."}`
 abbrev pub number_data : ℤ → json.Data
 number_data z =
-    if unsigned_abs z % 10000 == 0 then json.number (of_integer (whole_of z))
+    if unsigned_abs z % 10000 == 0 then json.number (of_integer (whole_units z))
     else tagged (codes "n") (string (text_of z))
 
 -- an error has its kind and its message

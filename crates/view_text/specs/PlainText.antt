@@ -7,12 +7,12 @@ use Rattle.fx_number.specs.Spelling.{text_of}
 use Rattle.fx_types.specs.DateText.{date_text}
 
 -- a character, and a quote twice
-abbrev pub doubled : ℕ → List ℕ
-doubled c = if c == 34 then 34 ∷ 34 ∷ [] else c ∷ []
+abbrev pub double_quote_doubled : ℕ → List ℕ
+double_quote_doubled c = if c == 34 then 34 ∷ 34 ∷ [] else c ∷ []
 
 -- a text between quotes, with its own quotes doubled
 abbrev pub quoted_text : List ℕ → List ℕ
-quoted_text cs = 34 ∷ (encode_utf8_all (flat_map doubled cs) ++ 34 ∷ [])
+quoted_text cs = 34 ∷ (encode_utf8_all (flat_map double_quote_doubled cs) ++ 34 ∷ [])
 
 abbrev pub truth_text : Bool → List ℕ
 truth_text true = codes "true"

@@ -4,7 +4,7 @@ use Rattle.std.specs.Int.{IsInRange}
 use Rattle.serde_json.specs.Data.{Data, null, number, unsigned, string, array, object, member, no_members}
 use Rattle.serde_json.specs.View.{items_of}
 use Rattle.serde_json.specs.Written.{compact_text}
-use Rattle.view_text.specs.Refusals.{name_of}
+use Rattle.view_text.specs.Refusals.{name_of_code}
 use Rattle.view_text.specs.JsonText.{tagged}
 use Rattle.view_text.specs.declared.refused.Refusal.{Refusal}
 use Rattle.view_text.specs.declared.refused.Detail.{Detail}
@@ -46,7 +46,7 @@ detail_data (detail.Move table column rule) = move_data (encode_utf8_all table) 
 -- `{"refused":{"code":..,"detail":..,"name":..}}`
 abbrev pub refusal_data : Refusal → Data
 refusal_data r = tagged (codes "refused")
-    (object (member (codes "code") (number (unsigned r.code)) (member (codes "detail") (detail_data r.detail) (member (codes "name") (string (name_of r.code)) no_members))))
+    (object (member (codes "code") (number (unsigned r.code)) (member (codes "detail") (detail_data r.detail) (member (codes "name") (string (name_of_code r.code)) no_members))))
 
 abbrev pub refusal_text : Refusal → List ℕ
 refusal_text r = compact_text (refusal_data r)

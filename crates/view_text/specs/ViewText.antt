@@ -47,12 +47,12 @@ listed_data None list = array (items_of (map item_data list))
 listed_data (Some f) list = error_data f.kind f.message
 
 -- how many items there are, where no error stands in their place
-abbrev pub counted : Option Fault → ℕ → ℕ
-counted None n = n
-counted (Some f) n = 0
+abbrev pub items_counted : Option Fault → ℕ → ℕ
+items_counted None n = n
+items_counted (Some f) n = 0
 
 abbrev pub total_of : Items → ℕ
-total_of i = counted i.fault i.total
+total_of i = items_counted i.fault i.total
 
 -- `{"items":[..],"kind":..,"name":..,"total":..}`
 abbrev pub gallery_data : Control → List ℕ → Items → json.Data

@@ -3,7 +3,7 @@
 ghost use Rattle.std.specs.Prelude.{◌≡◌, ◌++◌, ◌∷◌, [], IfOk, OnOk, string_bytes, false, encode_utf8_all};
 ghost use Rattle.fx_types.specs.Values.{field_list, row_list};
 ghost use Rattle.fx_types.specs.ValueView.{view};
-ghost use Rattle.view_text.specs.PlainText.{comma_if, doubled, error_text, fields_text, plain_text, quoted_text, rows_text};
+ghost use Rattle.view_text.specs.PlainText.{comma_if, double_quote_doubled, error_text, fields_text, plain_text, quoted_text, rows_text};
 
 use fx_base::Memory;
 use fx_types::{Fields, Kind, Rows, Value, Words, date_text};
@@ -96,7 +96,7 @@ fn write_quoted(out: &mut String, text: &Words) -> Result<(), Memory>
 // A character of a text, and a quote twice.
 fn write_doubled(out: &mut String, c: char) -> Result<(), Memory>
     ensures { OnOk result (string_bytes out.new
-        ≡ string_bytes out.old ++ encode_utf8_all (doubled c)) }
+        ≡ string_bytes out.old ++ encode_utf8_all (double_quote_doubled c)) }
 {
     if c == '"' {
         out.push('"')?;

@@ -1,7 +1,7 @@
 //! Why requests are refused.
 ghost use Rattle.std.specs.Prelude.{◌≡◌};
 ghost use Rattle.std.specs.Int.{IsInRange};
-ghost use Rattle.view_text.specs.Refusals.{code_of, name_of, row_of, status_of};
+ghost use Rattle.view_text.specs.Refusals.{code_of, name_of_code, row_of_cause, refusal_status};
 ghost use Rattle.view_text.specs.Statuses.{reason_of};
 
 use crate::status::reason;
@@ -114,30 +114,30 @@ impl Cause {
 
     /// The refusal's name, as replies give it.
     pub fn name(self) -> &'static str
-        ensures { result.now ≡ name_of (code_of self) }
+        ensures { result.now ≡ name_of_code (code_of self) }
     {
         self.row().1
     }
 
     /// The HTTP status of the refusal's reply.
     pub fn status(self) -> u16
-        ensures { result ≡ status_of (code_of self) }
+        ensures { result ≡ refusal_status (code_of self) }
     {
         self.row().2
     }
 
     /// The reason that the status line of the refusal's reply gives.
     pub fn reason(self) -> &'static str
-        ensures { result.now ≡ reason_of (status_of (code_of self)) }
+        ensures { result.now ≡ reason_of (refusal_status (code_of self)) }
     {
         reason(self.status())
     }
 
     /// The refusal's code, name and status.
     fn row(self) -> (u8, &'static str, u16)
-        ensures code { result.0 ≡ (row_of self).code }
-        ensures name { result.1.now ≡ (row_of self).name }
-        ensures status { result.2 ≡ (row_of self).status }
+        ensures code { result.0 ≡ (row_of_cause self).code }
+        ensures name { result.1.now ≡ (row_of_cause self).name }
+        ensures status { result.2 ≡ (row_of_cause self).status }
     {
         match self {
             Cause::BadHead => (1, "BadHead", 400),

@@ -1,7 +1,7 @@
 use Rattle.std.proofs.Common.{◌≤◌, length, map, ap, ◌∙◌, subst, arith}
 use Rattle.std.proofs.lemmas.List.{length-map}
 use Rattle.serde_json.specs.View.{view}
-use Rattle.app_file.specs.Forms.{IsBad, IsFine}
+use Rattle.app_file.specs.Forms.{BreaksForm, IsFine}
 use Rattle.app_file.specs.Readings.{TellsPath}
 use Rattle.app_file.proofs.Lists.{all_fine, all_held, as_many, bad_among, before_at, here_at, one_more_fine, one_more_held}
 use Rattle.app_file.proofs.parts.read_all.Goals as goal
@@ -13,7 +13,7 @@ returns-in-Err-clause-bad g c =
     let n = c.loop-place.place in
     let x = c.index-items-place.result in
     bad_among f (map view xs) n (view x) (as_many view xs n c.loop-place-test.true) (here_at view xs n x c.loop-place-test.true c.index-items-place.is) c.in-Err.end c.in_element.result
-    (subst (λ ds. TellsPath (IsBad (f ds) (view x)) c.in-Err.end) (before_at view xs n) c.in-Err.ensures.bad) c.in_element.ensures
+    (subst (λ ds. TellsPath (BreaksForm (f ds) (view x)) c.in-Err.end) (before_at view xs n) c.in-Err.ensures.bad) c.in_element.ensures
 
 pub loop-place-preserved : goal.loop-place-preserved
 loop-place-preserved g c =

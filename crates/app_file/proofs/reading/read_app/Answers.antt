@@ -3,8 +3,8 @@ use Rattle.std.proofs.lemmas.Result.{err_from_is_err_and}
 use Rattle.serde_json.specs.Find.{get}
 use Rattle.serde_json.specs.View.{view}
 use Rattle.app_file.specs.declared.keys.Object.TheVariants as object
-use Rattle.app_file.specs.Contents.{all, at, table, words}
-use Rattle.app_file.specs.FormOfApp.{app_fields, each, format_of, leaf, row_limit_of, screens_form, table_fields, text}
+use Rattle.app_file.specs.Contents.{all_elements, member_at, table_shape, words}
+use Rattle.app_file.specs.FormOfApp.{app_fields, each, format_member, leaf, row_limit_of, screens_form, table_fields, text}
 use Rattle.app_file.specs.Forms.{first, later, members}
 use Rattle.app_file.specs.Keys.{keys_of}
 use Rattle.app_file.proofs.Controls.{limit_held, screens_held}
@@ -20,7 +20,7 @@ returns-in_err-check_keys-clause-bad c =
 pub returns-in_err-_format-clause-bad : goal.returns-in_err-_format-clause-bad
 returns-in_err-_format-clause-bad c =
     let p = err_from_is_err_and c.from_residual-in_err-_format.result c.from_residual-in_err-_format.ensures.1 in
-    rw (p.1, p.2) (told_field app_fields (view c.args.root.now) true (codes "format") (leaf format_of) (first) c.in_err-_format.field-0.0 c.in_err-_format.ensures.bad)
+    rw (p.1, p.2) (told_field app_fields (view c.args.root.now) true (codes "format") (leaf format_member) (first) c.in_err-_format.field-0.0 c.in_err-_format.ensures.bad)
 
 pub returns-in_err-limit-clause-bad : goal.returns-in_err-limit-clause-bad
 returns-in_err-limit-clause-bad c =
@@ -53,9 +53,9 @@ returns-clause-app c =
       fine_members (keys_of object.App) app_fields d keys_of_app c.in_ok-check_keys.ensures.ok
           (c.in_ok-_format.ensures.ok.0, (c.in_ok-limit.ensures.ok.0, (c.in_ok-tables.ensures.ok.0, (c.in_ok-formulas.ensures.ok.0, (c.in_ok-on_start.ensures.ok.0, (c.in_ok-screens.ensures.ok.0, tt)))))),
       ap5 (λ t l f s ss. record { schema = record { tables = t }; row_limit = l; formulas = f; on_start = s; screens = ss })
-          (c.in_ok-tables.ensures.ok.1 ∙ ap (λ e. at (all table) (codes "tables") e d) c.new.ensures)
+          (c.in_ok-tables.ensures.ok.1 ∙ ap (λ e. member_at (all_elements table_shape) (codes "tables") e d) c.new.ensures)
           (limit_held (get (codes "rowLimit") d) c.in_ok-limit.limit c.in_ok-limit.ensures.ok.1)
-          (c.in_ok-formulas.ensures.ok.1 ∙ ap (λ e. at words (codes "formulas") e d) (c.in_ok-empty.ensures ∙ no_words))
-          (c.in_ok-on_start.ensures.ok.1 ∙ ap (λ e. at words (codes "onStart") e d) (c.in_ok-empty-2.ensures ∙ no_words))
+          (c.in_ok-formulas.ensures.ok.1 ∙ ap (λ e. member_at words (codes "formulas") e d) (c.in_ok-empty.ensures ∙ no_words))
+          (c.in_ok-on_start.ensures.ok.1 ∙ ap (λ e. member_at words (codes "onStart") e d) (c.in_ok-empty-2.ensures ∙ no_words))
           (screens_held (get (codes "screens") d) c.in_ok-screens.screens c.in_ok-screens.ensures.ok.1),
     )

@@ -4,7 +4,7 @@ use Rattle.std.proofs.lemmas.Result.{IfOk-weaker}
 use Rattle.std.proofs.lemmas.Str.{chars_from_encodes, encodes-append}
 use Rattle.std.specs.Prelude.{encode_utf8_all}
 use Rattle.std.specs.Str.{chars}
-use Rattle.app_loader.specs.Cycles.{arrow_at, joined}
+use Rattle.app_loader.specs.Cycles.{arrow_at, joined_by_arrows}
 use Rattle.app_loader.proofs.Arrows.{joined_next}
 use Rattle.app_loader.proofs.cycles.join_names.Goals as goal
 
@@ -18,6 +18,6 @@ loop-place-preserved c =
 
 pub returns : goal.returns
 returns c =
-    let spelt = sym (c.as_str.ensures.value ∙ c.loop-place.invariant ∙ ap (λ (ts : List (List ℕ)). encode_utf8_all (joined ts)) (take_all c.loop-place.place c.args.names.now (omega arith))) in
-    let same : chars c.as_str.result.now ≡ joined c.args.names.now = sym (chars_from_encodes (joined c.args.names.now) c.as_str.result.now c.as_str.utf8 spelt) in
+    let spelt = sym (c.as_str.ensures.value ∙ c.loop-place.invariant ∙ ap (λ (ts : List (List ℕ)). encode_utf8_all (joined_by_arrows ts)) (take_all c.loop-place.place c.args.names.now (omega arith))) in
+    let same : chars c.as_str.result.now ≡ joined_by_arrows c.args.names.now = sym (chars_from_encodes (joined_by_arrows c.args.names.now) c.as_str.result.now c.as_str.utf8 spelt) in
     IfOk-weaker c.of.result _ _ (λ w e. e ∙ same) c.of.ensures

@@ -1,12 +1,12 @@
 use Rattle.std.proofs.Common.{List, subst, sym}
 use Rattle.std.proofs.lemmas.Result.{IfOk-weaker}
 use Rattle.std.specs.Prelude.{◌↔◌}
-use Rattle.fx_core.specs.Reads.{AreRising, IsAmong, sources_in}
+use Rattle.fx_core.specs.Reads.{AreSourcesRising, IsAmong, sources_in}
 use Rattle.fx_core.specs.declared.sources.Source.{Source}
 use Rattle.app_loader.proofs.infos.reads_of.Goals as goal
 
 pub returns-clause-once : goal.returns-clause-once
-returns-clause-once c = IfOk-weaker c.in_order.result _ _ (λ r e. subst AreRising (sym e) c.in_ok-named.ensures.once) c.in_order.ensures
+returns-clause-once c = IfOk-weaker c.in_order.result _ _ (λ r e. subst AreSourcesRising (sym e) c.in_ok-named.ensures.once) c.in_order.ensures
 
 pub returns-clause-exact : goal.returns-clause-exact
 returns-clause-exact c =

@@ -1,5 +1,5 @@
 use Rattle.std.proofs.Common.{◌≡◌, ℕ, [], ap, nat_eq, sym, ◌∙◌}
-use Rattle.app_loader.specs.Judged.{AreNamed}
+use Rattle.app_loader.specs.Judged.{AreNamedFormulas}
 use Rattle.app_loader.proofs.Loads.{formulas_err, formulas_ok, misnamed_by, named_by, none_by, schema_ok, screens_ok, sound_ok, tables_ok}
 use Rattle.app_names.specs.NameRules.{name_breaks}
 use Rattle.app_loader.proofs.loading.load_formulas.Goals as goal
@@ -17,7 +17,7 @@ returns-clause-app c =
     let ss = c.all-functions.result.now in
     let none : name_breaks ss f cells ≡ [] =
     sym (c.in_ok-breaks.ensures ∙ ap (name_breaks ss f) c.deref.ensures.value) ∙ none_by c.in_ok-breaks.breaks.items (ap (λ (k : ℕ). nat_eq k 0) (sym c.in_ok-breaks.breaks.ok.0) ∙ sym c.is_empty.ensures ∙ c.if-not-is_empty.false) in
-    let are : AreNamed f cells c.in_ok-names.names = named_by f cells c.in_ok-names.names ss (rw c.deref-2.ensures.value at c.in_ok-names.ensures.names) c.in_ok-names.ensures.functions none in
+    let are : AreNamedFormulas f cells c.in_ok-names.names = named_by f cells c.in_ok-names.names ss (rw c.deref-2.ensures.value at c.in_ok-names.ensures.names) c.in_ok-names.ensures.functions none in
     formulas_ok f cells c.in_ok-names.names are c.app_of.result c.app_of.ensures.app
 
 pub returns-clause-sound : goal.returns-clause-sound
@@ -43,5 +43,5 @@ returns-clause-refused c =
     let ss = c.all-functions.result.now in
     let none : name_breaks ss f cells ≡ [] =
     sym (c.in_ok-breaks.ensures ∙ ap (name_breaks ss f) c.deref.ensures.value) ∙ none_by c.in_ok-breaks.breaks.items (ap (λ (k : ℕ). nat_eq k 0) (sym c.in_ok-breaks.breaks.ok.0) ∙ sym c.is_empty.ensures ∙ c.if-not-is_empty.false) in
-    let are : AreNamed f cells c.in_ok-names.names = named_by f cells c.in_ok-names.names ss (rw c.deref-2.ensures.value at c.in_ok-names.ensures.names) c.in_ok-names.ensures.functions none in
+    let are : AreNamedFormulas f cells c.in_ok-names.names = named_by f cells c.in_ok-names.names ss (rw c.deref-2.ensures.value at c.in_ok-names.ensures.names) c.in_ok-names.ensures.functions none in
     formulas_err f cells c.in_ok-names.names are c.app_of.result c.app_of.ensures.refused

@@ -2,7 +2,7 @@ use Rattle.std.proofs.Common.{◌≡◌, List, Some, get_or, length, slice_get, 
 use Rattle.std.proofs.lemmas.Option.{slice_get_read}
 use Rattle.app_cells.specs.declared.app.CellInfo.{CellInfo}
 use Rattle.app_cells.specs.Leaning.{edges_of}
-use Rattle.fx_core.specs.Reads.{AreRising}
+use Rattle.fx_core.specs.Reads.{AreSourcesRising}
 use Rattle.fx_core.specs.declared.sources.Source.{Source}
 use Rattle.app_loader.specs.Supports.{AllRise, IsJoined}
 use Rattle.app_loader.proofs.Supporting.{all_told, none_told, numbered, one_told}
@@ -22,7 +22,7 @@ support_of-requires-clause-reads c =
     let k = get_or c.args.order.now c.loop-number.number-index 0 in
     let low = numbered (length c.args.infos.now) c.loop-number.number-index (edges_of c.args.names.now c.args.infos.now) c.args.order.now c.requires.order c.loop-number-test.true in
     let there : slice_get c.args.infos.now k ≡ Some c.index-infos-place.result = slice_get_read c.args.infos.now (length c.args.infos.now) k c.index-infos-place.result refl low c.index-infos-place.is in
-    subst AreRising (ap (λ (i : CellInfo). i.reads) c.index-infos-place.is ∙ sym c.as_slice.ensures) (c.requires.reads k c.index-infos-place.result there)
+    subst AreSourcesRising (ap (λ (i : CellInfo). i.reads) c.index-infos-place.is ∙ sym c.as_slice.ensures) (c.requires.reads k c.index-infos-place.result there)
 
 pub support_of-requires-clause-supports : goal.support_of-requires-clause-supports
 support_of-requires-clause-supports c = subst AllRise (sym c.deref.ensures.value) c.loop-number.invariant.rising

@@ -1,7 +1,7 @@
 use Rattle.std.proofs.Common.{◌≡◌, ◌++◌, ◌+◌, [], List, ap, drop, ◌∙◌}
 use Rattle.app_names.specs.Declarations.{declared_of, new_behind, own_names}
 use Rattle.app_names.specs.NameRules.{breaks_behind, name_break, put_break}
-use Rattle.app_names.specs.Tops.{has}
+use Rattle.app_names.specs.Tops.{is_name_in_set}
 use Rattle.app_names.specs.declared.declarations.Declared.{Declared}
 use Rattle.app_names.proofs.BreakSteps.{breaks_step, grown}
 use Rattle.app_names.proofs.breaks.put_breaks.Goals as goal
@@ -9,11 +9,11 @@ use Rattle.app_names.proofs.breaks.put_breaks.Goals as goal
 pub loop-cell-preserved : goal.loop-cell-preserved
 loop-cell-preserved c =
     let fs = c.args.functions.now in
-    let f = has c.args.given.now in
+    let f = is_name_in_set c.args.given.now in
     let cs = c.args.cells.now in
     let i = c.loop-cell.cell-index in
     let n = c.cell-item.result in
-    let given = has c.loop-cell.before in
+    let given = is_name_in_set c.loop-cell.before in
     let things = c.loop-cell.things.items in
     let new = c.in_ok-new.new.items in
     let o = c.in_ok-broken.broken in

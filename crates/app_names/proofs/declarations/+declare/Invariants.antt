@@ -1,5 +1,5 @@
 use Rattle.std.proofs.Common.{◌≡◌, ◌++◌, ◌+◌, ◌*◌, drop}
-use Rattle.fx_core.specs.Tree.{forest, forest_size, parts_of, tree_size}
+use Rattle.fx_core.specs.Tree.{forest, forest_size, field_trees, tree_size}
 use Rattle.app_names.specs.Declarations.{declared_among}
 use Rattle.app_names.proofs.declarations.+declare.Given as goal
 
@@ -13,7 +13,7 @@ abbrev pub decreases-declare_all : goal.decreases-declare_all
 decreases-declare_all l = 2 * forest_size (forest l.parts.now)
 
 abbrev pub decreases-declare_fields : goal.decreases-declare_fields
-decreases-declare_fields l = 2 * forest_size (parts_of l.fields.now)
+decreases-declare_fields l = 2 * forest_size (field_trees l.fields.now)
 
 abbrev pub invariant-declare_all-loop-part : goal.invariant-declare_all-loop-part
 invariant-declare_all-loop-part l =
@@ -21,4 +21,4 @@ invariant-declare_all-loop-part l =
 
 abbrev pub invariant-declare_fields-loop-part : goal.invariant-declare_fields-loop-part
 invariant-declare_fields-loop-part l =
-    l.found.items ++ declared_among l.functions l.screen (parts_of (drop l.part-index l.fields)) ≡ l.fn.found.items ++ declared_among l.functions l.screen (parts_of l.fields)
+    l.found.items ++ declared_among l.functions l.screen (field_trees (drop l.part-index l.fields)) ≡ l.fn.found.items ++ declared_among l.functions l.screen (field_trees l.fields)

@@ -1,13 +1,13 @@
 use Rattle.std.proofs.Common.{◌≡◌, ℕ, inl, inr, List, refl, sym, ◌∙◌, arith}
 use Rattle.httparse.specs.Grammar.{RequestHead}
-use Rattle.app_wire.specs.Head.{method_of, path_of}
+use Rattle.app_wire.specs.Head.{method_named, target_path}
 use Rattle.app_wire.specs.Framing.{Announces, Asked, request_of}
 use Rattle.app_wire.specs.declared.body.BodyLength.TheVariants.{Bytes}
 use Rattle.app_wire.specs.declared.head.Method.{Method}
 use Rattle.app_wire.proofs.Blanks.{open_short}
 use Rattle.app_wire.proofs.framer.look_at.Goals as goal
 
-asked_is : (method : Method) (path body : List ℕ) (h : RequestHead) → method ≡ method_of h.method → path ≡ path_of h.target
+asked_is : (method : Method) (path body : List ℕ) (h : RequestHead) → method ≡ method_named h.method → path ≡ target_path h.target
     → ◌≡◌ {A = Asked} (record { method = method; path = path; body = body }) (request_of h body)
 asked_is method path body h e f = rw (e, f) refl
 

@@ -1,6 +1,6 @@
 use Rattle.std.proofs.Common.{◌≡◌, ◌≤◌, ◌-◌, length}
 use Rattle.fx_base.specs.Telling.{Tells}
-use Rattle.app_wire.specs.Framing.{IsOpen}
+use Rattle.app_wire.specs.Framing.{IsStillOpen}
 use Rattle.app_wire.specs.NextRequest.{Keeps}
 use Rattle.app_wire.proofs.next.next_request.Given as goal
 
@@ -11,7 +11,7 @@ invariant-reading g l =
     let single = g.D.Doors.single in
     record {
       keeps : Tells (Keeps l.fn.framer l.framer) (told l.fn.doors) (told l.doors);
-      holds : IsOpen l.framer;
+      holds : IsStillOpen l.framer;
       single : single l.doors ≡ single l.fn.doors;
       later : faults l.fn.doors ≤ faults l.doors;
     }

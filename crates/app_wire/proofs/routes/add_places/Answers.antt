@@ -1,10 +1,10 @@
 use Rattle.std.proofs.Common.{refl}
 use Rattle.matchit.proofs.OnLiterals.{matchit_on_literals}
-use Rattle.app_wire.specs.RouteTable.{table}
+use Rattle.app_wire.specs.RouteTable.{route_table}
 use Rattle.app_wire.proofs.routes.add_places.Goals as goal
 
 pub returns : goal.returns
-unfolding matchit_on_literals table
+unfolding matchit_on_literals route_table
 returns c =
     let a = c.in_ok-insert.ensures in
     let b = c.in_ok-insert-2.ensures in
@@ -17,4 +17,4 @@ returns c =
     let j = c.in_ok-insert-9.ensures in
     let k = c.in_ok-insert-10.ensures in
     let l = c.in_ok-insert-11.ensures in
-    rw (l.1, k.1, j.1, i.1, h.1, g.1, f.1, e.1, d.1, b.1, a.1, c.requires) (refl {a = table})
+    rw (l.1, k.1, j.1, i.1, h.1, g.1, f.1, e.1, d.1, b.1, a.1, c.requires) (refl {a = route_table})

@@ -3,7 +3,7 @@ use Rattle.std.proofs.lemmas.List.{map-append, nil_from_length}
 use Rattle.std.proofs.lemmas.Result.{IfOk-weaker, on_err_weaker}
 use Rattle.std.specs.Prelude.{IfOk, OnErr}
 use Rattle.fx_base.proofs.Silences.{rose_before}
-use Rattle.fx_base.specs.Silence.{Goes, IsLost}
+use Rattle.fx_base.specs.Silence.{MayFallSilent, SilenceCause}
 use Rattle.fx_types.specs.Types.{booleans}
 use Rattle.fx_types.specs.Values.{fault}
 use Rattle.fx_types.specs.ValueView.{view}
@@ -21,7 +21,7 @@ use Rattle.fx_core.specs.declared.trees.CoreNode.{CoreNode}
 use Rattle.fx_core.specs.declared.trees.CoreNode.TheVariants as kind
 use Rattle.fx_core.specs.Term.{Term, all, cons, nil, of, terms_size}
 use Rattle.fx_core.specs.Term as top
-use Rattle.fx_core.specs.TermView.{branch}
+use Rattle.fx_core.specs.TermView.{core_branch}
 use Rattle.fx_value.specs.Fits.{fits_in}
 use Rattle.fx_core.specs.declared.deeds.Deed.TheVariants as deed
 use Rattle.fx_deeds.proofs.Passing.{passed_nowhere, passed_on}
@@ -29,8 +29,8 @@ use Rattle.fx_deeds.proofs.Allowing.{only_nowhere, only_on, only_over, only_stay
 use Rattle.fx_deeds.specs.CutOff.{CutDeed, CutUpdate}
 use Rattle.fx_deeds.specs.Doable.{AnswersAs, CanDo, CanUpdate}
 use Rattle.fx_deeds.specs.Done.{IsDeed, IsUpdate}
-use Rattle.fx_deeds.specs.Lefts.{Decides}
-use Rattle.fx_deeds.specs.State.{frame_of, ground}
+use Rattle.fx_deeds.specs.RemainingRows.{RestDecides}
+use Rattle.fx_deeds.specs.State.{eval_frame, ground}
 use Rattle.fx_deeds.specs.Writable.{DeedMayWrite}
 use Rattle.fx_behave.proofs.Acted as acted
 use Rattle.fx_behave.proofs.Cutting as cutting
@@ -44,9 +44,9 @@ use Rattle.fx_behave.proofs.Sequences as steps
 use Rattle.fx_behave.proofs.Sequences.{is_no_error, refl_le}
 use Rattle.fx_behave.proofs.Updated as updated
 use Rattle.fx_behave.proofs.Allowing.{first_may, only_next, only_one, only_parts, only_same, others_may}
-use Rattle.fx_behave.specs.Actable.{AreBranches, AreRecoveries, CanAct, EndsIn, IsActable, IsActableInside, IsMatchedBy, IsSwitch}
-use Rattle.fx_behave.specs.CutOff.{IsActCut, IsBranchCut, IsCutOff, IsForAllCut, IsSwitchCut, IsUpdateIfCut, part as part_of, parts as parts_of}
-use Rattle.fx_behave.specs.Perform.{AreEach, IsBranched, IsForAll, IsSwitched, IsUpdateIf, Performs, matching, performing, performings}
+use Rattle.fx_behave.specs.Actable.{AreActingBranches, AreActingRecoveries, CanAct, LastHasType, IsActable, IsActableInside, IsMatchedBy, IsActingSwitch}
+use Rattle.fx_behave.specs.CutOff.{IsActCut, IsBranchCut, IsCutOff, IsForAllCut, IsSwitchCut, IsUpdateIfCut, cut_part as part_of, parts as parts_of}
+use Rattle.fx_behave.specs.Perform.{PerformsEach, IsBranched, IsForAll, PerformsSwitch, IsUpdateIf, Performs, switch_decision, performing, performings}
 use Rattle.fx_behave.specs.Writable.{AnyMayWrite, MayWrite}
 use Rattle.fx_behave.proofs.acting.+perform.Goals as goal
 
@@ -55,7 +55,7 @@ chain-loop-part-init g t c =
     record {
       passed = passed_nowhere _;
       allowed = λ x m. m;
-      only = only_nowhere (AnyMayWrite (all c.args.parts.now)) (IsLost (g.W.Env.marks c.args.world.now) (g.W.Env.marks c.args.world.now)) (g.W.World.state c.args.world.now);
+      only = only_nowhere (AnyMayWrite (all c.args.parts.now)) (SilenceCause (g.W.Env.marks c.args.world.now) (g.W.Env.marks c.args.world.now)) (g.W.World.state c.args.world.now);
       scope = refl;
       fits = λ u r. r;
       done = begins _ _ (steps.chain_of (ground g.W.World.gives (g.W.Env.fixed c.args.world.now)) c.args.scope.now c.args.parts.now);
@@ -110,112 +110,112 @@ chain-returns-in_err-perform-clause-passed g t c =
 
 pub chain-unreachable-requires : goal.chain-unreachable-requires
 chain-unreachable-requires g t c =
-    subst (EndsIn (g.W.Env.fixed c.args.world.now).types c.args.scope.now c.requires.0) (nil_from_length _ c.in_default.ensures.cases) (c.loop-part.invariant.fits c.requires.0 c.requires.1)
+    subst (LastHasType (g.W.Env.fixed c.args.world.now).types c.args.scope.now c.requires.0) (nil_from_length _ c.in_default.ensures.cases) (c.loop-part.invariant.fits c.requires.0 c.requires.1)
 
 pub node-chain-requires : goal.node-chain-requires
 node-chain-requires g t c κs within =
-    let h = parts_fall _ _ _ _ (sym (ap branch c.in-Chain.is) ∙ c.core.view_is) c.as_slice.ensures in (
+    let h = parts_fall _ _ _ _ (sym (ap core_branch c.in-Chain.is) ∙ c.core.view_is) c.as_slice.ensures in (
       omega (arith, h),
-      (within.0, (within.1, (c.requires.can.0, heads.parts_found (λ u ts. EndsIn (g.W.Env.fixed c.args.world.now).types c.args.scope.now u ts) (g.W.Env.fixed c.args.world.now).types c.args.scope.now top.chain _ c.as_slice.result.now _ (λ u r. chain_actable (g.W.Env.fixed c.args.world.now).types c.args.scope.now _ u r) (sym (ap branch c.in-Chain.is) ∙ c.core.view_is) c.as_slice.ensures c.requires.can.0 c.requires.can.1))),
+      (within.0, (within.1, (c.requires.can.0, heads.parts_found (λ u ts. LastHasType (g.W.Env.fixed c.args.world.now).types c.args.scope.now u ts) (g.W.Env.fixed c.args.world.now).types c.args.scope.now top.chain _ c.as_slice.result.now _ (λ u r. chain_actable (g.W.Env.fixed c.args.world.now).types c.args.scope.now _ u r) (sym (ap core_branch c.in-Chain.is) ∙ c.core.view_is) c.as_slice.ensures c.requires.can.0 c.requires.can.1))),
     )
 
 pub node-returns-in-Chain-clause-done : goal.node-returns-in-Chain-clause-done
 node-returns-in-Chain-clause-done g t c =
-    steps.performed_as (IsLost (g.W.Env.marks c.args.world.now) (g.W.Env.marks c.chain.new.world)) (ground g.W.World.gives (g.W.Env.fixed c.args.world.now)) top.chain _ c.as_slice.result.now _ c.args.scope.now c.chain.result (g.W.World.state c.args.world.now) (g.W.World.state c.chain.new.world) (sym (ap branch c.in-Chain.is) ∙ c.core.view_is) c.as_slice.ensures c.requires.acts c.chain.ensures.done
+    steps.performed_as (SilenceCause (g.W.Env.marks c.args.world.now) (g.W.Env.marks c.chain.new.world)) (ground g.W.World.gives (g.W.Env.fixed c.args.world.now)) top.chain _ c.as_slice.result.now _ c.args.scope.now c.chain.result (g.W.World.state c.args.world.now) (g.W.World.state c.chain.new.world) (sym (ap core_branch c.in-Chain.is) ∙ c.core.view_is) c.as_slice.ensures c.requires.acts c.chain.ensures.done
 
 pub node-returns-in-Chain-clause-fits : goal.node-returns-in-Chain-clause-fits
 node-returns-in-Chain-clause-fits g t c =
-    λ u r. c.chain.ensures.fits u (heads.parts_found (λ u ts. EndsIn (g.W.Env.fixed c.args.world.now).types c.args.scope.now u ts) (g.W.Env.fixed c.args.world.now).types c.args.scope.now top.chain _ c.as_slice.result.now _ (λ u r. chain_actable (g.W.Env.fixed c.args.world.now).types c.args.scope.now _ u r) (sym (ap branch c.in-Chain.is) ∙ c.core.view_is) c.as_slice.ensures u r)
+    λ u r. c.chain.ensures.fits u (heads.parts_found (λ u ts. LastHasType (g.W.Env.fixed c.args.world.now).types c.args.scope.now u ts) (g.W.Env.fixed c.args.world.now).types c.args.scope.now top.chain _ c.as_slice.result.now _ (λ u r. chain_actable (g.W.Env.fixed c.args.world.now).types c.args.scope.now _ u r) (sym (ap core_branch c.in-Chain.is) ∙ c.core.view_is) c.as_slice.ensures u r)
 
 pub node-branches-requires : goal.node-branches-requires
 node-branches-requires g t c κs within =
-    let h = parts_fall _ _ _ _ (sym (ap branch c.in-If.is) ∙ c.core.view_is) c.as_slice-in-If.ensures in (
+    let h = parts_fall _ _ _ _ (sym (ap core_branch c.in-If.is) ∙ c.core.view_is) c.as_slice-in-If.ensures in (
       omega (arith, h),
-      (within.0, (within.1, (c.requires.can.0, heads.parts_found (λ u ts. AreBranches (g.W.Env.fixed c.args.world.now).types c.args.scope.now u ts) (g.W.Env.fixed c.args.world.now).types c.args.scope.now (top.form form.If) _ c.as_slice-in-If.result.now _ (λ u r. if_actable (g.W.Env.fixed c.args.world.now).types c.args.scope.now _ u r) (sym (ap branch c.in-If.is) ∙ c.core.view_is) c.as_slice-in-If.ensures c.requires.can.0 c.requires.can.1))),
+      (within.0, (within.1, (c.requires.can.0, heads.parts_found (λ u ts. AreActingBranches (g.W.Env.fixed c.args.world.now).types c.args.scope.now u ts) (g.W.Env.fixed c.args.world.now).types c.args.scope.now (top.form form.If) _ c.as_slice-in-If.result.now _ (λ u r. if_actable (g.W.Env.fixed c.args.world.now).types c.args.scope.now _ u r) (sym (ap core_branch c.in-If.is) ∙ c.core.view_is) c.as_slice-in-If.ensures c.requires.can.0 c.requires.can.1))),
     )
 
 pub node-returns-in-If-clause-done : goal.node-returns-in-If-clause-done
 node-returns-in-If-clause-done g t c =
-    steps.performed_as (IsLost (g.W.Env.marks c.args.world.now) (g.W.Env.marks c.branches.new.world)) (ground g.W.World.gives (g.W.Env.fixed c.args.world.now)) (top.form form.If) _ c.as_slice-in-If.result.now _ c.args.scope.now c.branches.result (g.W.World.state c.args.world.now) (g.W.World.state c.branches.new.world) (sym (ap branch c.in-If.is) ∙ c.core.view_is) c.as_slice-in-If.ensures c.requires.acts c.branches.ensures.done
+    steps.performed_as (SilenceCause (g.W.Env.marks c.args.world.now) (g.W.Env.marks c.branches.new.world)) (ground g.W.World.gives (g.W.Env.fixed c.args.world.now)) (top.form form.If) _ c.as_slice-in-If.result.now _ c.args.scope.now c.branches.result (g.W.World.state c.args.world.now) (g.W.World.state c.branches.new.world) (sym (ap core_branch c.in-If.is) ∙ c.core.view_is) c.as_slice-in-If.ensures c.requires.acts c.branches.ensures.done
 
 pub node-returns-in-If-clause-fits : goal.node-returns-in-If-clause-fits
 node-returns-in-If-clause-fits g t c =
-    λ u r. c.branches.ensures.fits u (heads.parts_found (λ u ts. AreBranches (g.W.Env.fixed c.args.world.now).types c.args.scope.now u ts) (g.W.Env.fixed c.args.world.now).types c.args.scope.now (top.form form.If) _ c.as_slice-in-If.result.now _ (λ u r. if_actable (g.W.Env.fixed c.args.world.now).types c.args.scope.now _ u r) (sym (ap branch c.in-If.is) ∙ c.core.view_is) c.as_slice-in-If.ensures u r)
+    λ u r. c.branches.ensures.fits u (heads.parts_found (λ u ts. AreActingBranches (g.W.Env.fixed c.args.world.now).types c.args.scope.now u ts) (g.W.Env.fixed c.args.world.now).types c.args.scope.now (top.form form.If) _ c.as_slice-in-If.result.now _ (λ u r. if_actable (g.W.Env.fixed c.args.world.now).types c.args.scope.now _ u r) (sym (ap core_branch c.in-If.is) ∙ c.core.view_is) c.as_slice-in-If.ensures u r)
 
 pub node-switch-requires : goal.node-switch-requires
 node-switch-requires g t c κs within =
-    let h = parts_fall _ _ _ _ (sym (ap branch c.in-Switch.is) ∙ c.core.view_is) c.as_slice-in-Switch.ensures in (
+    let h = parts_fall _ _ _ _ (sym (ap core_branch c.in-Switch.is) ∙ c.core.view_is) c.as_slice-in-Switch.ensures in (
       omega (arith, h),
-      (within.0, (within.1, (c.requires.can.0, heads.parts_found (λ u ts. IsSwitch (g.W.Env.fixed c.args.world.now).types c.args.scope.now u ts) (g.W.Env.fixed c.args.world.now).types c.args.scope.now (top.form form.Switch) _ c.as_slice-in-Switch.result.now _ (λ u r. switch_actable (g.W.Env.fixed c.args.world.now).types c.args.scope.now _ u r) (sym (ap branch c.in-Switch.is) ∙ c.core.view_is) c.as_slice-in-Switch.ensures c.requires.can.0 c.requires.can.1))),
+      (within.0, (within.1, (c.requires.can.0, heads.parts_found (λ u ts. IsActingSwitch (g.W.Env.fixed c.args.world.now).types c.args.scope.now u ts) (g.W.Env.fixed c.args.world.now).types c.args.scope.now (top.form form.Switch) _ c.as_slice-in-Switch.result.now _ (λ u r. switch_actable (g.W.Env.fixed c.args.world.now).types c.args.scope.now _ u r) (sym (ap core_branch c.in-Switch.is) ∙ c.core.view_is) c.as_slice-in-Switch.ensures c.requires.can.0 c.requires.can.1))),
     )
 
 pub node-returns-in-Switch-clause-done : goal.node-returns-in-Switch-clause-done
 node-returns-in-Switch-clause-done g t c =
-    steps.performed_as (IsLost (g.W.Env.marks c.args.world.now) (g.W.Env.marks c.switch.new.world)) (ground g.W.World.gives (g.W.Env.fixed c.args.world.now)) (top.form form.Switch) _ c.as_slice-in-Switch.result.now _ c.args.scope.now c.switch.result (g.W.World.state c.args.world.now) (g.W.World.state c.switch.new.world) (sym (ap branch c.in-Switch.is) ∙ c.core.view_is) c.as_slice-in-Switch.ensures c.requires.acts c.switch.ensures.done
+    steps.performed_as (SilenceCause (g.W.Env.marks c.args.world.now) (g.W.Env.marks c.switch.new.world)) (ground g.W.World.gives (g.W.Env.fixed c.args.world.now)) (top.form form.Switch) _ c.as_slice-in-Switch.result.now _ c.args.scope.now c.switch.result (g.W.World.state c.args.world.now) (g.W.World.state c.switch.new.world) (sym (ap core_branch c.in-Switch.is) ∙ c.core.view_is) c.as_slice-in-Switch.ensures c.requires.acts c.switch.ensures.done
 
 pub node-returns-in-Switch-clause-fits : goal.node-returns-in-Switch-clause-fits
 node-returns-in-Switch-clause-fits g t c =
-    λ u r. c.switch.ensures.fits u (heads.parts_found (λ u ts. IsSwitch (g.W.Env.fixed c.args.world.now).types c.args.scope.now u ts) (g.W.Env.fixed c.args.world.now).types c.args.scope.now (top.form form.Switch) _ c.as_slice-in-Switch.result.now _ (λ u r. switch_actable (g.W.Env.fixed c.args.world.now).types c.args.scope.now _ u r) (sym (ap branch c.in-Switch.is) ∙ c.core.view_is) c.as_slice-in-Switch.ensures u r)
+    λ u r. c.switch.ensures.fits u (heads.parts_found (λ u ts. IsActingSwitch (g.W.Env.fixed c.args.world.now).types c.args.scope.now u ts) (g.W.Env.fixed c.args.world.now).types c.args.scope.now (top.form form.Switch) _ c.as_slice-in-Switch.result.now _ (λ u r. switch_actable (g.W.Env.fixed c.args.world.now).types c.args.scope.now _ u r) (sym (ap core_branch c.in-Switch.is) ∙ c.core.view_is) c.as_slice-in-Switch.ensures u r)
 
 pub node-recover-requires : goal.node-recover-requires
 node-recover-requires g t c κs within =
-    let h = parts_fall _ _ _ _ (sym (ap branch c.in-IfError.is) ∙ c.core.view_is) c.as_slice-in-IfError.ensures in (
+    let h = parts_fall _ _ _ _ (sym (ap core_branch c.in-IfError.is) ∙ c.core.view_is) c.as_slice-in-IfError.ensures in (
       omega (arith, h),
-      (within.0, (within.1, (c.requires.can.0, heads.parts_found (λ u ts. AreRecoveries (g.W.Env.fixed c.args.world.now).types c.args.scope.now u ts) (g.W.Env.fixed c.args.world.now).types c.args.scope.now (top.form form.IfError) _ c.as_slice-in-IfError.result.now _ (λ u r. recover_actable (g.W.Env.fixed c.args.world.now).types c.args.scope.now _ u r) (sym (ap branch c.in-IfError.is) ∙ c.core.view_is) c.as_slice-in-IfError.ensures c.requires.can.0 c.requires.can.1))),
+      (within.0, (within.1, (c.requires.can.0, heads.parts_found (λ u ts. AreActingRecoveries (g.W.Env.fixed c.args.world.now).types c.args.scope.now u ts) (g.W.Env.fixed c.args.world.now).types c.args.scope.now (top.form form.IfError) _ c.as_slice-in-IfError.result.now _ (λ u r. recover_actable (g.W.Env.fixed c.args.world.now).types c.args.scope.now _ u r) (sym (ap core_branch c.in-IfError.is) ∙ c.core.view_is) c.as_slice-in-IfError.ensures c.requires.can.0 c.requires.can.1))),
     )
 
 pub node-returns-in-IfError-clause-done : goal.node-returns-in-IfError-clause-done
 node-returns-in-IfError-clause-done g t c =
-    steps.performed_as (IsLost (g.W.Env.marks c.args.world.now) (g.W.Env.marks c.recover.new.world)) (ground g.W.World.gives (g.W.Env.fixed c.args.world.now)) (top.form form.IfError) _ c.as_slice-in-IfError.result.now _ c.args.scope.now c.recover.result (g.W.World.state c.args.world.now) (g.W.World.state c.recover.new.world) (sym (ap branch c.in-IfError.is) ∙ c.core.view_is) c.as_slice-in-IfError.ensures c.requires.acts c.recover.ensures.done
+    steps.performed_as (SilenceCause (g.W.Env.marks c.args.world.now) (g.W.Env.marks c.recover.new.world)) (ground g.W.World.gives (g.W.Env.fixed c.args.world.now)) (top.form form.IfError) _ c.as_slice-in-IfError.result.now _ c.args.scope.now c.recover.result (g.W.World.state c.args.world.now) (g.W.World.state c.recover.new.world) (sym (ap core_branch c.in-IfError.is) ∙ c.core.view_is) c.as_slice-in-IfError.ensures c.requires.acts c.recover.ensures.done
 
 pub node-returns-in-IfError-clause-fits : goal.node-returns-in-IfError-clause-fits
 node-returns-in-IfError-clause-fits g t c =
-    λ u r. c.recover.ensures.fits u (heads.parts_found (λ u ts. AreRecoveries (g.W.Env.fixed c.args.world.now).types c.args.scope.now u ts) (g.W.Env.fixed c.args.world.now).types c.args.scope.now (top.form form.IfError) _ c.as_slice-in-IfError.result.now _ (λ u r. recover_actable (g.W.Env.fixed c.args.world.now).types c.args.scope.now _ u r) (sym (ap branch c.in-IfError.is) ∙ c.core.view_is) c.as_slice-in-IfError.ensures u r)
+    λ u r. c.recover.ensures.fits u (heads.parts_found (λ u ts. AreActingRecoveries (g.W.Env.fixed c.args.world.now).types c.args.scope.now u ts) (g.W.Env.fixed c.args.world.now).types c.args.scope.now (top.form form.IfError) _ c.as_slice-in-IfError.result.now _ (λ u r. recover_actable (g.W.Env.fixed c.args.world.now).types c.args.scope.now _ u r) (sym (ap core_branch c.in-IfError.is) ∙ c.core.view_is) c.as_slice-in-IfError.ensures u r)
 
 pub node-act_deed-requires : goal.node-act_deed-requires
 node-act_deed-requires g t c κs within =
-    let h = parts_fall _ _ _ _ (sym (ap branch c.in-Act.is) ∙ c.core.view_is) c.as_slice-in-Act.ensures in (
+    let h = parts_fall _ _ _ _ (sym (ap core_branch c.in-Act.is) ∙ c.core.view_is) c.as_slice-in-Act.ensures in (
       omega (arith, h),
-      (within.0, (within.1, heads.found_at (g.W.Env.fixed c.args.world.now).types c.args.scope.now _ _ (heads.parts_are (top.act c.in-Act.deed) _ c.as_slice-in-Act.result.now _ (sym (ap branch c.in-Act.is) ∙ c.core.view_is) c.as_slice-in-Act.ensures) c.requires.can)),
+      (within.0, (within.1, heads.found_at (g.W.Env.fixed c.args.world.now).types c.args.scope.now _ _ (heads.parts_are (top.act c.in-Act.deed) _ c.as_slice-in-Act.result.now _ (sym (ap core_branch c.in-Act.is) ∙ c.core.view_is) c.as_slice-in-Act.ensures) c.requires.can)),
     )
 
 pub node-returns-in-Act-clause-done : goal.node-returns-in-Act-clause-done
 node-returns-in-Act-clause-done g t c =
-    steps.performed_as (IsLost (g.W.Env.marks c.args.world.now) (g.W.Env.marks c.act_deed.new.world)) (ground g.W.World.gives (g.W.Env.fixed c.args.world.now)) (top.act c.in-Act.deed) _ c.as_slice-in-Act.result.now _ c.args.scope.now c.act_deed.result (g.W.World.state c.args.world.now) (g.W.World.state c.act_deed.new.world) (sym (ap branch c.in-Act.is) ∙ c.core.view_is) c.as_slice-in-Act.ensures c.requires.acts c.act_deed.ensures.done
+    steps.performed_as (SilenceCause (g.W.Env.marks c.args.world.now) (g.W.Env.marks c.act_deed.new.world)) (ground g.W.World.gives (g.W.Env.fixed c.args.world.now)) (top.act c.in-Act.deed) _ c.as_slice-in-Act.result.now _ c.args.scope.now c.act_deed.result (g.W.World.state c.args.world.now) (g.W.World.state c.act_deed.new.world) (sym (ap core_branch c.in-Act.is) ∙ c.core.view_is) c.as_slice-in-Act.ensures c.requires.acts c.act_deed.ensures.done
 
 pub node-returns-in-Act-clause-fits : goal.node-returns-in-Act-clause-fits
 node-returns-in-Act-clause-fits g t c =
-    λ u r. c.act_deed.ensures.fits u (heads.found (g.W.Env.fixed c.args.world.now).types c.args.scope.now _ _ (heads.parts_are (top.act c.in-Act.deed) _ c.as_slice-in-Act.result.now _ (sym (ap branch c.in-Act.is) ∙ c.core.view_is) c.as_slice-in-Act.ensures) u r)
+    λ u r. c.act_deed.ensures.fits u (heads.found (g.W.Env.fixed c.args.world.now).types c.args.scope.now _ _ (heads.parts_are (top.act c.in-Act.deed) _ c.as_slice-in-Act.result.now _ (sym (ap core_branch c.in-Act.is) ∙ c.core.view_is) c.as_slice-in-Act.ensures) u r)
 
 pub node-perform-requires : goal.node-perform-requires
 node-perform-requires g t c κs within =
-    let h = one_falls _ _ _ _ (sym (ap branch c.in-Dot.is) ∙ c.core.view_is) c.deref-in-Dot.ensures in (
+    let h = one_falls _ _ _ _ (sym (ap core_branch c.in-Dot.is) ∙ c.core.view_is) c.deref-in-Dot.ensures in (
       omega (arith, h),
-      (within.0, (within.1, heads.dot_part (g.W.Env.fixed c.args.world.now).types c.args.scope.now _ _ _ _ (sym (ap branch c.in-Dot.is) ∙ c.core.view_is) c.deref-in-Dot.ensures c.requires.can)),
+      (within.0, (within.1, heads.dot_part (g.W.Env.fixed c.args.world.now).types c.args.scope.now _ _ _ _ (sym (ap core_branch c.in-Dot.is) ∙ c.core.view_is) c.deref-in-Dot.ensures c.requires.can)),
     )
 
 pub node-perform-requires-in-Coerce : goal.node-perform-requires-in-Coerce
 node-perform-requires-in-Coerce g t c κs within =
-    let h = one_falls _ _ _ _ (sym (ap branch c.in-Coerce.is) ∙ c.core.view_is) c.deref-in-Coerce.ensures in (
+    let h = one_falls _ _ _ _ (sym (ap core_branch c.in-Coerce.is) ∙ c.core.view_is) c.deref-in-Coerce.ensures in (
       omega (arith, h),
-      (within.0, (within.1, heads.coerce_part (g.W.Env.fixed c.args.world.now).types c.args.scope.now _ _ _ _ (sym (ap branch c.in-Coerce.is) ∙ c.core.view_is) c.deref-in-Coerce.ensures c.requires.can)),
+      (within.0, (within.1, heads.coerce_part (g.W.Env.fixed c.args.world.now).types c.args.scope.now _ _ _ _ (sym (ap core_branch c.in-Coerce.is) ∙ c.core.view_is) c.deref-in-Coerce.ensures c.requires.can)),
     )
 
 pub node-coerce-requires : goal.node-coerce-requires
 node-coerce-requires g t c =
-    heads.coerce_can (g.W.Env.fixed c.args.world.now).types c.args.scope.now _ _ _ _ (view c.in_ok-value-in-Coerce.value) (sym (ap branch c.in-Coerce.is) ∙ c.core.view_is) c.deref-in-Coerce.ensures c.requires.can c.in_ok-value-in-Coerce.ensures.fits
+    heads.coerce_can (g.W.Env.fixed c.args.world.now).types c.args.scope.now _ _ _ _ (view c.in_ok-value-in-Coerce.value) (sym (ap core_branch c.in-Coerce.is) ∙ c.core.view_is) c.deref-in-Coerce.ensures c.requires.can c.in_ok-value-in-Coerce.ensures.fits
 
 pub node-part_values-requires : goal.node-part_values-requires
 node-part_values-requires g t c κs within =
-    let h = parts_fall _ _ _ _ (sym (ap branch c.in-List.is) ∙ c.core.view_is) c.as_slice-in-List.ensures in
-    let k = heads.list_there (g.W.Env.fixed c.args.world.now).types c.args.scope.now _ _ _ _ (sym (ap branch c.in-List.is) ∙ c.core.view_is) c.as_slice-in-List.ensures c.requires.can.0 c.requires.can.1 in (
+    let h = parts_fall _ _ _ _ (sym (ap core_branch c.in-List.is) ∙ c.core.view_is) c.as_slice-in-List.ensures in
+    let k = heads.list_there (g.W.Env.fixed c.args.world.now).types c.args.scope.now _ _ _ _ (sym (ap core_branch c.in-List.is) ∙ c.core.view_is) c.as_slice-in-List.ensures c.requires.can.0 c.requires.can.1 in (
       omega (arith, h),
       (within.0, (within.1, (k.types_of, k.parts))),
     )
 
 pub node-list-requires : goal.node-list-requires
 node-list-requires g t c =
-    let k = heads.list_there (g.W.Env.fixed c.args.world.now).types c.args.scope.now _ _ _ _ (sym (ap branch c.in-List.is) ∙ c.core.view_is) c.as_slice-in-List.ensures c.requires.can.0 c.requires.can.1 in
+    let k = heads.list_there (g.W.Env.fixed c.args.world.now).types c.args.scope.now _ _ _ _ (sym (ap core_branch c.in-List.is) ∙ c.core.view_is) c.as_slice-in-List.ensures c.requires.can.0 c.requires.can.1 in
     can_list _ _ k.types_of k.rows k.same (c.in_ok-values-in-List.ensures.fits k.types_of k.parts)
 
 pub for_all-unreachable-requires : goal.for_all-unreachable-requires
@@ -238,8 +238,8 @@ for_all-each-requires g t c κs within =
 
 pub for_all-returns-in-Err-clause-done : goal.for_all-returns-in-Err-clause-done
 for_all-returns-in-Err-clause-done g t c =
-    subst (λ (ts : List Term). Goes (IsLost (g.W.Env.marks c.args.world.now) (g.W.Env.marks c.perform.new.world)) (λ s u. IsForAll (performing (ground g.W.World.gives (g.W.Env.fixed c.args.world.now)) c.args.table.now ∷ performings (ground g.W.World.gives (g.W.Env.fixed c.args.world.now)) (all ts)) c.args.scope.now s (fault c.in-Err.fault.kind c.in-Err.fault.message) u) (g.W.World.state c.args.world.now) (g.W.World.state c.perform.new.world)) (sym (formula_is (g.W.Env.fixed c.args.world.now).types c.args.scope.now c.args.table.now c.args.parts.now c.requires.0 c.requires.1 c.in-Some.formula.now _ c.in-Some.ensures.cases.0))
-    (steps.for_all_fails (ground g.W.World.gives (g.W.Env.fixed c.args.world.now)) c.args.scope.now (IsLost (g.W.Env.marks c.args.world.now) (g.W.Env.marks c.perform.new.world)) (g.W.World.state c.args.world.now) (g.W.World.state c.perform.new.world) c.args.table.now (view c.in_ok-value.value) c.in-Err.fault.kind c.in-Err.fault.message c.in-Err.ensures c.in-Some.formula.now c.in_ok-value.ensures.done)
+    subst (λ (ts : List Term). MayFallSilent (SilenceCause (g.W.Env.marks c.args.world.now) (g.W.Env.marks c.perform.new.world)) (λ s u. IsForAll (performing (ground g.W.World.gives (g.W.Env.fixed c.args.world.now)) c.args.table.now ∷ performings (ground g.W.World.gives (g.W.Env.fixed c.args.world.now)) (all ts)) c.args.scope.now s (fault c.in-Err.fault.kind c.in-Err.fault.message) u) (g.W.World.state c.args.world.now) (g.W.World.state c.perform.new.world)) (sym (formula_is (g.W.Env.fixed c.args.world.now).types c.args.scope.now c.args.table.now c.args.parts.now c.requires.0 c.requires.1 c.in-Some.formula.now _ c.in-Some.ensures.cases.0))
+    (steps.for_all_fails (ground g.W.World.gives (g.W.Env.fixed c.args.world.now)) c.args.scope.now (SilenceCause (g.W.Env.marks c.args.world.now) (g.W.Env.marks c.perform.new.world)) (g.W.World.state c.args.world.now) (g.W.World.state c.perform.new.world) c.args.table.now (view c.in_ok-value.value) c.in-Err.fault.kind c.in-Err.fault.message c.in-Err.ensures c.in-Some.formula.now c.in_ok-value.ensures.done)
 
 pub update_if-filter_and_change-requires : goal.update_if-filter_and_change-requires
 update_if-filter_and_change-requires g t c =
@@ -253,8 +253,8 @@ update_if-perform-requires g t c κs within = (
 
 pub update_if-returns-in-Err-clause-done : goal.update_if-returns-in-Err-clause-done
 update_if-returns-in-Err-clause-done g t c =
-    subst (λ (ts : List Term). Goes (IsLost (g.W.Env.marks c.args.world.now) (g.W.Env.marks c.perform.new.world)) (λ s u. IsUpdateIf (ground g.W.World.gives (g.W.Env.fixed c.args.world.now)) c.args.target (performings (ground g.W.World.gives (g.W.Env.fixed c.args.world.now)) (all ts)) c.args.scope.now s (fault c.in-Err.fault.kind c.in-Err.fault.message) u) (g.W.World.state c.args.world.now) (g.W.World.state c.perform.new.world)) (sym c.filter_and_change.ensures)
-    (acted.update_fails (ground g.W.World.gives (g.W.Env.fixed c.args.world.now)) c.args.scope.now (IsLost (g.W.Env.marks c.args.world.now) (g.W.Env.marks c.perform.new.world)) (g.W.World.state c.args.world.now) (g.W.World.state c.perform.new.world) c.args.target c.filter_and_change.result.0.now c.filter_and_change.result.1.now (view c.in_ok-value.value) c.in-Err.fault.kind c.in-Err.fault.message c.in-Err.ensures c.in_ok-value.ensures.done)
+    subst (λ (ts : List Term). MayFallSilent (SilenceCause (g.W.Env.marks c.args.world.now) (g.W.Env.marks c.perform.new.world)) (λ s u. IsUpdateIf (ground g.W.World.gives (g.W.Env.fixed c.args.world.now)) c.args.target (performings (ground g.W.World.gives (g.W.Env.fixed c.args.world.now)) (all ts)) c.args.scope.now s (fault c.in-Err.fault.kind c.in-Err.fault.message) u) (g.W.World.state c.args.world.now) (g.W.World.state c.perform.new.world)) (sym c.filter_and_change.ensures)
+    (acted.update_fails (ground g.W.World.gives (g.W.Env.fixed c.args.world.now)) c.args.scope.now (SilenceCause (g.W.Env.marks c.args.world.now) (g.W.Env.marks c.perform.new.world)) (g.W.World.state c.args.world.now) (g.W.World.state c.perform.new.world) c.args.target c.filter_and_change.result.0.now c.filter_and_change.result.1.now (view c.in_ok-value.value) c.in-Err.fault.kind c.in-Err.fault.message c.in-Err.ensures c.in_ok-value.ensures.done)
 
 pub act_deed-update_if-requires : goal.act_deed-update_if-requires
 act_deed-update_if-requires g t c κs within = (
@@ -264,7 +264,7 @@ act_deed-update_if-requires g t c κs within = (
 
 pub act_deed-returns-in-UpdateIf-clause-done : goal.act_deed-returns-in-UpdateIf-clause-done
 act_deed-returns-in-UpdateIf-clause-done g t c =
-    acted.deed_as (ground g.W.World.gives (g.W.Env.fixed c.args.world.now)) c.args.scope.now (performings (ground g.W.World.gives (g.W.Env.fixed c.args.world.now)) (all c.args.parts.now)) (IsLost (g.W.Env.marks c.args.world.now) (g.W.Env.marks c.update_if.new.world)) (g.W.World.state c.args.world.now) (g.W.World.state c.update_if.new.world) c.args.deed.now _ c.update_if.result c.in-UpdateIf.is c.update_if.ensures.done
+    acted.deed_as (ground g.W.World.gives (g.W.Env.fixed c.args.world.now)) c.args.scope.now (performings (ground g.W.World.gives (g.W.Env.fixed c.args.world.now)) (all c.args.parts.now)) (SilenceCause (g.W.Env.marks c.args.world.now) (g.W.Env.marks c.update_if.new.world)) (g.W.World.state c.args.world.now) (g.W.World.state c.update_if.new.world) c.args.deed.now _ c.update_if.result c.in-UpdateIf.is c.update_if.ensures.done
 
 pub act_deed-returns-in-UpdateIf-clause-fits : goal.act_deed-returns-in-UpdateIf-clause-fits
 act_deed-returns-in-UpdateIf-clause-fits g t c =
@@ -285,55 +285,55 @@ act_deed-do_deed-requires g t c =
 
 pub node-within-requires : goal.node-within-requires
 node-within-requires g t c κs within = (
-  let h = nodes.two_fall top.within _ _ _ _ _ (sym (ap branch c.in-With.is) ∙ c.core.view_is) c.deref.ensures c.deref-in-With.ensures in omega (arith, h),
-  (within.0, (within.1, heads.found_at (g.W.Env.fixed c.args.world.now).types c.args.scope.now _ _ (nodes.two_are top.within _ _ _ _ _ (sym (ap branch c.in-With.is) ∙ c.core.view_is) c.deref.ensures c.deref-in-With.ensures) c.requires.can)),
+  let h = nodes.two_fall top.within _ _ _ _ _ (sym (ap core_branch c.in-With.is) ∙ c.core.view_is) c.deref.ensures c.deref-in-With.ensures in omega (arith, h),
+  (within.0, (within.1, heads.found_at (g.W.Env.fixed c.args.world.now).types c.args.scope.now _ _ (nodes.two_are top.within _ _ _ _ _ (sym (ap core_branch c.in-With.is) ∙ c.core.view_is) c.deref.ensures c.deref-in-With.ensures) c.requires.can)),
 )
 
 pub node-returns-in-With-clause-done : goal.node-returns-in-With-clause-done
 node-returns-in-With-clause-done g t c =
-    steps.performed_as (IsLost (g.W.Env.marks c.args.world.now) (g.W.Env.marks c.within.new.world)) (ground g.W.World.gives (g.W.Env.fixed c.args.world.now)) top.within (c.deref.result.now ∷ c.deref-in-With.result.now ∷ []) (c.deref.result.now ∷ c.deref-in-With.result.now ∷ []) _ c.args.scope.now c.within.result (g.W.World.state c.args.world.now) (g.W.World.state c.within.new.world) (nodes.two_are top.within _ _ _ _ _ (sym (ap branch c.in-With.is) ∙ c.core.view_is) c.deref.ensures c.deref-in-With.ensures) refl c.requires.acts c.within.ensures.done
+    steps.performed_as (SilenceCause (g.W.Env.marks c.args.world.now) (g.W.Env.marks c.within.new.world)) (ground g.W.World.gives (g.W.Env.fixed c.args.world.now)) top.within (c.deref.result.now ∷ c.deref-in-With.result.now ∷ []) (c.deref.result.now ∷ c.deref-in-With.result.now ∷ []) _ c.args.scope.now c.within.result (g.W.World.state c.args.world.now) (g.W.World.state c.within.new.world) (nodes.two_are top.within _ _ _ _ _ (sym (ap core_branch c.in-With.is) ∙ c.core.view_is) c.deref.ensures c.deref-in-With.ensures) refl c.requires.acts c.within.ensures.done
 
 pub node-returns-in-With-clause-fits : goal.node-returns-in-With-clause-fits
 node-returns-in-With-clause-fits g t c =
-    λ u r. c.within.ensures.fits u (heads.found (g.W.Env.fixed c.args.world.now).types c.args.scope.now _ _ (nodes.two_are top.within _ _ _ _ _ (sym (ap branch c.in-With.is) ∙ c.core.view_is) c.deref.ensures c.deref-in-With.ensures) u r)
+    λ u r. c.within.ensures.fits u (heads.found (g.W.Env.fixed c.args.world.now).types c.args.scope.now _ _ (nodes.two_are top.within _ _ _ _ _ (sym (ap core_branch c.in-With.is) ∙ c.core.view_is) c.deref.ensures c.deref-in-With.ensures) u r)
 
 pub node-for_all-requires : goal.node-for_all-requires
 node-for_all-requires g t c κs within = (
-  let h = table_falls _ _ _ _ _ _ (sym (ap branch c.in-Over.is) ∙ c.core.view_is) c.deref-in-Over.ensures c.as_slice-in-Over.ensures in omega (arith, h),
-  (within.0, (within.1, heads.found_at (g.W.Env.fixed c.args.world.now).types c.args.scope.now _ _ (nodes.over_is (g.W.Env.fixed c.args.world.now).types c.args.scope.now _ _ c.deref-in-Over.result.now _ c.as_slice-in-Over.result.now _ (sym (ap branch c.in-Over.is) ∙ c.core.view_is) c.deref-in-Over.ensures c.as_slice-in-Over.ensures c.requires.can c.requires.acts) c.requires.can)),
+  let h = table_falls _ _ _ _ _ _ (sym (ap core_branch c.in-Over.is) ∙ c.core.view_is) c.deref-in-Over.ensures c.as_slice-in-Over.ensures in omega (arith, h),
+  (within.0, (within.1, heads.found_at (g.W.Env.fixed c.args.world.now).types c.args.scope.now _ _ (nodes.over_is (g.W.Env.fixed c.args.world.now).types c.args.scope.now _ _ c.deref-in-Over.result.now _ c.as_slice-in-Over.result.now _ (sym (ap core_branch c.in-Over.is) ∙ c.core.view_is) c.deref-in-Over.ensures c.as_slice-in-Over.ensures c.requires.can c.requires.acts) c.requires.can)),
 )
 
 pub node-returns-in-Over-clause-done : goal.node-returns-in-Over-clause-done
 node-returns-in-Over-clause-done g t c =
-    steps.performed_as (IsLost (g.W.Env.marks c.args.world.now) (g.W.Env.marks c.for_all.new.world)) (ground g.W.World.gives (g.W.Env.fixed c.args.world.now)) (top.over fun.ForAll) (c.deref-in-Over.result.now ∷ c.as_slice-in-Over.result.now) (c.deref-in-Over.result.now ∷ c.as_slice-in-Over.result.now) _ c.args.scope.now c.for_all.result (g.W.World.state c.args.world.now) (g.W.World.state c.for_all.new.world) (nodes.over_is (g.W.Env.fixed c.args.world.now).types c.args.scope.now _ _ c.deref-in-Over.result.now _ c.as_slice-in-Over.result.now _ (sym (ap branch c.in-Over.is) ∙ c.core.view_is) c.deref-in-Over.ensures c.as_slice-in-Over.ensures c.requires.can c.requires.acts) refl c.requires.acts c.for_all.ensures.done
+    steps.performed_as (SilenceCause (g.W.Env.marks c.args.world.now) (g.W.Env.marks c.for_all.new.world)) (ground g.W.World.gives (g.W.Env.fixed c.args.world.now)) (top.over fun.ForAll) (c.deref-in-Over.result.now ∷ c.as_slice-in-Over.result.now) (c.deref-in-Over.result.now ∷ c.as_slice-in-Over.result.now) _ c.args.scope.now c.for_all.result (g.W.World.state c.args.world.now) (g.W.World.state c.for_all.new.world) (nodes.over_is (g.W.Env.fixed c.args.world.now).types c.args.scope.now _ _ c.deref-in-Over.result.now _ c.as_slice-in-Over.result.now _ (sym (ap core_branch c.in-Over.is) ∙ c.core.view_is) c.deref-in-Over.ensures c.as_slice-in-Over.ensures c.requires.can c.requires.acts) refl c.requires.acts c.for_all.ensures.done
 
 pub node-returns-in-Over-clause-fits : goal.node-returns-in-Over-clause-fits
 node-returns-in-Over-clause-fits g t c =
-    λ u r. c.for_all.ensures.fits u (heads.found (g.W.Env.fixed c.args.world.now).types c.args.scope.now _ _ (nodes.over_is (g.W.Env.fixed c.args.world.now).types c.args.scope.now _ _ c.deref-in-Over.result.now _ c.as_slice-in-Over.result.now _ (sym (ap branch c.in-Over.is) ∙ c.core.view_is) c.deref-in-Over.ensures c.as_slice-in-Over.ensures c.requires.can c.requires.acts) u r)
+    λ u r. c.for_all.ensures.fits u (heads.found (g.W.Env.fixed c.args.world.now).types c.args.scope.now _ _ (nodes.over_is (g.W.Env.fixed c.args.world.now).types c.args.scope.now _ _ c.deref-in-Over.result.now _ c.as_slice-in-Over.result.now _ (sym (ap core_branch c.in-Over.is) ∙ c.core.view_is) c.deref-in-Over.ensures c.as_slice-in-Over.ensures c.requires.can c.requires.acts) u r)
 
 pub node-returns-in_ok-field_of-in-Dot-clause-done : goal.node-returns-in_ok-field_of-in-Dot-clause-done
 node-returns-in_ok-field_of-in-Dot-clause-done g t c =
-    nodes.dot_done (IsLost (g.W.Env.marks c.args.world.now) (g.W.Env.marks c.perform.new.world)) (ground g.W.World.gives (g.W.Env.fixed c.args.world.now)) c.args.scope.now (view c.in_ok-value-in-Dot.value) (view c.in_ok-field_of-in-Dot.field-0) (g.W.World.state c.args.world.now) (g.W.World.state c.perform.new.world) _ _ _ _ (sym (ap branch c.in-Dot.is) ∙ c.core.view_is) c.deref-in-Dot.ensures c.requires.acts c.in_ok-field_of-in-Dot.ensures c.in_ok-value-in-Dot.ensures.done
+    nodes.dot_done (SilenceCause (g.W.Env.marks c.args.world.now) (g.W.Env.marks c.perform.new.world)) (ground g.W.World.gives (g.W.Env.fixed c.args.world.now)) c.args.scope.now (view c.in_ok-value-in-Dot.value) (view c.in_ok-field_of-in-Dot.field-0) (g.W.World.state c.args.world.now) (g.W.World.state c.perform.new.world) _ _ _ _ (sym (ap core_branch c.in-Dot.is) ∙ c.core.view_is) c.deref-in-Dot.ensures c.requires.acts c.in_ok-field_of-in-Dot.ensures c.in_ok-value-in-Dot.ensures.done
 
 pub node-returns-in_ok-field_of-in-Dot-clause-fits : goal.node-returns-in_ok-field_of-in-Dot-clause-fits
 node-returns-in_ok-field_of-in-Dot-clause-fits g t c =
-    λ u r. nodes.dot_fit (g.W.Env.fixed c.args.world.now).types c.args.scope.now _ u r _ _ _ (sym (ap branch c.in-Dot.is) ∙ c.core.view_is) c.deref-in-Dot.ensures (view c.in_ok-value-in-Dot.value) (view c.in_ok-field_of-in-Dot.field-0) c.in_ok-value-in-Dot.ensures.fits c.in_ok-field_of-in-Dot.ensures
+    λ u r. nodes.dot_fit (g.W.Env.fixed c.args.world.now).types c.args.scope.now _ u r _ _ _ (sym (ap core_branch c.in-Dot.is) ∙ c.core.view_is) c.deref-in-Dot.ensures (view c.in_ok-value-in-Dot.value) (view c.in_ok-field_of-in-Dot.field-0) c.in_ok-value-in-Dot.ensures.fits c.in_ok-field_of-in-Dot.ensures
 
 pub node-returns-in_ok-coerce-in-Coerce-clause-done : goal.node-returns-in_ok-coerce-in-Coerce-clause-done
 node-returns-in_ok-coerce-in-Coerce-clause-done g t c =
-    nodes.coerce_done (IsLost (g.W.Env.marks c.args.world.now) (g.W.Env.marks c.perform-in-Coerce.new.world)) (ground g.W.World.gives (g.W.Env.fixed c.args.world.now)) c.args.scope.now (view c.in_ok-value-in-Coerce.value) (view c.in_ok-coerce-in-Coerce.field-0) (g.W.World.state c.args.world.now) (g.W.World.state c.perform-in-Coerce.new.world) _ _ _ _ (sym (ap branch c.in-Coerce.is) ∙ c.core.view_is) c.deref-in-Coerce.ensures c.requires.acts c.in_ok-coerce-in-Coerce.ensures.value c.in_ok-value-in-Coerce.ensures.done
+    nodes.coerce_done (SilenceCause (g.W.Env.marks c.args.world.now) (g.W.Env.marks c.perform-in-Coerce.new.world)) (ground g.W.World.gives (g.W.Env.fixed c.args.world.now)) c.args.scope.now (view c.in_ok-value-in-Coerce.value) (view c.in_ok-coerce-in-Coerce.field-0) (g.W.World.state c.args.world.now) (g.W.World.state c.perform-in-Coerce.new.world) _ _ _ _ (sym (ap core_branch c.in-Coerce.is) ∙ c.core.view_is) c.deref-in-Coerce.ensures c.requires.acts c.in_ok-coerce-in-Coerce.ensures.value c.in_ok-value-in-Coerce.ensures.done
 
 pub node-returns-in_ok-coerce-in-Coerce-clause-fits : goal.node-returns-in_ok-coerce-in-Coerce-clause-fits
 node-returns-in_ok-coerce-in-Coerce-clause-fits g t c =
-    λ u r. nodes.coerce_fit (g.W.Env.fixed c.args.world.now).types c.args.scope.now _ u r _ _ _ (sym (ap branch c.in-Coerce.is) ∙ c.core.view_is) c.deref-in-Coerce.ensures (view c.in_ok-coerce-in-Coerce.field-0) c.in_ok-coerce-in-Coerce.ensures.fits
+    λ u r. nodes.coerce_fit (g.W.Env.fixed c.args.world.now).types c.args.scope.now _ u r _ _ _ (sym (ap core_branch c.in-Coerce.is) ∙ c.core.view_is) c.deref-in-Coerce.ensures (view c.in_ok-coerce-in-Coerce.field-0) c.in_ok-coerce-in-Coerce.ensures.fits
 
 pub node-returns-in_ok-list-in-List-clause-done : goal.node-returns-in_ok-list-in-List-clause-done
 node-returns-in_ok-list-in-List-clause-done g t c =
-    nodes.list_done (IsLost (g.W.Env.marks c.args.world.now) (g.W.Env.marks c.part_values.new.world)) (ground g.W.World.gives (g.W.Env.fixed c.args.world.now)) c.args.scope.now (map view c.in_ok-values-in-List.values.items) (view c.in_ok-list-in-List.field-0) (g.W.World.state c.args.world.now) (g.W.World.state c.part_values.new.world) _ _ _ _ (sym (ap branch c.in-List.is) ∙ c.core.view_is) c.as_slice-in-List.ensures c.requires.acts c.in_ok-list-in-List.ensures c.in_ok-values-in-List.ensures.done
+    nodes.list_done (SilenceCause (g.W.Env.marks c.args.world.now) (g.W.Env.marks c.part_values.new.world)) (ground g.W.World.gives (g.W.Env.fixed c.args.world.now)) c.args.scope.now (map view c.in_ok-values-in-List.values.items) (view c.in_ok-list-in-List.field-0) (g.W.World.state c.args.world.now) (g.W.World.state c.part_values.new.world) _ _ _ _ (sym (ap core_branch c.in-List.is) ∙ c.core.view_is) c.as_slice-in-List.ensures c.requires.acts c.in_ok-list-in-List.ensures c.in_ok-values-in-List.ensures.done
 
 pub node-returns-in_ok-list-in-List-clause-fits : goal.node-returns-in_ok-list-in-List-clause-fits
 node-returns-in_ok-list-in-List-clause-fits g t c =
-    λ u r. nodes.list_fit (g.W.Env.fixed c.args.world.now).types c.args.scope.now _ u r _ _ _ (sym (ap branch c.in-List.is) ∙ c.core.view_is) c.as_slice-in-List.ensures (map view c.in_ok-values-in-List.values.items) (view c.in_ok-list-in-List.field-0) c.in_ok-values-in-List.ensures.fits c.in_ok-list-in-List.ensures
+    λ u r. nodes.list_fit (g.W.Env.fixed c.args.world.now).types c.args.scope.now _ u r _ _ _ (sym (ap core_branch c.in-List.is) ∙ c.core.view_is) c.as_slice-in-List.ensures (map view c.in_ok-values-in-List.values.items) (view c.in_ok-list-in-List.field-0) c.in_ok-values-in-List.ensures.fits c.in_ok-list-in-List.ensures
 
 pub for_all-returns-in_err-values-in-Ok-clause-passed : goal.for_all-returns-in_err-values-in-Ok-clause-passed
 for_all-returns-in_err-values-in-Ok-clause-passed g t c =
@@ -357,15 +357,15 @@ node-unreachable-requires g t c = other c.core.inside.node refl
     other (kind.Coerce a q) e = c.in_default.not-Coerce a q e
     other (kind.List q ps) e = c.in_default.not-List q ps e
     other (kind.Over f a ps) e = c.in_default.not-Over f a ps e
-    other (kind.Const v) e = nodes.no_place (g.W.Env.fixed c.args.world.now).types c.args.scope.now _ _ _ (sym (ap branch e) ∙ c.core.view_is) refl c.requires.can c.requires.acts
-    other (kind.Read s) e = nodes.no_place (g.W.Env.fixed c.args.world.now).types c.args.scope.now _ _ _ (sym (ap branch e) ∙ c.core.view_is) refl c.requires.can c.requires.acts
-    other (kind.Row k) e = nodes.no_place (g.W.Env.fixed c.args.world.now).types c.args.scope.now _ _ _ (sym (ap branch e) ∙ c.core.view_is) refl c.requires.can c.requires.acts
-    other kind.Item e = nodes.no_place (g.W.Env.fixed c.args.world.now).types c.args.scope.now _ _ _ (sym (ap branch e) ∙ c.core.view_is) refl c.requires.can c.requires.acts
-    other kind.Caught e = nodes.no_place (g.W.Env.fixed c.args.world.now).types c.args.scope.now _ _ _ (sym (ap branch e) ∙ c.core.view_is) refl c.requires.can c.requires.acts
-    other (kind.Call f ps) e = nodes.no_place (g.W.Env.fixed c.args.world.now).types c.args.scope.now _ _ _ (sym (ap branch e) ∙ c.core.view_is) refl c.requires.can c.requires.acts
-    other (kind.Rec fs) e = nodes.no_place (g.W.Env.fixed c.args.world.now).types c.args.scope.now _ _ _ (sym (ap branch e) ∙ c.core.view_is) refl c.requires.can c.requires.acts
-    other (kind.All ps) e = nodes.no_place (g.W.Env.fixed c.args.world.now).types c.args.scope.now _ _ _ (sym (ap branch e) ∙ c.core.view_is) refl c.requires.can c.requires.acts
-    other (kind.Any ps) e = nodes.no_place (g.W.Env.fixed c.args.world.now).types c.args.scope.now _ _ _ (sym (ap branch e) ∙ c.core.view_is) refl c.requires.can c.requires.acts
+    other (kind.Const v) e = nodes.no_place (g.W.Env.fixed c.args.world.now).types c.args.scope.now _ _ _ (sym (ap core_branch e) ∙ c.core.view_is) refl c.requires.can c.requires.acts
+    other (kind.Read s) e = nodes.no_place (g.W.Env.fixed c.args.world.now).types c.args.scope.now _ _ _ (sym (ap core_branch e) ∙ c.core.view_is) refl c.requires.can c.requires.acts
+    other (kind.Row k) e = nodes.no_place (g.W.Env.fixed c.args.world.now).types c.args.scope.now _ _ _ (sym (ap core_branch e) ∙ c.core.view_is) refl c.requires.can c.requires.acts
+    other kind.Item e = nodes.no_place (g.W.Env.fixed c.args.world.now).types c.args.scope.now _ _ _ (sym (ap core_branch e) ∙ c.core.view_is) refl c.requires.can c.requires.acts
+    other kind.Caught e = nodes.no_place (g.W.Env.fixed c.args.world.now).types c.args.scope.now _ _ _ (sym (ap core_branch e) ∙ c.core.view_is) refl c.requires.can c.requires.acts
+    other (kind.Call f ps) e = nodes.no_place (g.W.Env.fixed c.args.world.now).types c.args.scope.now _ _ _ (sym (ap core_branch e) ∙ c.core.view_is) refl c.requires.can c.requires.acts
+    other (kind.Rec fs) e = nodes.no_place (g.W.Env.fixed c.args.world.now).types c.args.scope.now _ _ _ (sym (ap core_branch e) ∙ c.core.view_is) refl c.requires.can c.requires.acts
+    other (kind.All ps) e = nodes.no_place (g.W.Env.fixed c.args.world.now).types c.args.scope.now _ _ _ (sym (ap core_branch e) ∙ c.core.view_is) refl c.requires.can c.requires.acts
+    other (kind.Any ps) e = nodes.no_place (g.W.Env.fixed c.args.world.now).types c.args.scope.now _ _ _ (sym (ap core_branch e) ∙ c.core.view_is) refl c.requires.can c.requires.acts
 
 pub within-perform-requires : goal.within-perform-requires
 within-perform-requires g t c κs within = (
@@ -387,8 +387,8 @@ pub within-returns-in-Ok-clause-done : goal.within-returns-in-Ok-clause-done
 within-returns-in-Ok-clause-done g t c =
     IfOk-weaker c.in_scope.result _ _
     (λ v k. steps.within_goes (ground g.W.World.gives (g.W.Env.fixed c.args.world.now)) c.args.scope.now _ _ _ _ _ _ c.args.part.now (view c.in_ok-value.value) c.perform.ensures.passed.later c.in_scope.ensures.passed.later c.in-Ok.ensures.1 c.args.formula.now (view v) c.in_ok-value.ensures.done
-    (subst (λ z. Goes (IsLost (g.W.Env.marks c.perform.new.world) (g.W.Env.marks c.in_scope.new.world)) (λ s u. Performs (ground g.W.World.gives (g.W.Env.fixed c.args.world.now)) c.args.formula.now (inner c.args.scope.now z) (view v) s u) (g.W.World.state c.perform.new.world) (g.W.World.state c.in_scope.new.world)) c.in-Ok.ensures.0
-    (steps.back (λ f h. Goes (IsLost (g.W.Env.marks c.perform.new.world) (g.W.Env.marks c.in_scope.new.world)) (λ s u. Performs (ground g.W.World.gives f) c.args.formula.now (inner h (view c.in-Ok.row)) (view v) s u) (g.W.World.state c.perform.new.world) (g.W.World.state c.in_scope.new.world)) _ _ _ _ c.perform.ensures.passed.fixed c.perform.ensures.scope k)))
+    (subst (λ z. MayFallSilent (SilenceCause (g.W.Env.marks c.perform.new.world) (g.W.Env.marks c.in_scope.new.world)) (λ s u. Performs (ground g.W.World.gives (g.W.Env.fixed c.args.world.now)) c.args.formula.now (inner c.args.scope.now z) (view v) s u) (g.W.World.state c.perform.new.world) (g.W.World.state c.in_scope.new.world)) c.in-Ok.ensures.0
+    (steps.back (λ f h. MayFallSilent (SilenceCause (g.W.Env.marks c.perform.new.world) (g.W.Env.marks c.in_scope.new.world)) (λ s u. Performs (ground g.W.World.gives f) c.args.formula.now (inner h (view c.in-Ok.row)) (view v) s u) (g.W.World.state c.perform.new.world) (g.W.World.state c.in_scope.new.world)) _ _ _ _ c.perform.ensures.passed.fixed c.perform.ensures.scope k)))
     c.in_scope.ensures.done
 
 pub within-returns-in-Ok-clause-fits : goal.within-returns-in-Ok-clause-fits
@@ -397,7 +397,7 @@ within-returns-in-Ok-clause-fits g t c =
 
 pub within-returns-in-Err-clause-done : goal.within-returns-in-Err-clause-done
 within-returns-in-Err-clause-done g t c =
-    steps.within_fails (ground g.W.World.gives (g.W.Env.fixed c.args.world.now)) c.args.scope.now (IsLost (g.W.Env.marks c.args.world.now) (g.W.Env.marks c.perform.new.world)) (g.W.World.state c.args.world.now) (g.W.World.state c.perform.new.world) c.args.part.now (view c.in_ok-value.value) c.in-Err.fault.kind c.in-Err.fault.message c.in-Err.ensures c.args.formula.now c.in_ok-value.ensures.done
+    steps.within_fails (ground g.W.World.gives (g.W.Env.fixed c.args.world.now)) c.args.scope.now (SilenceCause (g.W.Env.marks c.args.world.now) (g.W.Env.marks c.perform.new.world)) (g.W.World.state c.args.world.now) (g.W.World.state c.perform.new.world) c.args.part.now (view c.in_ok-value.value) c.in-Err.fault.kind c.in-Err.fault.message c.in-Err.ensures c.args.formula.now c.in_ok-value.ensures.done
 
 pub perform-evaluate-requires : goal.perform-evaluate-requires
 perform-evaluate-requires g t c =
@@ -432,10 +432,10 @@ switch-returns-in-Ok-clause-passed g t c =
 pub switch-returns-in-Ok-clause-done : goal.switch-returns-in-Ok-clause-done
 switch-returns-in-Ok-clause-done g t c =
     IfOk-weaker c.matches.result _ _
-    (λ v k. subst (λ (ts : List Term). Goes (IsLost (g.W.Env.marks c.args.world.now) (g.W.Env.marks c.matches.new.world)) (λ s u. IsSwitched (performings (ground g.W.World.gives (g.W.Env.fixed c.args.world.now)) (all ts)) c.args.scope.now s (view v) u) (g.W.World.state c.args.world.now) (g.W.World.state c.matches.new.world)) (sym c.in-Some.ensures.cases.0)
+    (λ v k. subst (λ (ts : List Term). MayFallSilent (SilenceCause (g.W.Env.marks c.args.world.now) (g.W.Env.marks c.matches.new.world)) (λ s u. PerformsSwitch (performings (ground g.W.World.gives (g.W.Env.fixed c.args.world.now)) (all ts)) c.args.scope.now s (view v) u) (g.W.World.state c.args.world.now) (g.W.World.state c.matches.new.world)) (sym c.in-Some.ensures.cases.0)
     (steps.switch_goes (ground g.W.World.gives (g.W.Env.fixed c.args.world.now)) c.args.scope.now _ _ _ _ _ _ c.in-Some.part.now (view c.in_ok-value.value) c.perform.ensures.passed.later c.matches.ensures.passed.later c.in-Ok.ensures.1 c.in-Some.others.now (view v) c.in_ok-value.ensures.done
-    (subst (λ z. Goes (IsLost (g.W.Env.marks c.perform.new.world) (g.W.Env.marks c.matches.new.world)) (λ s u. IsBranched (matching z) (performings (ground g.W.World.gives (g.W.Env.fixed c.args.world.now)) (all c.in-Some.others.now)) c.args.scope.now s (view v) u) (g.W.World.state c.perform.new.world) (g.W.World.state c.matches.new.world)) c.in-Ok.ensures.0
-    (steps.back (λ f h. Goes (IsLost (g.W.Env.marks c.perform.new.world) (g.W.Env.marks c.matches.new.world)) (λ s u. IsBranched (matching (view c.in-Ok.wanted)) (performings (ground g.W.World.gives f) (all c.in-Some.others.now)) h s (view v) u) (g.W.World.state c.perform.new.world) (g.W.World.state c.matches.new.world)) _ _ _ _ c.perform.ensures.passed.fixed c.perform.ensures.scope k))))
+    (subst (λ z. MayFallSilent (SilenceCause (g.W.Env.marks c.perform.new.world) (g.W.Env.marks c.matches.new.world)) (λ s u. IsBranched (switch_decision z) (performings (ground g.W.World.gives (g.W.Env.fixed c.args.world.now)) (all c.in-Some.others.now)) c.args.scope.now s (view v) u) (g.W.World.state c.perform.new.world) (g.W.World.state c.matches.new.world)) c.in-Ok.ensures.0
+    (steps.back (λ f h. MayFallSilent (SilenceCause (g.W.Env.marks c.perform.new.world) (g.W.Env.marks c.matches.new.world)) (λ s u. IsBranched (switch_decision (view c.in-Ok.wanted)) (performings (ground g.W.World.gives f) (all c.in-Some.others.now)) h s (view v) u) (g.W.World.state c.perform.new.world) (g.W.World.state c.matches.new.world)) _ _ _ _ c.perform.ensures.passed.fixed c.perform.ensures.scope k))))
     c.matches.ensures.done
 
 pub switch-returns-in-Ok-clause-fits : goal.switch-returns-in-Ok-clause-fits
@@ -444,8 +444,8 @@ switch-returns-in-Ok-clause-fits g t c =
 
 pub switch-returns-in-Err-clause-done : goal.switch-returns-in-Err-clause-done
 switch-returns-in-Err-clause-done g t c =
-    subst (λ (ts : List Term). Goes (IsLost (g.W.Env.marks c.args.world.now) (g.W.Env.marks c.perform.new.world)) (λ s u. IsSwitched (performings (ground g.W.World.gives (g.W.Env.fixed c.args.world.now)) (all ts)) c.args.scope.now s (fault c.in-Err.fault.kind c.in-Err.fault.message) u) (g.W.World.state c.args.world.now) (g.W.World.state c.perform.new.world)) (sym c.in-Some.ensures.cases.0)
-    (steps.switch_fails (ground g.W.World.gives (g.W.Env.fixed c.args.world.now)) c.args.scope.now (IsLost (g.W.Env.marks c.args.world.now) (g.W.Env.marks c.perform.new.world)) (g.W.World.state c.args.world.now) (g.W.World.state c.perform.new.world) c.in-Some.part.now (view c.in_ok-value.value) c.in-Err.fault.kind c.in-Err.fault.message c.in-Err.ensures c.in-Some.others.now c.in_ok-value.ensures.done)
+    subst (λ (ts : List Term). MayFallSilent (SilenceCause (g.W.Env.marks c.args.world.now) (g.W.Env.marks c.perform.new.world)) (λ s u. PerformsSwitch (performings (ground g.W.World.gives (g.W.Env.fixed c.args.world.now)) (all ts)) c.args.scope.now s (fault c.in-Err.fault.kind c.in-Err.fault.message) u) (g.W.World.state c.args.world.now) (g.W.World.state c.perform.new.world)) (sym c.in-Some.ensures.cases.0)
+    (steps.switch_fails (ground g.W.World.gives (g.W.Env.fixed c.args.world.now)) c.args.scope.now (SilenceCause (g.W.Env.marks c.args.world.now) (g.W.Env.marks c.perform.new.world)) (g.W.World.state c.args.world.now) (g.W.World.state c.perform.new.world) c.in-Some.part.now (view c.in_ok-value.value) c.in-Err.fault.kind c.in-Err.fault.message c.in-Err.ensures c.in-Some.others.now c.in_ok-value.ensures.done)
 
 pub branches-perform-requires : goal.branches-perform-requires
 branches-perform-requires g t c κs within =
@@ -527,7 +527,7 @@ branches-returns-in-Error-clause-done g t c =
 
 pub branches-returns-clause-done : goal.branches-returns-clause-done
 branches-returns-clause-done g t c =
-    steps.branch_none decision_of (ground g.W.World.gives (g.W.Env.fixed c.args.world.now)) c.args.scope.now (IsLost (g.W.Env.marks c.args.world.now) (g.W.Env.marks c.loop-part.world)) (g.W.World.state c.args.world.now) (g.W.World.state c.loop-part.world) (steps.branches_of decision_of (ground g.W.World.gives (g.W.Env.fixed c.args.world.now)) c.args.scope.now c.args.parts.now) c.loop-part.rest.now (nil_from_length _ c.in_default.ensures.cases) c.loop-part.invariant.done
+    steps.branch_none decision_of (ground g.W.World.gives (g.W.Env.fixed c.args.world.now)) c.args.scope.now (SilenceCause (g.W.Env.marks c.args.world.now) (g.W.Env.marks c.loop-part.world)) (g.W.World.state c.args.world.now) (g.W.World.state c.loop-part.world) (steps.branches_of decision_of (ground g.W.World.gives (g.W.Env.fixed c.args.world.now)) c.args.scope.now c.args.parts.now) c.loop-part.rest.now (nil_from_length _ c.in_default.ensures.cases) c.loop-part.invariant.done
 
 pub matches-perform-requires : goal.matches-perform-requires
 matches-perform-requires g t c κs within =
@@ -550,7 +550,7 @@ matches-returns-in_default-split_first-clause-passed g t c =
 pub matches-returns-in_default-split_first-clause-done : goal.matches-returns-in_default-split_first-clause-done
 matches-returns-in_default-split_first-clause-done g t c =
     IfOk-weaker c.perform.result _ _
-    (λ v k. steps.branch_ends g.W.World.gives _ _ _ _ _ _ _ _ _ _ (steps.branches_of (matching (view c.args.wanted)) (ground g.W.World.gives (g.W.Env.fixed c.args.world.now)) c.args.scope.now c.args.parts.now) c.in-Some.part.now c.in-Some.others.now c.loop-part.rest.now (view v) c.loop-part.invariant.passed.fixed c.loop-part.invariant.scope c.loop-part.invariant.passed.later c.perform.ensures.passed.later c.in-Some.ensures.cases.0 (matching (view c.args.wanted)) (nil_from_length _ c.in_default-split_first.ensures.cases) c.loop-part.invariant.done k)
+    (λ v k. steps.branch_ends g.W.World.gives _ _ _ _ _ _ _ _ _ _ (steps.branches_of (switch_decision (view c.args.wanted)) (ground g.W.World.gives (g.W.Env.fixed c.args.world.now)) c.args.scope.now c.args.parts.now) c.in-Some.part.now c.in-Some.others.now c.loop-part.rest.now (view v) c.loop-part.invariant.passed.fixed c.loop-part.invariant.scope c.loop-part.invariant.passed.later c.perform.ensures.passed.later c.in-Some.ensures.cases.0 (switch_decision (view c.args.wanted)) (nil_from_length _ c.in_default-split_first.ensures.cases) c.loop-part.invariant.done k)
     c.perform.ensures.done
 
 pub matches-returns-in_default-split_first-clause-fits : goal.matches-returns-in_default-split_first-clause-fits
@@ -576,8 +576,8 @@ matches-returns-in-Met-clause-passed g t c =
 pub matches-returns-in-Met-clause-done : goal.matches-returns-in-Met-clause-done
 matches-returns-in-Met-clause-done g t c =
     IfOk-weaker c.perform-in-Met.result _ _
-    (λ v k. steps.branch_done g.W.World.gives _ _ _ _ _ _ _ _ _ _ (steps.branches_of (matching (view c.args.wanted)) (ground g.W.World.gives (g.W.Env.fixed c.args.world.now)) c.args.scope.now c.args.parts.now) c.in-Some-split_first.branch.now (view v) (c.perform-in-Some.ensures.passed.fixed ∙ c.loop-part.invariant.passed.fixed) (c.perform-in-Some.ensures.scope ∙ c.loop-part.invariant.scope) (passed_on _ _ _ c.loop-part.invariant.passed c.perform-in-Some.ensures.passed).later c.perform-in-Met.ensures.passed.later
-    (steps.branch_met g.W.World.gives _ _ _ _ _ _ _ _ _ _ (steps.branches_of (matching (view c.args.wanted)) (ground g.W.World.gives (g.W.Env.fixed c.args.world.now)) c.args.scope.now c.args.parts.now) c.in-Some.part.now c.in-Some.others.now c.loop-part.rest.now (view c.in_ok-value.value) c.loop-part.invariant.passed.fixed c.loop-part.invariant.scope c.loop-part.invariant.passed.later c.perform-in-Some.ensures.passed.later c.in-Some.ensures.cases.0 (matching (view c.args.wanted)) c.in-Some-split_first.branch.now c.in-Some-split_first.beyond.now c.in-Some-split_first.ensures.cases.0 (sym (ap (λ w. matching (view w) (view c.in_ok-value.value)) c.loop-part.invariant.wanted) ∙ sym c.decide_match.ensures ∙ c.in-Met.is) c.loop-part.invariant.done c.in_ok-value.ensures.done) k)
+    (λ v k. steps.branch_done g.W.World.gives _ _ _ _ _ _ _ _ _ _ (steps.branches_of (switch_decision (view c.args.wanted)) (ground g.W.World.gives (g.W.Env.fixed c.args.world.now)) c.args.scope.now c.args.parts.now) c.in-Some-split_first.branch.now (view v) (c.perform-in-Some.ensures.passed.fixed ∙ c.loop-part.invariant.passed.fixed) (c.perform-in-Some.ensures.scope ∙ c.loop-part.invariant.scope) (passed_on _ _ _ c.loop-part.invariant.passed c.perform-in-Some.ensures.passed).later c.perform-in-Met.ensures.passed.later
+    (steps.branch_met g.W.World.gives _ _ _ _ _ _ _ _ _ _ (steps.branches_of (switch_decision (view c.args.wanted)) (ground g.W.World.gives (g.W.Env.fixed c.args.world.now)) c.args.scope.now c.args.parts.now) c.in-Some.part.now c.in-Some.others.now c.loop-part.rest.now (view c.in_ok-value.value) c.loop-part.invariant.passed.fixed c.loop-part.invariant.scope c.loop-part.invariant.passed.later c.perform-in-Some.ensures.passed.later c.in-Some.ensures.cases.0 (switch_decision (view c.args.wanted)) c.in-Some-split_first.branch.now c.in-Some-split_first.beyond.now c.in-Some-split_first.ensures.cases.0 (sym (ap (λ w. switch_decision (view w) (view c.in_ok-value.value)) c.loop-part.invariant.wanted) ∙ sym c.decide_match.ensures ∙ c.in-Met.is) c.loop-part.invariant.done c.in_ok-value.ensures.done) k)
     c.perform-in-Met.ensures.done
 
 pub matches-returns-in-Met-clause-fits : goal.matches-returns-in-Met-clause-fits
@@ -593,11 +593,11 @@ matches-loop-part-preserved g t c =
       scope = c.perform-in-Some.ensures.scope ∙ c.loop-part.invariant.scope;
       wanted = c.loop-part.invariant.wanted;
       fits = λ u r. left.match_beyond (g.W.Env.fixed c.args.world.now).types c.args.scope.now (view c.args.wanted) u c.in-Some.part.now c.in-Some-split_first.branch.now c.in-Some.others.now c.in-Some-split_first.beyond.now c.loop-part.rest.now c.in-Some.ensures.cases.0 c.in-Some-split_first.ensures.cases.0 (c.loop-part.invariant.fits u r);
-      done = steps.branch_unmet g.W.World.gives _ _ _ _ _ _ _ _ _ _ (steps.branches_of (matching (view c.args.wanted)) (ground g.W.World.gives (g.W.Env.fixed c.args.world.now)) c.args.scope.now c.args.parts.now) c.in-Some.part.now c.in-Some.others.now c.loop-part.rest.now (view c.in_ok-value.value) c.loop-part.invariant.passed.fixed c.loop-part.invariant.scope c.loop-part.invariant.passed.later c.perform-in-Some.ensures.passed.later c.in-Some.ensures.cases.0 (matching (view c.args.wanted)) c.in-Some-split_first.branch.now c.in-Some-split_first.beyond.now c.in-Some-split_first.ensures.cases.0 (sym (ap (λ w. matching (view w) (view c.in_ok-value.value)) c.loop-part.invariant.wanted) ∙ sym c.decide_match.ensures ∙ c.in-Unmet.is) c.loop-part.invariant.done c.in_ok-value.ensures.done;
+      done = steps.branch_unmet g.W.World.gives _ _ _ _ _ _ _ _ _ _ (steps.branches_of (switch_decision (view c.args.wanted)) (ground g.W.World.gives (g.W.Env.fixed c.args.world.now)) c.args.scope.now c.args.parts.now) c.in-Some.part.now c.in-Some.others.now c.loop-part.rest.now (view c.in_ok-value.value) c.loop-part.invariant.passed.fixed c.loop-part.invariant.scope c.loop-part.invariant.passed.later c.perform-in-Some.ensures.passed.later c.in-Some.ensures.cases.0 (switch_decision (view c.args.wanted)) c.in-Some-split_first.branch.now c.in-Some-split_first.beyond.now c.in-Some-split_first.ensures.cases.0 (sym (ap (λ w. switch_decision (view w) (view c.in_ok-value.value)) c.loop-part.invariant.wanted) ∙ sym c.decide_match.ensures ∙ c.in-Unmet.is) c.loop-part.invariant.done c.in_ok-value.ensures.done;
       small = let j = steps.first_is_smaller c.loop-part.rest.now c.in-Some.part.now c.in-Some.others.now (terms_size (all c.args.parts.now)) c.in-Some.ensures.cases.0 c.loop-part.invariant.small in
           let i = steps.first_is_smaller c.in-Some.others.now c.in-Some-split_first.branch.now c.in-Some-split_first.beyond.now (terms_size (all c.in-Some.others.now)) c.in-Some-split_first.ensures.cases.0 (refl_le (terms_size (all c.in-Some.others.now))) in
           omega (arith, i, j);
-      cut = cutting.branch_unmet g.W.World.gives _ _ _ _ _ _ _ _ _ _ (cutting.branches_left (matching (view c.args.wanted)) (ground g.W.World.gives (g.W.Env.fixed c.args.world.now)) c.args.scope.now c.args.parts.now) c.in-Some.part.now c.in-Some.others.now c.loop-part.rest.now c.loop-part.invariant.passed.fixed c.loop-part.invariant.scope c.loop-part.invariant.passed.later c.perform-in-Some.ensures.passed.later c.in-Some.ensures.cases.0 (view c.in_ok-value.value) (matching (view c.args.wanted)) c.in-Some-split_first.branch.now c.in-Some-split_first.beyond.now c.in-Some-split_first.ensures.cases.0 (sym (ap (λ w. matching (view w) (view c.in_ok-value.value)) c.loop-part.invariant.wanted) ∙ sym c.decide_match.ensures ∙ c.in-Unmet.is) c.loop-part.invariant.cut c.in_ok-value.ensures.done;
+      cut = cutting.branch_unmet g.W.World.gives _ _ _ _ _ _ _ _ _ _ (cutting.branches_left (switch_decision (view c.args.wanted)) (ground g.W.World.gives (g.W.Env.fixed c.args.world.now)) c.args.scope.now c.args.parts.now) c.in-Some.part.now c.in-Some.others.now c.loop-part.rest.now c.loop-part.invariant.passed.fixed c.loop-part.invariant.scope c.loop-part.invariant.passed.later c.perform-in-Some.ensures.passed.later c.in-Some.ensures.cases.0 (view c.in_ok-value.value) (switch_decision (view c.args.wanted)) c.in-Some-split_first.branch.now c.in-Some-split_first.beyond.now c.in-Some-split_first.ensures.cases.0 (sym (ap (λ w. switch_decision (view w) (view c.in_ok-value.value)) c.loop-part.invariant.wanted) ∙ sym c.decide_match.ensures ∙ c.in-Unmet.is) c.loop-part.invariant.cut c.in_ok-value.ensures.done;
     }
 
 pub matches-returns-in-Error-clause-passed : goal.matches-returns-in-Error-clause-passed
@@ -606,11 +606,11 @@ matches-returns-in-Error-clause-passed g t c =
 
 pub matches-returns-in-Error-clause-done : goal.matches-returns-in-Error-clause-done
 matches-returns-in-Error-clause-done g t c =
-    steps.branch_fails g.W.World.gives _ _ _ _ _ _ _ _ _ _ (steps.branches_of (matching (view c.args.wanted)) (ground g.W.World.gives (g.W.Env.fixed c.args.world.now)) c.args.scope.now c.args.parts.now) c.in-Some.part.now c.in-Some.others.now c.loop-part.rest.now (view c.in_ok-value.value) c.loop-part.invariant.passed.fixed c.loop-part.invariant.scope c.loop-part.invariant.passed.later c.perform-in-Some.ensures.passed.later c.in-Some.ensures.cases.0 (matching (view c.args.wanted)) c.in-Some-split_first.branch.now c.in-Some-split_first.beyond.now c.in-Some-split_first.ensures.cases.0 c.in-Error.fault (sym (ap (λ w. matching (view w) (view c.in_ok-value.value)) c.loop-part.invariant.wanted) ∙ sym c.decide_match.ensures ∙ c.in-Error.is) c.loop-part.invariant.done c.in_ok-value.ensures.done
+    steps.branch_fails g.W.World.gives _ _ _ _ _ _ _ _ _ _ (steps.branches_of (switch_decision (view c.args.wanted)) (ground g.W.World.gives (g.W.Env.fixed c.args.world.now)) c.args.scope.now c.args.parts.now) c.in-Some.part.now c.in-Some.others.now c.loop-part.rest.now (view c.in_ok-value.value) c.loop-part.invariant.passed.fixed c.loop-part.invariant.scope c.loop-part.invariant.passed.later c.perform-in-Some.ensures.passed.later c.in-Some.ensures.cases.0 (switch_decision (view c.args.wanted)) c.in-Some-split_first.branch.now c.in-Some-split_first.beyond.now c.in-Some-split_first.ensures.cases.0 c.in-Error.fault (sym (ap (λ w. switch_decision (view w) (view c.in_ok-value.value)) c.loop-part.invariant.wanted) ∙ sym c.decide_match.ensures ∙ c.in-Error.is) c.loop-part.invariant.done c.in_ok-value.ensures.done
 
 pub matches-returns-clause-done : goal.matches-returns-clause-done
 matches-returns-clause-done g t c =
-    steps.branch_none (matching (view c.args.wanted)) (ground g.W.World.gives (g.W.Env.fixed c.args.world.now)) c.args.scope.now (IsLost (g.W.Env.marks c.args.world.now) (g.W.Env.marks c.loop-part.world)) (g.W.World.state c.args.world.now) (g.W.World.state c.loop-part.world) (steps.branches_of (matching (view c.args.wanted)) (ground g.W.World.gives (g.W.Env.fixed c.args.world.now)) c.args.scope.now c.args.parts.now) c.loop-part.rest.now (nil_from_length _ c.in_default.ensures.cases) c.loop-part.invariant.done
+    steps.branch_none (switch_decision (view c.args.wanted)) (ground g.W.World.gives (g.W.Env.fixed c.args.world.now)) c.args.scope.now (SilenceCause (g.W.Env.marks c.args.world.now) (g.W.Env.marks c.loop-part.world)) (g.W.World.state c.args.world.now) (g.W.World.state c.loop-part.world) (steps.branches_of (switch_decision (view c.args.wanted)) (ground g.W.World.gives (g.W.Env.fixed c.args.world.now)) c.args.scope.now c.args.parts.now) c.loop-part.rest.now (nil_from_length _ c.in_default.ensures.cases) c.loop-part.invariant.done
 
 pub matches-decide_match-requires : goal.matches-decide_match-requires
 matches-decide_match-requires g t c =
@@ -681,7 +681,7 @@ recover-loop-part-preserved g t c =
       only = only_next _ _ c.loop-part.invariant.passed _ (AnyMayWrite (all c.args.parts.now)) c.in-Some.part.now c.perform-in-Some.ensures.passed (first_may c.loop-part.rest.now c.in-Some.part.now c.in-Some.others.now (AnyMayWrite (all c.args.parts.now)) c.in-Some.ensures.cases.0 c.loop-part.invariant.allowed) c.loop-part.invariant.only c.perform-in-Some.ensures.only;
       scope = c.perform-in-Some.ensures.scope ∙ c.loop-part.invariant.scope;
       fits = λ u r. (left.recovery_beyond (g.W.Env.fixed c.args.world.now).types c.args.scope.now u c.in-Some.part.now c.in-Some-split_first.fallback.now c.in-Some.others.now c.in-Some-split_first.beyond.now c.loop-part.rest.now c.in-Some.ensures.cases.0 c.in-Some-split_first.ensures.cases.0 (c.loop-part.invariant.fits u r).0, subst (λ z. fits_in z u ≡ true) (sym (ap view c.keep.ensures ∙ c.in-Ok.ensures.0)) (c.in_ok-value.ensures.fits u (steps.moved (λ f h. IsActable f.types h c.in-Some.part.now u) _ _ _ _ c.loop-part.invariant.passed.fixed c.loop-part.invariant.scope (left.recovery_first (g.W.Env.fixed c.args.world.now).types c.args.scope.now u c.in-Some.part.now c.in-Some.others.now c.loop-part.rest.now c.in-Some.ensures.cases.0 (c.loop-part.invariant.fits u r).0))));
-      done = subst (λ z. Goes (IsLost (g.W.Env.marks c.args.world.now) (g.W.Env.marks c.perform-in-Some.new.world)) (Decides (steps.recovery_of (ground g.W.World.gives (g.W.Env.fixed c.args.world.now)) c.args.scope.now z c.in-Some-split_first.beyond.now) (steps.recovery_of (ground g.W.World.gives (g.W.Env.fixed c.args.world.now)) c.args.scope.now (none_left_of form.IfError) c.args.parts.now)) (g.W.World.state c.args.world.now) (g.W.World.state c.perform-in-Some.new.world)) (sym (ap view c.keep.ensures ∙ c.in-Ok.ensures.0))
+      done = subst (λ z. MayFallSilent (SilenceCause (g.W.Env.marks c.args.world.now) (g.W.Env.marks c.perform-in-Some.new.world)) (RestDecides (steps.recovery_of (ground g.W.World.gives (g.W.Env.fixed c.args.world.now)) c.args.scope.now z c.in-Some-split_first.beyond.now) (steps.recovery_of (ground g.W.World.gives (g.W.Env.fixed c.args.world.now)) c.args.scope.now (none_left_of form.IfError) c.args.parts.now)) (g.W.World.state c.args.world.now) (g.W.World.state c.perform-in-Some.new.world)) (sym (ap view c.keep.ensures ∙ c.in-Ok.ensures.0))
           (steps.recovery_goes g.W.World.gives _ _ _ _ _ _ _ _ _ _ (steps.recovery_of (ground g.W.World.gives (g.W.Env.fixed c.args.world.now)) c.args.scope.now (none_left_of form.IfError) c.args.parts.now) c.in-Some.part.now c.in-Some.others.now c.loop-part.rest.now (view c.in_ok-value.value) c.loop-part.invariant.passed.fixed c.loop-part.invariant.scope c.loop-part.invariant.passed.later c.perform-in-Some.ensures.passed.later c.in-Some.ensures.cases.0 (view c.loop-part.last) c.in-Some-split_first.fallback.now c.in-Some-split_first.beyond.now c.in-Some-split_first.ensures.cases.0 c.in-Ok.ensures.1 c.loop-part.invariant.done c.in_ok-value.ensures.done);
       small = let j = steps.first_is_smaller c.loop-part.rest.now c.in-Some.part.now c.in-Some.others.now (terms_size (all c.args.parts.now)) c.in-Some.ensures.cases.0 c.loop-part.invariant.small in
           let i = steps.first_is_smaller c.in-Some.others.now c.in-Some-split_first.fallback.now c.in-Some-split_first.beyond.now (terms_size (all c.in-Some.others.now)) c.in-Some-split_first.ensures.cases.0 (refl_le (terms_size (all c.in-Some.others.now))) in
@@ -691,7 +691,7 @@ recover-loop-part-preserved g t c =
 
 pub recover-returns-clause-done : goal.recover-returns-clause-done
 recover-returns-clause-done g t c =
-    steps.recovery_none (view c.loop-part.last) (ground g.W.World.gives (g.W.Env.fixed c.args.world.now)) c.args.scope.now (IsLost (g.W.Env.marks c.args.world.now) (g.W.Env.marks c.loop-part.world)) (g.W.World.state c.args.world.now) (g.W.World.state c.loop-part.world) (steps.recovery_of (ground g.W.World.gives (g.W.Env.fixed c.args.world.now)) c.args.scope.now (none_left_of form.IfError) c.args.parts.now) c.loop-part.rest.now (nil_from_length _ c.in_default.ensures.cases) c.loop-part.invariant.done
+    steps.recovery_none (view c.loop-part.last) (ground g.W.World.gives (g.W.Env.fixed c.args.world.now)) c.args.scope.now (SilenceCause (g.W.Env.marks c.args.world.now) (g.W.Env.marks c.loop-part.world)) (g.W.World.state c.args.world.now) (g.W.World.state c.loop-part.world) (steps.recovery_of (ground g.W.World.gives (g.W.Env.fixed c.args.world.now)) c.args.scope.now (none_left_of form.IfError) c.args.parts.now) c.loop-part.rest.now (nil_from_length _ c.in_default.ensures.cases) c.loop-part.invariant.done
 
 pub each-in_scope-requires : goal.each-in_scope-requires
 each-in_scope-requires g t c κs within = (
@@ -720,7 +720,7 @@ each-loop-row-preserved g t c =
 
 pub each-returns-clause-done : goal.each-returns-clause-done
 each-returns-clause-done g t c =
-    steps.each_ends (IsLost (g.W.Env.marks c.args.world.now) (g.W.Env.marks c.loop-row.world)) (g.W.World.state c.args.world.now) (g.W.World.state c.loop-row.world) (ground g.W.World.gives (g.W.Env.fixed c.args.world.now)) c.args.scope.now c.args.formula.now (steps.each_of (ground g.W.World.gives (g.W.Env.fixed c.args.world.now)) c.args.scope.now c.args.formula.now c.args.rows.now) (map view c.loop-row.values.items) c.loop-row.rest.now (nil_from_length _ c.in_default.ensures.cases) c.loop-row.invariant.done
+    steps.each_ends (SilenceCause (g.W.Env.marks c.args.world.now) (g.W.Env.marks c.loop-row.world)) (g.W.World.state c.args.world.now) (g.W.World.state c.loop-row.world) (ground g.W.World.gives (g.W.Env.fixed c.args.world.now)) c.args.scope.now c.args.formula.now (steps.each_of (ground g.W.World.gives (g.W.Env.fixed c.args.world.now)) c.args.scope.now c.args.formula.now c.args.rows.now) (map view c.loop-row.values.items) c.loop-row.rest.now (nil_from_length _ c.in_default.ensures.cases) c.loop-row.invariant.done
 
 pub each-returns-clause-fits : goal.each-returns-clause-fits
 each-returns-clause-fits g t c =
@@ -756,7 +756,7 @@ part_values-loop-part-preserved g t c =
 
 pub part_values-returns-clause-done : goal.part_values-returns-clause-done
 part_values-returns-clause-done g t c =
-    steps.performed_ends (IsLost (g.W.Env.marks c.args.world.now) (g.W.Env.marks c.loop-part.world)) (g.W.World.state c.args.world.now) (g.W.World.state c.loop-part.world) (ground g.W.World.gives (g.W.Env.fixed c.args.world.now)) c.args.scope.now (steps.parts_of (ground g.W.World.gives (g.W.Env.fixed c.args.world.now)) c.args.scope.now c.args.parts.now) (map view c.loop-part.values.items) c.loop-part.rest.now (nil_from_length _ c.in_default.ensures.cases) c.loop-part.invariant.done
+    steps.performed_ends (SilenceCause (g.W.Env.marks c.args.world.now) (g.W.Env.marks c.loop-part.world)) (g.W.World.state c.args.world.now) (g.W.World.state c.loop-part.world) (ground g.W.World.gives (g.W.Env.fixed c.args.world.now)) c.args.scope.now (steps.parts_of (ground g.W.World.gives (g.W.Env.fixed c.args.world.now)) c.args.scope.now c.args.parts.now) (map view c.loop-part.values.items) c.loop-part.rest.now (nil_from_length _ c.in_default.ensures.cases) c.loop-part.invariant.done
 
 pub part_values-returns-clause-fits : goal.part_values-returns-clause-fits
 part_values-returns-clause-fits g t c =
@@ -767,7 +767,7 @@ part_values-loop-part-init g t c =
     record {
       passed = passed_nowhere _;
       allowed = λ x m. m;
-      only = only_nowhere (AnyMayWrite (all c.args.parts.now)) (IsLost (g.W.Env.marks c.args.world.now) (g.W.Env.marks c.args.world.now)) (g.W.World.state c.args.world.now);
+      only = only_nowhere (AnyMayWrite (all c.args.parts.now)) (SilenceCause (g.W.Env.marks c.args.world.now) (g.W.Env.marks c.args.world.now)) (g.W.World.state c.args.world.now);
       scope = refl;
       fits = λ us r. ([], us, refl, subst (λ z. AreFit (map view z) []) (sym c.new-values.ensures.items) tt, r);
       done = steps.performed_begins _ _ (ground g.W.World.gives (g.W.Env.fixed c.args.world.now)) c.args.scope.now c.args.parts.now _ (ap (map view) c.new-values.ensures.items);
@@ -777,9 +777,9 @@ part_values-loop-part-init g t c =
 
 pub for_all-returns-in_ok-for_all-in-Ok-clause-done : goal.for_all-returns-in_ok-for_all-in-Ok-clause-done
 for_all-returns-in_ok-for_all-in-Ok-clause-done g t c =
-    subst (λ (ts : List Term). Goes (IsLost (g.W.Env.marks c.args.world.now) (g.W.Env.marks c.each.new.world)) (λ s u. IsForAll (performing (ground g.W.World.gives (g.W.Env.fixed c.args.world.now)) c.args.table.now ∷ performings (ground g.W.World.gives (g.W.Env.fixed c.args.world.now)) (all ts)) c.args.scope.now s (view c.in_ok-for_all-in-Ok.field-0) u) (g.W.World.state c.args.world.now) (g.W.World.state c.each.new.world)) (sym (formula_is (g.W.Env.fixed c.args.world.now).types c.args.scope.now c.args.table.now c.args.parts.now c.requires.0 c.requires.1 c.in-Some.formula.now _ c.in-Some.ensures.cases.0))
+    subst (λ (ts : List Term). MayFallSilent (SilenceCause (g.W.Env.marks c.args.world.now) (g.W.Env.marks c.each.new.world)) (λ s u. IsForAll (performing (ground g.W.World.gives (g.W.Env.fixed c.args.world.now)) c.args.table.now ∷ performings (ground g.W.World.gives (g.W.Env.fixed c.args.world.now)) (all ts)) c.args.scope.now s (view c.in_ok-for_all-in-Ok.field-0) u) (g.W.World.state c.args.world.now) (g.W.World.state c.each.new.world)) (sym (formula_is (g.W.Env.fixed c.args.world.now).types c.args.scope.now c.args.table.now c.args.parts.now c.requires.0 c.requires.1 c.in-Some.formula.now _ c.in-Some.ensures.cases.0))
     (steps.for_all_goes (ground g.W.World.gives (g.W.Env.fixed c.args.world.now)) c.args.scope.now _ _ _ _ _ _ c.args.table.now (view c.in_ok-value.value) c.perform.ensures.passed.later c.each.ensures.passed.later (is_no_error _ c.in-Ok.ensures.1) c.in-Some.formula.now c.in-Ok.rows c.as_slice.result.now (map view c.in_ok-values-in-Ok.values.items) (view c.in_ok-for_all-in-Ok.field-0) c.in-Ok.ensures.0 c.as_slice.ensures c.in_ok-for_all-in-Ok.ensures.value c.in_ok-value.ensures.done
-    (steps.back (λ f h. Goes (IsLost (g.W.Env.marks c.perform.new.world) (g.W.Env.marks c.each.new.world)) (λ s u. AreEach (performing (ground g.W.World.gives f) c.in-Some.formula.now) h c.as_slice.result.now s (map view c.in_ok-values-in-Ok.values.items) u) (g.W.World.state c.perform.new.world) (g.W.World.state c.each.new.world)) _ _ _ _ c.perform.ensures.passed.fixed c.perform.ensures.scope c.in_ok-values-in-Ok.ensures.done))
+    (steps.back (λ f h. MayFallSilent (SilenceCause (g.W.Env.marks c.perform.new.world) (g.W.Env.marks c.each.new.world)) (λ s u. PerformsEach (performing (ground g.W.World.gives f) c.in-Some.formula.now) h c.as_slice.result.now s (map view c.in_ok-values-in-Ok.values.items) u) (g.W.World.state c.perform.new.world) (g.W.World.state c.each.new.world)) _ _ _ _ c.perform.ensures.passed.fixed c.perform.ensures.scope c.in_ok-values-in-Ok.ensures.done))
 
 pub for_all-returns-in_ok-for_all-in-Ok-clause-fits : goal.for_all-returns-in_ok-for_all-in-Ok-clause-fits
 for_all-returns-in_ok-for_all-in-Ok-clause-fits g t c =
@@ -816,11 +816,11 @@ update_if-returns-in_ok-changes-in-Ok-clause-passed g t c =
 pub update_if-returns-in_ok-changes-in-Ok-clause-done : goal.update_if-returns-in_ok-changes-in-Ok-clause-done
 update_if-returns-in_ok-changes-in-Ok-clause-done g t c =
     IfOk-weaker c.update.result _ _
-    (λ v k. subst (λ (ts : List Term). Goes (IsLost (g.W.Env.marks c.args.world.now) (g.W.Env.marks c.update.new.world)) (λ s u. IsUpdateIf (ground g.W.World.gives (g.W.Env.fixed c.args.world.now)) c.args.target (performings (ground g.W.World.gives (g.W.Env.fixed c.args.world.now)) (all ts)) c.args.scope.now s (view v) u) (g.W.World.state c.args.world.now) (g.W.World.state c.update.new.world)) (sym c.filter_and_change.ensures)
+    (λ v k. subst (λ (ts : List Term). MayFallSilent (SilenceCause (g.W.Env.marks c.args.world.now) (g.W.Env.marks c.update.new.world)) (λ s u. IsUpdateIf (ground g.W.World.gives (g.W.Env.fixed c.args.world.now)) c.args.target (performings (ground g.W.World.gives (g.W.Env.fixed c.args.world.now)) (all ts)) c.args.scope.now s (view v) u) (g.W.World.state c.args.world.now) (g.W.World.state c.update.new.world)) (sym c.filter_and_change.ensures)
     (acted.update_goes (ground g.W.World.gives (g.W.Env.fixed c.args.world.now)) c.args.scope.now _ _ _ _ _ _ _ _ c.args.target c.filter_and_change.result.0.now c.filter_and_change.result.1.now (view c.in_ok-value.value) c.in-Ok.rows c.as_slice-kept.result.now (map view c.in_ok-changes-in-Ok.changes.items) (view v) c.perform.ensures.passed.later c.each.ensures.passed.later c.update.ensures.passed.later
     (is_no_error _ c.in-Ok.ensures.1) c.in-Ok.ensures.0 c.as_slice-kept.ensures c.in_ok-value.ensures.done
-    (steps.back (λ f h. Goes (IsLost (g.W.Env.marks c.perform.new.world) (g.W.Env.marks c.each.new.world)) (λ s u. AreEach (performing (ground g.W.World.gives f) c.filter_and_change.result.1.now) h c.as_slice-kept.result.now s (map view c.in_ok-changes-in-Ok.changes.items) u) (g.W.World.state c.perform.new.world) (g.W.World.state c.each.new.world)) _ _ _ _ c.perform.ensures.passed.fixed c.perform.ensures.scope c.in_ok-changes-in-Ok.ensures.done)
-    (subst (λ (f : Fixed). Goes (IsLost (g.W.Env.marks c.each.new.world) (g.W.Env.marks c.update.new.world)) (λ s u. IsUpdate (frame_of f) c.args.target c.as_slice-kept.result.now (map view c.in_ok-changes-in-Ok.changes.items) s (view v) u) (g.W.World.state c.each.new.world) (g.W.World.state c.update.new.world)) (c.each.ensures.passed.fixed ∙ c.perform.ensures.passed.fixed) (subst (λ vs. Goes (IsLost (g.W.Env.marks c.each.new.world) (g.W.Env.marks c.update.new.world)) (λ s u. IsUpdate (frame_of (g.W.Env.fixed c.each.new.world)) c.args.target c.as_slice-kept.result.now (map view vs) s (view v) u) (g.W.World.state c.each.new.world) (g.W.World.state c.update.new.world)) c.as_slice.ensures.value k))))
+    (steps.back (λ f h. MayFallSilent (SilenceCause (g.W.Env.marks c.perform.new.world) (g.W.Env.marks c.each.new.world)) (λ s u. PerformsEach (performing (ground g.W.World.gives f) c.filter_and_change.result.1.now) h c.as_slice-kept.result.now s (map view c.in_ok-changes-in-Ok.changes.items) u) (g.W.World.state c.perform.new.world) (g.W.World.state c.each.new.world)) _ _ _ _ c.perform.ensures.passed.fixed c.perform.ensures.scope c.in_ok-changes-in-Ok.ensures.done)
+    (subst (λ (f : Fixed). MayFallSilent (SilenceCause (g.W.Env.marks c.each.new.world) (g.W.Env.marks c.update.new.world)) (λ s u. IsUpdate (eval_frame f) c.args.target c.as_slice-kept.result.now (map view c.in_ok-changes-in-Ok.changes.items) s (view v) u) (g.W.World.state c.each.new.world) (g.W.World.state c.update.new.world)) (c.each.ensures.passed.fixed ∙ c.perform.ensures.passed.fixed) (subst (λ vs. MayFallSilent (SilenceCause (g.W.Env.marks c.each.new.world) (g.W.Env.marks c.update.new.world)) (λ s u. IsUpdate (eval_frame (g.W.Env.fixed c.each.new.world)) c.args.target c.as_slice-kept.result.now (map view vs) s (view v) u) (g.W.World.state c.each.new.world) (g.W.World.state c.update.new.world)) c.as_slice.ensures.value k))))
     c.update.ensures.done
 
 pub act_deed-returns-in_ok-values-in_default : goal.act_deed-returns-in_ok-values-in_default
@@ -832,12 +832,12 @@ act_deed-returns-in_ok-values-in_default g t c =
       keeper = λ e. rose_before _ _ _ c.part_values.ensures.passed.later.faults (c.do_deed.ensures.keeper e);
       done = IfOk-weaker c.do_deed.result _ _
           (λ v k. acted.deed_goes (ground g.W.World.gives (g.W.Env.fixed c.args.world.now)) c.args.scope.now _ _ _ _ _ _ c.args.deed.now (acted.not_updating c.args.deed.now c.in_default.not-UpdateIf) c.args.parts.now (map view c.in_ok-values-in_default.values.items) (view v) c.part_values.ensures.passed.later c.do_deed.ensures.passed.later c.in_ok-values-in_default.ensures.done
-          (subst (λ (f : Fixed). Goes (IsLost (g.W.Env.marks c.part_values.new.world) (g.W.Env.marks c.do_deed.new.world)) (λ s u. IsDeed (frame_of f) c.args.deed.now (map view c.in_ok-values-in_default.values.items) s (view v) u) (g.W.World.state c.part_values.new.world) (g.W.World.state c.do_deed.new.world)) c.part_values.ensures.passed.fixed k))
+          (subst (λ (f : Fixed). MayFallSilent (SilenceCause (g.W.Env.marks c.part_values.new.world) (g.W.Env.marks c.do_deed.new.world)) (λ s u. IsDeed (eval_frame f) c.args.deed.now (map view c.in_ok-values-in_default.values.items) s (view v) u) (g.W.World.state c.part_values.new.world) (g.W.World.state c.do_deed.new.world)) c.part_values.ensures.passed.fixed k))
           c.do_deed.ensures.done;
       fits = λ u r. c.do_deed.ensures.fits u (subst (λ (f : Fixed). AnswersAs f.types c.args.deed.now u) (sym c.part_values.ensures.passed.fixed) (acted.deed_answers (g.W.Env.fixed c.args.world.now).types c.args.scope.now c.args.deed.now c.args.parts.now u (acted.not_updating c.args.deed.now c.in_default.not-UpdateIf) r));
       cut = on_err_weaker c.do_deed.result
           (λ k. cutting.deed_then (ground g.W.World.gives (g.W.Env.fixed c.args.world.now)) c.args.scope.now _ _ _ _ _ _ c.args.deed.now (acted.not_updating c.args.deed.now c.in_default.not-UpdateIf) c.args.parts.now (map view c.in_ok-values-in_default.values.items) c.part_values.ensures.passed.later c.do_deed.ensures.passed.later c.in_ok-values-in_default.ensures.done
-          (subst (λ (f : Fixed). Goes (IsLost (g.W.Env.marks c.part_values.new.world) (g.W.Env.marks c.do_deed.new.world)) (CutDeed (frame_of f) c.args.deed.now (map view c.in_ok-values-in_default.values.items)) (g.W.World.state c.part_values.new.world) (g.W.World.state c.do_deed.new.world)) c.part_values.ensures.passed.fixed k))
+          (subst (λ (f : Fixed). MayFallSilent (SilenceCause (g.W.Env.marks c.part_values.new.world) (g.W.Env.marks c.do_deed.new.world)) (CutDeed (eval_frame f) c.args.deed.now (map view c.in_ok-values-in_default.values.items)) (g.W.World.state c.part_values.new.world) (g.W.World.state c.do_deed.new.world)) c.part_values.ensures.passed.fixed k))
           c.do_deed.ensures.cut;
     }
 
@@ -920,7 +920,7 @@ branches-loop-part-init g t c =
     record {
       passed = passed_nowhere _;
       allowed = λ x m. m;
-      only = only_nowhere (AnyMayWrite (all c.args.parts.now)) (IsLost (g.W.Env.marks c.args.world.now) (g.W.Env.marks c.args.world.now)) (g.W.World.state c.args.world.now);
+      only = only_nowhere (AnyMayWrite (all c.args.parts.now)) (SilenceCause (g.W.Env.marks c.args.world.now) (g.W.Env.marks c.args.world.now)) (g.W.World.state c.args.world.now);
       scope = refl;
       fits = λ u r. r;
       done = begins _ _ (steps.branches_of decision_of (ground g.W.World.gives (g.W.Env.fixed c.args.world.now)) c.args.scope.now c.args.parts.now);
@@ -933,13 +933,13 @@ matches-loop-part-init g t c =
     record {
       passed = passed_nowhere _;
       allowed = λ x m. m;
-      only = only_nowhere (AnyMayWrite (all c.args.parts.now)) (IsLost (g.W.Env.marks c.args.world.now) (g.W.Env.marks c.args.world.now)) (g.W.World.state c.args.world.now);
+      only = only_nowhere (AnyMayWrite (all c.args.parts.now)) (SilenceCause (g.W.Env.marks c.args.world.now) (g.W.Env.marks c.args.world.now)) (g.W.World.state c.args.world.now);
       scope = refl;
       wanted = refl;
       fits = λ u r. r;
-      done = begins _ _ (steps.branches_of (matching (view c.args.wanted)) (ground g.W.World.gives (g.W.Env.fixed c.args.world.now)) c.args.scope.now c.args.parts.now);
+      done = begins _ _ (steps.branches_of (switch_decision (view c.args.wanted)) (ground g.W.World.gives (g.W.Env.fixed c.args.world.now)) c.args.scope.now c.args.parts.now);
       small = refl_le (terms_size (all c.args.parts.now));
-      cut = cutting.cut_begins _ _ (cutting.branches_left (matching (view c.args.wanted)) (ground g.W.World.gives (g.W.Env.fixed c.args.world.now)) c.args.scope.now c.args.parts.now);
+      cut = cutting.cut_begins _ _ (cutting.branches_left (switch_decision (view c.args.wanted)) (ground g.W.World.gives (g.W.Env.fixed c.args.world.now)) c.args.scope.now c.args.parts.now);
     }
 
 pub recover-loop-part-init : goal.recover-loop-part-init
@@ -947,7 +947,7 @@ recover-loop-part-init g t c =
     record {
       passed = passed_nowhere _;
       allowed = λ x m. m;
-      only = only_nowhere (AnyMayWrite (all c.args.parts.now)) (IsLost (g.W.Env.marks c.args.world.now) (g.W.Env.marks c.args.world.now)) (g.W.World.state c.args.world.now);
+      only = only_nowhere (AnyMayWrite (all c.args.parts.now)) (SilenceCause (g.W.Env.marks c.args.world.now) (g.W.Env.marks c.args.world.now)) (g.W.World.state c.args.world.now);
       scope = refl;
       fits = λ u r. (r, refl);
       done = begins _ _ (steps.recovery_of (ground g.W.World.gives (g.W.Env.fixed c.args.world.now)) c.args.scope.now (none_left_of form.IfError) c.args.parts.now);
@@ -957,67 +957,67 @@ recover-loop-part-init g t c =
 
 pub node-returns-in-Chain-clause-only : goal.node-returns-in-Chain-clause-only
 node-returns-in-Chain-clause-only g t c =
-    only_parts _ _ c.chain.ensures.passed top.chain (all c.as_slice.result.now) c.args.core.now (heads.parts_are top.chain _ c.as_slice.result.now c.args.core.now (sym (ap branch c.in-Chain.is) ∙ c.core.view_is) c.as_slice.ensures) c.chain.ensures.only
+    only_parts _ _ c.chain.ensures.passed top.chain (all c.as_slice.result.now) c.args.core.now (heads.parts_are top.chain _ c.as_slice.result.now c.args.core.now (sym (ap core_branch c.in-Chain.is) ∙ c.core.view_is) c.as_slice.ensures) c.chain.ensures.only
 
 pub node-returns-in-If-clause-only : goal.node-returns-in-If-clause-only
 node-returns-in-If-clause-only g t c =
-    only_parts _ _ c.branches.ensures.passed (top.form form.If) (all c.as_slice-in-If.result.now) c.args.core.now (heads.parts_are (top.form form.If) _ c.as_slice-in-If.result.now c.args.core.now (sym (ap branch c.in-If.is) ∙ c.core.view_is) c.as_slice-in-If.ensures) c.branches.ensures.only
+    only_parts _ _ c.branches.ensures.passed (top.form form.If) (all c.as_slice-in-If.result.now) c.args.core.now (heads.parts_are (top.form form.If) _ c.as_slice-in-If.result.now c.args.core.now (sym (ap core_branch c.in-If.is) ∙ c.core.view_is) c.as_slice-in-If.ensures) c.branches.ensures.only
 
 pub node-returns-in-Switch-clause-only : goal.node-returns-in-Switch-clause-only
 node-returns-in-Switch-clause-only g t c =
-    only_parts _ _ c.switch.ensures.passed (top.form form.Switch) (all c.as_slice-in-Switch.result.now) c.args.core.now (heads.parts_are (top.form form.Switch) _ c.as_slice-in-Switch.result.now c.args.core.now (sym (ap branch c.in-Switch.is) ∙ c.core.view_is) c.as_slice-in-Switch.ensures) c.switch.ensures.only
+    only_parts _ _ c.switch.ensures.passed (top.form form.Switch) (all c.as_slice-in-Switch.result.now) c.args.core.now (heads.parts_are (top.form form.Switch) _ c.as_slice-in-Switch.result.now c.args.core.now (sym (ap core_branch c.in-Switch.is) ∙ c.core.view_is) c.as_slice-in-Switch.ensures) c.switch.ensures.only
 
 pub node-returns-in-IfError-clause-only : goal.node-returns-in-IfError-clause-only
 node-returns-in-IfError-clause-only g t c =
-    only_parts _ _ c.recover.ensures.passed (top.form form.IfError) (all c.as_slice-in-IfError.result.now) c.args.core.now (heads.parts_are (top.form form.IfError) _ c.as_slice-in-IfError.result.now c.args.core.now (sym (ap branch c.in-IfError.is) ∙ c.core.view_is) c.as_slice-in-IfError.ensures) c.recover.ensures.only
+    only_parts _ _ c.recover.ensures.passed (top.form form.IfError) (all c.as_slice-in-IfError.result.now) c.args.core.now (heads.parts_are (top.form form.IfError) _ c.as_slice-in-IfError.result.now c.args.core.now (sym (ap core_branch c.in-IfError.is) ∙ c.core.view_is) c.as_slice-in-IfError.ensures) c.recover.ensures.only
 
 pub node-returns-in-Act-clause-only : goal.node-returns-in-Act-clause-only
 node-returns-in-Act-clause-only g t c =
-    only_same _ _ c.act_deed.ensures.passed (of (top.act c.in-Act.deed) (all c.as_slice-in-Act.result.now)) c.args.core.now (heads.parts_are (top.act c.in-Act.deed) _ c.as_slice-in-Act.result.now c.args.core.now (sym (ap branch c.in-Act.is) ∙ c.core.view_is) c.as_slice-in-Act.ensures) c.act_deed.ensures.only
+    only_same _ _ c.act_deed.ensures.passed (of (top.act c.in-Act.deed) (all c.as_slice-in-Act.result.now)) c.args.core.now (heads.parts_are (top.act c.in-Act.deed) _ c.as_slice-in-Act.result.now c.args.core.now (sym (ap core_branch c.in-Act.is) ∙ c.core.view_is) c.as_slice-in-Act.ensures) c.act_deed.ensures.only
 
 pub node-returns-in-With-clause-only : goal.node-returns-in-With-clause-only
 node-returns-in-With-clause-only g t c =
-    only_parts _ _ c.within.ensures.passed top.within (cons c.deref.result.now (cons c.deref-in-With.result.now nil)) c.args.core.now (nodes.two_are top.within _ _ _ _ _ (sym (ap branch c.in-With.is) ∙ c.core.view_is) c.deref.ensures c.deref-in-With.ensures) c.within.ensures.only
+    only_parts _ _ c.within.ensures.passed top.within (cons c.deref.result.now (cons c.deref-in-With.result.now nil)) c.args.core.now (nodes.two_are top.within _ _ _ _ _ (sym (ap core_branch c.in-With.is) ∙ c.core.view_is) c.deref.ensures c.deref-in-With.ensures) c.within.ensures.only
 
 pub node-returns-in-Over-clause-only : goal.node-returns-in-Over-clause-only
 node-returns-in-Over-clause-only g t c =
-    only_parts _ _ c.for_all.ensures.passed (top.over fun.ForAll) (cons c.deref-in-Over.result.now (all c.as_slice-in-Over.result.now)) c.args.core.now (nodes.over_is (g.W.Env.fixed c.args.world.now).types c.args.scope.now _ _ c.deref-in-Over.result.now _ c.as_slice-in-Over.result.now _ (sym (ap branch c.in-Over.is) ∙ c.core.view_is) c.deref-in-Over.ensures c.as_slice-in-Over.ensures c.requires.can c.requires.acts) c.for_all.ensures.only
+    only_parts _ _ c.for_all.ensures.passed (top.over fun.ForAll) (cons c.deref-in-Over.result.now (all c.as_slice-in-Over.result.now)) c.args.core.now (nodes.over_is (g.W.Env.fixed c.args.world.now).types c.args.scope.now _ _ c.deref-in-Over.result.now _ c.as_slice-in-Over.result.now _ (sym (ap core_branch c.in-Over.is) ∙ c.core.view_is) c.deref-in-Over.ensures c.as_slice-in-Over.ensures c.requires.can c.requires.acts) c.for_all.ensures.only
 
 pub node-returns-in_err-value-in-Dot-clause-only : goal.node-returns-in_err-value-in-Dot-clause-only
 node-returns-in_err-value-in-Dot-clause-only g t c =
-    only_one _ _ c.perform.ensures.passed _ _ c.deref-in-Dot.result.now c.args.core.now (sym (ap branch c.in-Dot.is) ∙ c.core.view_is) c.deref-in-Dot.ensures c.perform.ensures.only
+    only_one _ _ c.perform.ensures.passed _ _ c.deref-in-Dot.result.now c.args.core.now (sym (ap core_branch c.in-Dot.is) ∙ c.core.view_is) c.deref-in-Dot.ensures c.perform.ensures.only
 
 pub node-returns-in_ok-field_of-in-Dot-clause-only : goal.node-returns-in_ok-field_of-in-Dot-clause-only
 node-returns-in_ok-field_of-in-Dot-clause-only g t c =
-    only_one _ _ c.perform.ensures.passed _ _ c.deref-in-Dot.result.now c.args.core.now (sym (ap branch c.in-Dot.is) ∙ c.core.view_is) c.deref-in-Dot.ensures c.perform.ensures.only
+    only_one _ _ c.perform.ensures.passed _ _ c.deref-in-Dot.result.now c.args.core.now (sym (ap core_branch c.in-Dot.is) ∙ c.core.view_is) c.deref-in-Dot.ensures c.perform.ensures.only
 
 pub node-returns-in_err-field_of-in-Dot-clause-only : goal.node-returns-in_err-field_of-in-Dot-clause-only
 node-returns-in_err-field_of-in-Dot-clause-only g t c =
-    only_one _ _ c.perform.ensures.passed _ _ c.deref-in-Dot.result.now c.args.core.now (sym (ap branch c.in-Dot.is) ∙ c.core.view_is) c.deref-in-Dot.ensures c.perform.ensures.only
+    only_one _ _ c.perform.ensures.passed _ _ c.deref-in-Dot.result.now c.args.core.now (sym (ap core_branch c.in-Dot.is) ∙ c.core.view_is) c.deref-in-Dot.ensures c.perform.ensures.only
 
 pub node-returns-in_err-value-in-Coerce-clause-only : goal.node-returns-in_err-value-in-Coerce-clause-only
 node-returns-in_err-value-in-Coerce-clause-only g t c =
-    only_one _ _ c.perform-in-Coerce.ensures.passed _ _ c.deref-in-Coerce.result.now c.args.core.now (sym (ap branch c.in-Coerce.is) ∙ c.core.view_is) c.deref-in-Coerce.ensures c.perform-in-Coerce.ensures.only
+    only_one _ _ c.perform-in-Coerce.ensures.passed _ _ c.deref-in-Coerce.result.now c.args.core.now (sym (ap core_branch c.in-Coerce.is) ∙ c.core.view_is) c.deref-in-Coerce.ensures c.perform-in-Coerce.ensures.only
 
 pub node-returns-in_ok-coerce-in-Coerce-clause-only : goal.node-returns-in_ok-coerce-in-Coerce-clause-only
 node-returns-in_ok-coerce-in-Coerce-clause-only g t c =
-    only_one _ _ c.perform-in-Coerce.ensures.passed _ _ c.deref-in-Coerce.result.now c.args.core.now (sym (ap branch c.in-Coerce.is) ∙ c.core.view_is) c.deref-in-Coerce.ensures c.perform-in-Coerce.ensures.only
+    only_one _ _ c.perform-in-Coerce.ensures.passed _ _ c.deref-in-Coerce.result.now c.args.core.now (sym (ap core_branch c.in-Coerce.is) ∙ c.core.view_is) c.deref-in-Coerce.ensures c.perform-in-Coerce.ensures.only
 
 pub node-returns-in_err-coerce-in-Coerce-clause-only : goal.node-returns-in_err-coerce-in-Coerce-clause-only
 node-returns-in_err-coerce-in-Coerce-clause-only g t c =
-    only_one _ _ c.perform-in-Coerce.ensures.passed _ _ c.deref-in-Coerce.result.now c.args.core.now (sym (ap branch c.in-Coerce.is) ∙ c.core.view_is) c.deref-in-Coerce.ensures c.perform-in-Coerce.ensures.only
+    only_one _ _ c.perform-in-Coerce.ensures.passed _ _ c.deref-in-Coerce.result.now c.args.core.now (sym (ap core_branch c.in-Coerce.is) ∙ c.core.view_is) c.deref-in-Coerce.ensures c.perform-in-Coerce.ensures.only
 
 pub node-returns-in_err-values-in-List-clause-only : goal.node-returns-in_err-values-in-List-clause-only
 node-returns-in_err-values-in-List-clause-only g t c =
-    only_parts _ _ c.part_values.ensures.passed _ (all c.as_slice-in-List.result.now) c.args.core.now (heads.parts_are _ _ c.as_slice-in-List.result.now c.args.core.now (sym (ap branch c.in-List.is) ∙ c.core.view_is) c.as_slice-in-List.ensures) c.part_values.ensures.only
+    only_parts _ _ c.part_values.ensures.passed _ (all c.as_slice-in-List.result.now) c.args.core.now (heads.parts_are _ _ c.as_slice-in-List.result.now c.args.core.now (sym (ap core_branch c.in-List.is) ∙ c.core.view_is) c.as_slice-in-List.ensures) c.part_values.ensures.only
 
 pub node-returns-in_ok-list-in-List-clause-only : goal.node-returns-in_ok-list-in-List-clause-only
 node-returns-in_ok-list-in-List-clause-only g t c =
-    only_parts _ _ c.part_values.ensures.passed _ (all c.as_slice-in-List.result.now) c.args.core.now (heads.parts_are _ _ c.as_slice-in-List.result.now c.args.core.now (sym (ap branch c.in-List.is) ∙ c.core.view_is) c.as_slice-in-List.ensures) c.part_values.ensures.only
+    only_parts _ _ c.part_values.ensures.passed _ (all c.as_slice-in-List.result.now) c.args.core.now (heads.parts_are _ _ c.as_slice-in-List.result.now c.args.core.now (sym (ap core_branch c.in-List.is) ∙ c.core.view_is) c.as_slice-in-List.ensures) c.part_values.ensures.only
 
 pub node-returns-in_err-list-in-List-clause-only : goal.node-returns-in_err-list-in-List-clause-only
 node-returns-in_err-list-in-List-clause-only g t c =
-    only_parts _ _ c.part_values.ensures.passed _ (all c.as_slice-in-List.result.now) c.args.core.now (heads.parts_are _ _ c.as_slice-in-List.result.now c.args.core.now (sym (ap branch c.in-List.is) ∙ c.core.view_is) c.as_slice-in-List.ensures) c.part_values.ensures.only
+    only_parts _ _ c.part_values.ensures.passed _ (all c.as_slice-in-List.result.now) c.args.core.now (heads.parts_are _ _ c.as_slice-in-List.result.now c.args.core.now (sym (ap core_branch c.in-List.is) ∙ c.core.view_is) c.as_slice-in-List.ensures) c.part_values.ensures.only
 
 pub perform-returns-else-acts-clause-only : goal.perform-returns-else-acts-clause-only
 perform-returns-else-acts-clause-only g t c =
@@ -1131,19 +1131,19 @@ branches-returns-in-Met-clause-cut g t c =
 pub matches-returns-in_default-split_first-clause-cut : goal.matches-returns-in_default-split_first-clause-cut
 matches-returns-in_default-split_first-clause-cut g t c =
     on_err_weaker c.perform.result
-    (λ k. cutting.branches_cut g.W.World.gives _ _ _ _ _ _ _ _ _ _ (cutting.branches_left (matching (view c.args.wanted)) (ground g.W.World.gives (g.W.Env.fixed c.args.world.now)) c.args.scope.now c.args.parts.now) c.in-Some.part.now c.in-Some.others.now c.loop-part.rest.now c.loop-part.invariant.passed.fixed c.loop-part.invariant.scope c.loop-part.invariant.passed.later c.perform.ensures.passed.later c.in-Some.ensures.cases.0 (matching (view c.args.wanted)) c.loop-part.invariant.cut k)
+    (λ k. cutting.branches_cut g.W.World.gives _ _ _ _ _ _ _ _ _ _ (cutting.branches_left (switch_decision (view c.args.wanted)) (ground g.W.World.gives (g.W.Env.fixed c.args.world.now)) c.args.scope.now c.args.parts.now) c.in-Some.part.now c.in-Some.others.now c.loop-part.rest.now c.loop-part.invariant.passed.fixed c.loop-part.invariant.scope c.loop-part.invariant.passed.later c.perform.ensures.passed.later c.in-Some.ensures.cases.0 (switch_decision (view c.args.wanted)) c.loop-part.invariant.cut k)
     c.perform.ensures.cut
 
 pub matches-returns-in_err-value-clause-cut : goal.matches-returns-in_err-value-clause-cut
 matches-returns-in_err-value-clause-cut g t c =
     cutting.on_any c.from_residual.result
-    (cutting.branches_cut g.W.World.gives _ _ _ _ _ _ _ _ _ _ (cutting.branches_left (matching (view c.args.wanted)) (ground g.W.World.gives (g.W.Env.fixed c.args.world.now)) c.args.scope.now c.args.parts.now) c.in-Some.part.now c.in-Some.others.now c.loop-part.rest.now c.loop-part.invariant.passed.fixed c.loop-part.invariant.scope c.loop-part.invariant.passed.later c.perform-in-Some.ensures.passed.later c.in-Some.ensures.cases.0 (matching (view c.args.wanted)) c.loop-part.invariant.cut c.in_err-value.ensures.cut)
+    (cutting.branches_cut g.W.World.gives _ _ _ _ _ _ _ _ _ _ (cutting.branches_left (switch_decision (view c.args.wanted)) (ground g.W.World.gives (g.W.Env.fixed c.args.world.now)) c.args.scope.now c.args.parts.now) c.in-Some.part.now c.in-Some.others.now c.loop-part.rest.now c.loop-part.invariant.passed.fixed c.loop-part.invariant.scope c.loop-part.invariant.passed.later c.perform-in-Some.ensures.passed.later c.in-Some.ensures.cases.0 (switch_decision (view c.args.wanted)) c.loop-part.invariant.cut c.in_err-value.ensures.cut)
 
 pub matches-returns-in-Met-clause-cut : goal.matches-returns-in-Met-clause-cut
 matches-returns-in-Met-clause-cut g t c =
     on_err_weaker c.perform-in-Met.result
-    (λ k. cutting.branch_cut g.W.World.gives _ _ _ _ _ _ _ _ _ _ (cutting.branches_left (matching (view c.args.wanted)) (ground g.W.World.gives (g.W.Env.fixed c.args.world.now)) c.args.scope.now c.args.parts.now) c.in-Some-split_first.branch.now (c.perform-in-Some.ensures.passed.fixed ∙ c.loop-part.invariant.passed.fixed) (c.perform-in-Some.ensures.scope ∙ c.loop-part.invariant.scope) (passed_on _ _ _ c.loop-part.invariant.passed c.perform-in-Some.ensures.passed).later c.perform-in-Met.ensures.passed.later
-    (cutting.branch_met g.W.World.gives _ _ _ _ _ _ _ _ _ _ (cutting.branches_left (matching (view c.args.wanted)) (ground g.W.World.gives (g.W.Env.fixed c.args.world.now)) c.args.scope.now c.args.parts.now) c.in-Some.part.now c.in-Some.others.now c.loop-part.rest.now c.loop-part.invariant.passed.fixed c.loop-part.invariant.scope c.loop-part.invariant.passed.later c.perform-in-Some.ensures.passed.later c.in-Some.ensures.cases.0 (view c.in_ok-value.value) (matching (view c.args.wanted)) c.in-Some-split_first.branch.now c.in-Some-split_first.beyond.now c.in-Some-split_first.ensures.cases.0 (sym (ap (λ w. matching (view w) (view c.in_ok-value.value)) c.loop-part.invariant.wanted) ∙ sym c.decide_match.ensures ∙ c.in-Met.is) c.loop-part.invariant.cut c.in_ok-value.ensures.done) k)
+    (λ k. cutting.branch_cut g.W.World.gives _ _ _ _ _ _ _ _ _ _ (cutting.branches_left (switch_decision (view c.args.wanted)) (ground g.W.World.gives (g.W.Env.fixed c.args.world.now)) c.args.scope.now c.args.parts.now) c.in-Some-split_first.branch.now (c.perform-in-Some.ensures.passed.fixed ∙ c.loop-part.invariant.passed.fixed) (c.perform-in-Some.ensures.scope ∙ c.loop-part.invariant.scope) (passed_on _ _ _ c.loop-part.invariant.passed c.perform-in-Some.ensures.passed).later c.perform-in-Met.ensures.passed.later
+    (cutting.branch_met g.W.World.gives _ _ _ _ _ _ _ _ _ _ (cutting.branches_left (switch_decision (view c.args.wanted)) (ground g.W.World.gives (g.W.Env.fixed c.args.world.now)) c.args.scope.now c.args.parts.now) c.in-Some.part.now c.in-Some.others.now c.loop-part.rest.now c.loop-part.invariant.passed.fixed c.loop-part.invariant.scope c.loop-part.invariant.passed.later c.perform-in-Some.ensures.passed.later c.in-Some.ensures.cases.0 (view c.in_ok-value.value) (switch_decision (view c.args.wanted)) c.in-Some-split_first.branch.now c.in-Some-split_first.beyond.now c.in-Some-split_first.ensures.cases.0 (sym (ap (λ w. switch_decision (view w) (view c.in_ok-value.value)) c.loop-part.invariant.wanted) ∙ sym c.decide_match.ensures ∙ c.in-Met.is) c.loop-part.invariant.cut c.in_ok-value.ensures.done) k)
     c.perform-in-Met.ensures.cut
 
 pub recover-returns-in_default-split_first-clause-cut : goal.recover-returns-in_default-split_first-clause-cut
@@ -1172,7 +1172,7 @@ part_values-returns-in_err-value-clause-cut g t c =
 pub part_values-returns-in_err-push-clause-cut : goal.part_values-returns-in_err-push-clause-cut
 part_values-returns-in_err-push-clause-cut g t c =
     cutting.on_any c.from_residual-in_err-push.result
-    (cutting.cut_here (IsLost (g.W.Env.marks c.args.world.now) (g.W.Env.marks c.perform.new.world)) (g.W.World.state c.args.world.now) (g.W.World.state c.perform.new.world) (cutting.parts_left (ground g.W.World.gives (g.W.Env.fixed c.args.world.now)) c.args.scope.now c.in-Some.others.now) (cutting.parts_left (ground g.W.World.gives (g.W.Env.fixed c.args.world.now)) c.args.scope.now c.args.parts.now) (λ s. cutting.parts_unbegun (ground g.W.World.gives (g.W.Env.fixed c.args.world.now)) c.in-Some.others.now c.args.scope.now s)
+    (cutting.cut_here (SilenceCause (g.W.Env.marks c.args.world.now) (g.W.Env.marks c.perform.new.world)) (g.W.World.state c.args.world.now) (g.W.World.state c.perform.new.world) (cutting.parts_left (ground g.W.World.gives (g.W.Env.fixed c.args.world.now)) c.args.scope.now c.in-Some.others.now) (cutting.parts_left (ground g.W.World.gives (g.W.Env.fixed c.args.world.now)) c.args.scope.now c.args.parts.now) (λ s. cutting.parts_unbegun (ground g.W.World.gives (g.W.Env.fixed c.args.world.now)) c.in-Some.others.now c.args.scope.now s)
     (cutting.parts_go g.W.World.gives _ _ _ _ _ _ _ _ _ _ (cutting.parts_left (ground g.W.World.gives (g.W.Env.fixed c.args.world.now)) c.args.scope.now c.args.parts.now) c.in-Some.part.now c.in-Some.others.now c.loop-part.rest.now c.loop-part.invariant.passed.fixed c.loop-part.invariant.scope c.loop-part.invariant.passed.later c.perform.ensures.passed.later c.in-Some.ensures.cases.0 (view c.in_ok-value.value) c.loop-part.invariant.cut c.in_ok-value.ensures.done))
 
 pub each-returns-in_err-value-clause-cut : goal.each-returns-in_err-value-clause-cut
@@ -1183,157 +1183,157 @@ each-returns-in_err-value-clause-cut g t c =
 pub each-returns-in_err-push-clause-cut : goal.each-returns-in_err-push-clause-cut
 each-returns-in_err-push-clause-cut g t c =
     cutting.on_any c.from_residual-in_err-push.result
-    (cutting.cut_here (IsLost (g.W.Env.marks c.args.world.now) (g.W.Env.marks c.in_scope.new.world)) (g.W.World.state c.args.world.now) (g.W.World.state c.in_scope.new.world) (cutting.each_left (ground g.W.World.gives (g.W.Env.fixed c.args.world.now)) c.args.scope.now c.args.formula.now c.in-Some.others.now) (cutting.each_left (ground g.W.World.gives (g.W.Env.fixed c.args.world.now)) c.args.scope.now c.args.formula.now c.args.rows.now) (λ s. cutting.each_unbegun (ground g.W.World.gives (g.W.Env.fixed c.args.world.now)) c.args.formula.now c.in-Some.others.now c.args.scope.now s)
+    (cutting.cut_here (SilenceCause (g.W.Env.marks c.args.world.now) (g.W.Env.marks c.in_scope.new.world)) (g.W.World.state c.args.world.now) (g.W.World.state c.in_scope.new.world) (cutting.each_left (ground g.W.World.gives (g.W.Env.fixed c.args.world.now)) c.args.scope.now c.args.formula.now c.in-Some.others.now) (cutting.each_left (ground g.W.World.gives (g.W.Env.fixed c.args.world.now)) c.args.scope.now c.args.formula.now c.args.rows.now) (λ s. cutting.each_unbegun (ground g.W.World.gives (g.W.Env.fixed c.args.world.now)) c.args.formula.now c.in-Some.others.now c.args.scope.now s)
     (cutting.each_go g.W.World.gives _ _ _ _ _ _ _ _ _ _ (cutting.each_left (ground g.W.World.gives (g.W.Env.fixed c.args.world.now)) c.args.scope.now c.args.formula.now c.args.rows.now) c.args.formula.now c.in-Some.row.now (record_of c.in_ok-copy.field-0) c.in-Some.others.now c.loop-row.rest.now c.loop-row.invariant.passed.fixed c.loop-row.invariant.scope c.loop-row.invariant.passed.later c.in_scope.ensures.passed.later c.in-Some.ensures.cases.0 (ap record_of c.in_ok-copy.ensures) (view c.in_ok-value.value) c.loop-row.invariant.cut c.in_ok-value.ensures.done))
 
 pub each-returns-in_err-copy-clause-cut : goal.each-returns-in_err-copy-clause-cut
 each-returns-in_err-copy-clause-cut g t c =
     cutting.on_any c.from_residual.result
-    (cutting.cut_here (IsLost (g.W.Env.marks c.args.world.now) (g.W.Env.marks c.loop-row.world)) (g.W.World.state c.args.world.now) (g.W.World.state c.loop-row.world) (cutting.each_left (ground g.W.World.gives (g.W.Env.fixed c.args.world.now)) c.args.scope.now c.args.formula.now c.loop-row.rest.now) (cutting.each_left (ground g.W.World.gives (g.W.Env.fixed c.args.world.now)) c.args.scope.now c.args.formula.now c.args.rows.now) (λ s. cutting.each_unbegun (ground g.W.World.gives (g.W.Env.fixed c.args.world.now)) c.args.formula.now c.loop-row.rest.now c.args.scope.now s) c.loop-row.invariant.cut)
+    (cutting.cut_here (SilenceCause (g.W.Env.marks c.args.world.now) (g.W.Env.marks c.loop-row.world)) (g.W.World.state c.args.world.now) (g.W.World.state c.loop-row.world) (cutting.each_left (ground g.W.World.gives (g.W.Env.fixed c.args.world.now)) c.args.scope.now c.args.formula.now c.loop-row.rest.now) (cutting.each_left (ground g.W.World.gives (g.W.Env.fixed c.args.world.now)) c.args.scope.now c.args.formula.now c.args.rows.now) (λ s. cutting.each_unbegun (ground g.W.World.gives (g.W.Env.fixed c.args.world.now)) c.args.formula.now c.loop-row.rest.now c.args.scope.now s) c.loop-row.invariant.cut)
 
 pub node-returns-in-Chain-clause-cut : goal.node-returns-in-Chain-clause-cut
 node-returns-in-Chain-clause-cut g t c =
-    cutting.cut_as (IsLost (g.W.Env.marks c.args.world.now) (g.W.Env.marks c.chain.new.world)) (ground g.W.World.gives (g.W.Env.fixed c.args.world.now)) top.chain _ c.as_slice.result.now _ c.args.scope.now c.chain.result (g.W.World.state c.args.world.now) (g.W.World.state c.chain.new.world) (sym (ap branch c.in-Chain.is) ∙ c.core.view_is) c.as_slice.ensures c.requires.acts c.chain.ensures.cut
+    cutting.cut_as (SilenceCause (g.W.Env.marks c.args.world.now) (g.W.Env.marks c.chain.new.world)) (ground g.W.World.gives (g.W.Env.fixed c.args.world.now)) top.chain _ c.as_slice.result.now _ c.args.scope.now c.chain.result (g.W.World.state c.args.world.now) (g.W.World.state c.chain.new.world) (sym (ap core_branch c.in-Chain.is) ∙ c.core.view_is) c.as_slice.ensures c.requires.acts c.chain.ensures.cut
 
 pub node-returns-in-If-clause-cut : goal.node-returns-in-If-clause-cut
 node-returns-in-If-clause-cut g t c =
-    cutting.cut_as (IsLost (g.W.Env.marks c.args.world.now) (g.W.Env.marks c.branches.new.world)) (ground g.W.World.gives (g.W.Env.fixed c.args.world.now)) (top.form form.If) _ c.as_slice-in-If.result.now _ c.args.scope.now c.branches.result (g.W.World.state c.args.world.now) (g.W.World.state c.branches.new.world) (sym (ap branch c.in-If.is) ∙ c.core.view_is) c.as_slice-in-If.ensures c.requires.acts c.branches.ensures.cut
+    cutting.cut_as (SilenceCause (g.W.Env.marks c.args.world.now) (g.W.Env.marks c.branches.new.world)) (ground g.W.World.gives (g.W.Env.fixed c.args.world.now)) (top.form form.If) _ c.as_slice-in-If.result.now _ c.args.scope.now c.branches.result (g.W.World.state c.args.world.now) (g.W.World.state c.branches.new.world) (sym (ap core_branch c.in-If.is) ∙ c.core.view_is) c.as_slice-in-If.ensures c.requires.acts c.branches.ensures.cut
 
 pub node-returns-in-Switch-clause-cut : goal.node-returns-in-Switch-clause-cut
 node-returns-in-Switch-clause-cut g t c =
-    cutting.cut_as (IsLost (g.W.Env.marks c.args.world.now) (g.W.Env.marks c.switch.new.world)) (ground g.W.World.gives (g.W.Env.fixed c.args.world.now)) (top.form form.Switch) _ c.as_slice-in-Switch.result.now _ c.args.scope.now c.switch.result (g.W.World.state c.args.world.now) (g.W.World.state c.switch.new.world) (sym (ap branch c.in-Switch.is) ∙ c.core.view_is) c.as_slice-in-Switch.ensures c.requires.acts c.switch.ensures.cut
+    cutting.cut_as (SilenceCause (g.W.Env.marks c.args.world.now) (g.W.Env.marks c.switch.new.world)) (ground g.W.World.gives (g.W.Env.fixed c.args.world.now)) (top.form form.Switch) _ c.as_slice-in-Switch.result.now _ c.args.scope.now c.switch.result (g.W.World.state c.args.world.now) (g.W.World.state c.switch.new.world) (sym (ap core_branch c.in-Switch.is) ∙ c.core.view_is) c.as_slice-in-Switch.ensures c.requires.acts c.switch.ensures.cut
 
 pub node-returns-in-IfError-clause-cut : goal.node-returns-in-IfError-clause-cut
 node-returns-in-IfError-clause-cut g t c =
-    cutting.cut_as (IsLost (g.W.Env.marks c.args.world.now) (g.W.Env.marks c.recover.new.world)) (ground g.W.World.gives (g.W.Env.fixed c.args.world.now)) (top.form form.IfError) _ c.as_slice-in-IfError.result.now _ c.args.scope.now c.recover.result (g.W.World.state c.args.world.now) (g.W.World.state c.recover.new.world) (sym (ap branch c.in-IfError.is) ∙ c.core.view_is) c.as_slice-in-IfError.ensures c.requires.acts c.recover.ensures.cut
+    cutting.cut_as (SilenceCause (g.W.Env.marks c.args.world.now) (g.W.Env.marks c.recover.new.world)) (ground g.W.World.gives (g.W.Env.fixed c.args.world.now)) (top.form form.IfError) _ c.as_slice-in-IfError.result.now _ c.args.scope.now c.recover.result (g.W.World.state c.args.world.now) (g.W.World.state c.recover.new.world) (sym (ap core_branch c.in-IfError.is) ∙ c.core.view_is) c.as_slice-in-IfError.ensures c.requires.acts c.recover.ensures.cut
 
 pub node-returns-in-Act-clause-cut : goal.node-returns-in-Act-clause-cut
 node-returns-in-Act-clause-cut g t c =
-    cutting.cut_as (IsLost (g.W.Env.marks c.args.world.now) (g.W.Env.marks c.act_deed.new.world)) (ground g.W.World.gives (g.W.Env.fixed c.args.world.now)) (top.act c.in-Act.deed) _ c.as_slice-in-Act.result.now _ c.args.scope.now c.act_deed.result (g.W.World.state c.args.world.now) (g.W.World.state c.act_deed.new.world) (sym (ap branch c.in-Act.is) ∙ c.core.view_is) c.as_slice-in-Act.ensures c.requires.acts c.act_deed.ensures.cut
+    cutting.cut_as (SilenceCause (g.W.Env.marks c.args.world.now) (g.W.Env.marks c.act_deed.new.world)) (ground g.W.World.gives (g.W.Env.fixed c.args.world.now)) (top.act c.in-Act.deed) _ c.as_slice-in-Act.result.now _ c.args.scope.now c.act_deed.result (g.W.World.state c.args.world.now) (g.W.World.state c.act_deed.new.world) (sym (ap core_branch c.in-Act.is) ∙ c.core.view_is) c.as_slice-in-Act.ensures c.requires.acts c.act_deed.ensures.cut
 
 pub node-returns-in-With-clause-cut : goal.node-returns-in-With-clause-cut
 node-returns-in-With-clause-cut g t c =
-    cutting.cut_as (IsLost (g.W.Env.marks c.args.world.now) (g.W.Env.marks c.within.new.world)) (ground g.W.World.gives (g.W.Env.fixed c.args.world.now)) top.within (c.deref.result.now ∷ c.deref-in-With.result.now ∷ []) (c.deref.result.now ∷ c.deref-in-With.result.now ∷ []) _ c.args.scope.now c.within.result (g.W.World.state c.args.world.now) (g.W.World.state c.within.new.world) (nodes.two_are top.within _ _ _ _ _ (sym (ap branch c.in-With.is) ∙ c.core.view_is) c.deref.ensures c.deref-in-With.ensures) refl c.requires.acts c.within.ensures.cut
+    cutting.cut_as (SilenceCause (g.W.Env.marks c.args.world.now) (g.W.Env.marks c.within.new.world)) (ground g.W.World.gives (g.W.Env.fixed c.args.world.now)) top.within (c.deref.result.now ∷ c.deref-in-With.result.now ∷ []) (c.deref.result.now ∷ c.deref-in-With.result.now ∷ []) _ c.args.scope.now c.within.result (g.W.World.state c.args.world.now) (g.W.World.state c.within.new.world) (nodes.two_are top.within _ _ _ _ _ (sym (ap core_branch c.in-With.is) ∙ c.core.view_is) c.deref.ensures c.deref-in-With.ensures) refl c.requires.acts c.within.ensures.cut
 
 pub node-returns-in-Over-clause-cut : goal.node-returns-in-Over-clause-cut
 node-returns-in-Over-clause-cut g t c =
-    cutting.cut_as (IsLost (g.W.Env.marks c.args.world.now) (g.W.Env.marks c.for_all.new.world)) (ground g.W.World.gives (g.W.Env.fixed c.args.world.now)) (top.over fun.ForAll) (c.deref-in-Over.result.now ∷ c.as_slice-in-Over.result.now) (c.deref-in-Over.result.now ∷ c.as_slice-in-Over.result.now) _ c.args.scope.now c.for_all.result (g.W.World.state c.args.world.now) (g.W.World.state c.for_all.new.world) (nodes.over_is (g.W.Env.fixed c.args.world.now).types c.args.scope.now _ _ c.deref-in-Over.result.now _ c.as_slice-in-Over.result.now _ (sym (ap branch c.in-Over.is) ∙ c.core.view_is) c.deref-in-Over.ensures c.as_slice-in-Over.ensures c.requires.can c.requires.acts) refl c.requires.acts c.for_all.ensures.cut
+    cutting.cut_as (SilenceCause (g.W.Env.marks c.args.world.now) (g.W.Env.marks c.for_all.new.world)) (ground g.W.World.gives (g.W.Env.fixed c.args.world.now)) (top.over fun.ForAll) (c.deref-in-Over.result.now ∷ c.as_slice-in-Over.result.now) (c.deref-in-Over.result.now ∷ c.as_slice-in-Over.result.now) _ c.args.scope.now c.for_all.result (g.W.World.state c.args.world.now) (g.W.World.state c.for_all.new.world) (nodes.over_is (g.W.Env.fixed c.args.world.now).types c.args.scope.now _ _ c.deref-in-Over.result.now _ c.as_slice-in-Over.result.now _ (sym (ap core_branch c.in-Over.is) ∙ c.core.view_is) c.deref-in-Over.ensures c.as_slice-in-Over.ensures c.requires.can c.requires.acts) refl c.requires.acts c.for_all.ensures.cut
 
 pub node-returns-in_err-value-in-Dot-clause-cut : goal.node-returns-in_err-value-in-Dot-clause-cut
 node-returns-in_err-value-in-Dot-clause-cut g t c =
     cutting.on_any c.from_residual.result
-    (cutting.one_cut (IsLost (g.W.Env.marks c.args.world.now) (g.W.Env.marks c.perform.new.world)) (ground g.W.World.gives (g.W.Env.fixed c.args.world.now)) _ _ _ _ c.args.scope.now (g.W.World.state c.args.world.now) (g.W.World.state c.perform.new.world) (sym (ap branch c.in-Dot.is) ∙ c.core.view_is) c.deref-in-Dot.ensures c.requires.acts (λ s u q. q) c.in_err-value-in-Dot.ensures.cut)
+    (cutting.one_cut (SilenceCause (g.W.Env.marks c.args.world.now) (g.W.Env.marks c.perform.new.world)) (ground g.W.World.gives (g.W.Env.fixed c.args.world.now)) _ _ _ _ c.args.scope.now (g.W.World.state c.args.world.now) (g.W.World.state c.perform.new.world) (sym (ap core_branch c.in-Dot.is) ∙ c.core.view_is) c.deref-in-Dot.ensures c.requires.acts (λ s u q. q) c.in_err-value-in-Dot.ensures.cut)
 
 pub node-returns-in_err-field_of-in-Dot-clause-cut : goal.node-returns-in_err-field_of-in-Dot-clause-cut
 node-returns-in_err-field_of-in-Dot-clause-cut g t c =
     cutting.on_any c.from_residual-in_err-field_of-in-Dot.result
-    (cutting.one_behind (IsLost (g.W.Env.marks c.args.world.now) (g.W.Env.marks c.perform.new.world)) (ground g.W.World.gives (g.W.Env.fixed c.args.world.now)) _ _ _ _ (view c.in_ok-value-in-Dot.value) c.args.scope.now (g.W.World.state c.args.world.now) (g.W.World.state c.perform.new.world) (sym (ap branch c.in-Dot.is) ∙ c.core.view_is) c.deref-in-Dot.ensures c.requires.acts (λ s u q. q) c.in_ok-value-in-Dot.ensures.done)
+    (cutting.one_behind (SilenceCause (g.W.Env.marks c.args.world.now) (g.W.Env.marks c.perform.new.world)) (ground g.W.World.gives (g.W.Env.fixed c.args.world.now)) _ _ _ _ (view c.in_ok-value-in-Dot.value) c.args.scope.now (g.W.World.state c.args.world.now) (g.W.World.state c.perform.new.world) (sym (ap core_branch c.in-Dot.is) ∙ c.core.view_is) c.deref-in-Dot.ensures c.requires.acts (λ s u q. q) c.in_ok-value-in-Dot.ensures.done)
 
 pub node-returns-in_err-value-in-Coerce-clause-cut : goal.node-returns-in_err-value-in-Coerce-clause-cut
 node-returns-in_err-value-in-Coerce-clause-cut g t c =
     cutting.on_any c.from_residual-in_err-value-in-Coerce.result
-    (cutting.one_cut (IsLost (g.W.Env.marks c.args.world.now) (g.W.Env.marks c.perform-in-Coerce.new.world)) (ground g.W.World.gives (g.W.Env.fixed c.args.world.now)) _ _ _ _ c.args.scope.now (g.W.World.state c.args.world.now) (g.W.World.state c.perform-in-Coerce.new.world) (sym (ap branch c.in-Coerce.is) ∙ c.core.view_is) c.deref-in-Coerce.ensures c.requires.acts (λ s u q. q) c.in_err-value-in-Coerce.ensures.cut)
+    (cutting.one_cut (SilenceCause (g.W.Env.marks c.args.world.now) (g.W.Env.marks c.perform-in-Coerce.new.world)) (ground g.W.World.gives (g.W.Env.fixed c.args.world.now)) _ _ _ _ c.args.scope.now (g.W.World.state c.args.world.now) (g.W.World.state c.perform-in-Coerce.new.world) (sym (ap core_branch c.in-Coerce.is) ∙ c.core.view_is) c.deref-in-Coerce.ensures c.requires.acts (λ s u q. q) c.in_err-value-in-Coerce.ensures.cut)
 
 pub node-returns-in_err-coerce-in-Coerce-clause-cut : goal.node-returns-in_err-coerce-in-Coerce-clause-cut
 node-returns-in_err-coerce-in-Coerce-clause-cut g t c =
     cutting.on_any c.from_residual-in_err-coerce-in-Coerce.result
-    (cutting.one_behind (IsLost (g.W.Env.marks c.args.world.now) (g.W.Env.marks c.perform-in-Coerce.new.world)) (ground g.W.World.gives (g.W.Env.fixed c.args.world.now)) _ _ _ _ (view c.in_ok-value-in-Coerce.value) c.args.scope.now (g.W.World.state c.args.world.now) (g.W.World.state c.perform-in-Coerce.new.world) (sym (ap branch c.in-Coerce.is) ∙ c.core.view_is) c.deref-in-Coerce.ensures c.requires.acts (λ s u q. q) c.in_ok-value-in-Coerce.ensures.done)
+    (cutting.one_behind (SilenceCause (g.W.Env.marks c.args.world.now) (g.W.Env.marks c.perform-in-Coerce.new.world)) (ground g.W.World.gives (g.W.Env.fixed c.args.world.now)) _ _ _ _ (view c.in_ok-value-in-Coerce.value) c.args.scope.now (g.W.World.state c.args.world.now) (g.W.World.state c.perform-in-Coerce.new.world) (sym (ap core_branch c.in-Coerce.is) ∙ c.core.view_is) c.deref-in-Coerce.ensures c.requires.acts (λ s u q. q) c.in_ok-value-in-Coerce.ensures.done)
 
 pub node-returns-in_err-values-in-List-clause-cut : goal.node-returns-in_err-values-in-List-clause-cut
 node-returns-in_err-values-in-List-clause-cut g t c =
     cutting.on_any c.from_residual-in_err-values-in-List.result
-    (cutting.node_cut (IsLost (g.W.Env.marks c.args.world.now) (g.W.Env.marks c.part_values.new.world)) (ground g.W.World.gives (g.W.Env.fixed c.args.world.now)) _ (all c.as_slice-in-List.result.now) c.args.core.now c.args.scope.now (g.W.World.state c.args.world.now) (g.W.World.state c.part_values.new.world) (heads.parts_are _ _ c.as_slice-in-List.result.now c.args.core.now (sym (ap branch c.in-List.is) ∙ c.core.view_is) c.as_slice-in-List.ensures) c.requires.acts c.in_err-values-in-List.ensures.cut)
+    (cutting.node_cut (SilenceCause (g.W.Env.marks c.args.world.now) (g.W.Env.marks c.part_values.new.world)) (ground g.W.World.gives (g.W.Env.fixed c.args.world.now)) _ (all c.as_slice-in-List.result.now) c.args.core.now c.args.scope.now (g.W.World.state c.args.world.now) (g.W.World.state c.part_values.new.world) (heads.parts_are _ _ c.as_slice-in-List.result.now c.args.core.now (sym (ap core_branch c.in-List.is) ∙ c.core.view_is) c.as_slice-in-List.ensures) c.requires.acts c.in_err-values-in-List.ensures.cut)
 
 pub node-returns-in_err-list-in-List-clause-cut : goal.node-returns-in_err-list-in-List-clause-cut
 node-returns-in_err-list-in-List-clause-cut g t c =
     cutting.on_any c.from_residual-in_err-list-in-List.result
-    (cutting.node_cut (IsLost (g.W.Env.marks c.args.world.now) (g.W.Env.marks c.part_values.new.world)) (ground g.W.World.gives (g.W.Env.fixed c.args.world.now)) _ (all c.as_slice-in-List.result.now) c.args.core.now c.args.scope.now (g.W.World.state c.args.world.now) (g.W.World.state c.part_values.new.world) (heads.parts_are _ _ c.as_slice-in-List.result.now c.args.core.now (sym (ap branch c.in-List.is) ∙ c.core.view_is) c.as_slice-in-List.ensures) c.requires.acts
-    (cutting.list_behind (IsLost (g.W.Env.marks c.args.world.now) (g.W.Env.marks c.part_values.new.world)) (ground g.W.World.gives (g.W.Env.fixed c.args.world.now)) c.as_slice-in-List.result.now (map view c.in_ok-values-in-List.values.items) c.args.scope.now (g.W.World.state c.args.world.now) (g.W.World.state c.part_values.new.world) c.in_ok-values-in-List.ensures.done))
+    (cutting.node_cut (SilenceCause (g.W.Env.marks c.args.world.now) (g.W.Env.marks c.part_values.new.world)) (ground g.W.World.gives (g.W.Env.fixed c.args.world.now)) _ (all c.as_slice-in-List.result.now) c.args.core.now c.args.scope.now (g.W.World.state c.args.world.now) (g.W.World.state c.part_values.new.world) (heads.parts_are _ _ c.as_slice-in-List.result.now c.args.core.now (sym (ap core_branch c.in-List.is) ∙ c.core.view_is) c.as_slice-in-List.ensures) c.requires.acts
+    (cutting.list_behind (SilenceCause (g.W.Env.marks c.args.world.now) (g.W.Env.marks c.part_values.new.world)) (ground g.W.World.gives (g.W.Env.fixed c.args.world.now)) c.as_slice-in-List.result.now (map view c.in_ok-values-in-List.values.items) c.args.scope.now (g.W.World.state c.args.world.now) (g.W.World.state c.part_values.new.world) c.in_ok-values-in-List.ensures.done))
 
 pub perform-returns-else-acts-clause-cut : goal.perform-returns-else-acts-clause-cut
 perform-returns-else-acts-clause-cut g t c =
-    cutting.on_any c.evaluate.result (cutting.cut_staying (IsLost (g.W.Env.marks c.args.world.now) (g.W.Env.marks c.evaluate.new.world)) (ground g.W.World.gives (g.W.Env.fixed c.args.world.now)) c.args.core.now c.args.scope.now (g.W.World.state c.args.world.now) (g.W.World.state c.evaluate.new.world) c.evaluate.ensures.stays)
+    cutting.on_any c.evaluate.result (cutting.cut_staying (SilenceCause (g.W.Env.marks c.args.world.now) (g.W.Env.marks c.evaluate.new.world)) (ground g.W.World.gives (g.W.Env.fixed c.args.world.now)) c.args.core.now c.args.scope.now (g.W.World.state c.args.world.now) (g.W.World.state c.evaluate.new.world) c.evaluate.ensures.stays)
 
 pub within-returns-in_err-value-clause-cut : goal.within-returns-in_err-value-clause-cut
 within-returns-in_err-value-clause-cut g t c =
     cutting.on_any c.from_residual.result
-    (cutting.within_first (ground g.W.World.gives (g.W.Env.fixed c.args.world.now)) c.args.scope.now (IsLost (g.W.Env.marks c.args.world.now) (g.W.Env.marks c.perform.new.world)) (g.W.World.state c.args.world.now) (g.W.World.state c.perform.new.world) c.args.part.now c.in_err-value.ensures.cut c.args.formula.now)
+    (cutting.within_first (ground g.W.World.gives (g.W.Env.fixed c.args.world.now)) c.args.scope.now (SilenceCause (g.W.Env.marks c.args.world.now) (g.W.Env.marks c.perform.new.world)) (g.W.World.state c.args.world.now) (g.W.World.state c.perform.new.world) c.args.part.now c.in_err-value.ensures.cut c.args.formula.now)
 
 pub within-returns-in-Ok-clause-cut : goal.within-returns-in-Ok-clause-cut
 within-returns-in-Ok-clause-cut g t c =
     on_err_weaker c.in_scope.result
     (λ k. cutting.within_then (ground g.W.World.gives (g.W.Env.fixed c.args.world.now)) c.args.scope.now _ _ _ _ _ _ c.args.part.now (view c.in_ok-value.value) c.perform.ensures.passed.later c.in_scope.ensures.passed.later c.in-Ok.ensures.1 c.in_ok-value.ensures.done c.args.formula.now
-    (subst (λ z. Goes (IsLost (g.W.Env.marks c.perform.new.world) (g.W.Env.marks c.in_scope.new.world)) (IsCutOff (ground g.W.World.gives (g.W.Env.fixed c.args.world.now)) c.args.formula.now (inner c.args.scope.now z)) (g.W.World.state c.perform.new.world) (g.W.World.state c.in_scope.new.world)) c.in-Ok.ensures.0
-    (steps.back (λ f h. Goes (IsLost (g.W.Env.marks c.perform.new.world) (g.W.Env.marks c.in_scope.new.world)) (IsCutOff (ground g.W.World.gives f) c.args.formula.now (inner h (view c.in-Ok.row))) (g.W.World.state c.perform.new.world) (g.W.World.state c.in_scope.new.world)) _ _ _ _ c.perform.ensures.passed.fixed c.perform.ensures.scope k)))
+    (subst (λ z. MayFallSilent (SilenceCause (g.W.Env.marks c.perform.new.world) (g.W.Env.marks c.in_scope.new.world)) (IsCutOff (ground g.W.World.gives (g.W.Env.fixed c.args.world.now)) c.args.formula.now (inner c.args.scope.now z)) (g.W.World.state c.perform.new.world) (g.W.World.state c.in_scope.new.world)) c.in-Ok.ensures.0
+    (steps.back (λ f h. MayFallSilent (SilenceCause (g.W.Env.marks c.perform.new.world) (g.W.Env.marks c.in_scope.new.world)) (IsCutOff (ground g.W.World.gives f) c.args.formula.now (inner h (view c.in-Ok.row))) (g.W.World.state c.perform.new.world) (g.W.World.state c.in_scope.new.world)) _ _ _ _ c.perform.ensures.passed.fixed c.perform.ensures.scope k)))
     c.in_scope.ensures.cut
 
 pub switch-returns-in_err-value-clause-cut : goal.switch-returns-in_err-value-clause-cut
 switch-returns-in_err-value-clause-cut g t c =
     cutting.on_any c.from_residual.result
-    (subst (λ (ts : List Term). Goes (IsLost (g.W.Env.marks c.args.world.now) (g.W.Env.marks c.perform.new.world)) (IsSwitchCut (parts_of (ground g.W.World.gives (g.W.Env.fixed c.args.world.now)) (all ts)) c.args.scope.now) (g.W.World.state c.args.world.now) (g.W.World.state c.perform.new.world)) (sym c.in-Some.ensures.cases.0)
-    (cutting.switch_first (ground g.W.World.gives (g.W.Env.fixed c.args.world.now)) c.args.scope.now (IsLost (g.W.Env.marks c.args.world.now) (g.W.Env.marks c.perform.new.world)) (g.W.World.state c.args.world.now) (g.W.World.state c.perform.new.world) c.in-Some.part.now c.in_err-value.ensures.cut c.in-Some.others.now))
+    (subst (λ (ts : List Term). MayFallSilent (SilenceCause (g.W.Env.marks c.args.world.now) (g.W.Env.marks c.perform.new.world)) (IsSwitchCut (parts_of (ground g.W.World.gives (g.W.Env.fixed c.args.world.now)) (all ts)) c.args.scope.now) (g.W.World.state c.args.world.now) (g.W.World.state c.perform.new.world)) (sym c.in-Some.ensures.cases.0)
+    (cutting.switch_first (ground g.W.World.gives (g.W.Env.fixed c.args.world.now)) c.args.scope.now (SilenceCause (g.W.Env.marks c.args.world.now) (g.W.Env.marks c.perform.new.world)) (g.W.World.state c.args.world.now) (g.W.World.state c.perform.new.world) c.in-Some.part.now c.in_err-value.ensures.cut c.in-Some.others.now))
 
 pub switch-returns-in-Ok-clause-cut : goal.switch-returns-in-Ok-clause-cut
 switch-returns-in-Ok-clause-cut g t c =
     on_err_weaker c.matches.result
-    (λ k. subst (λ (ts : List Term). Goes (IsLost (g.W.Env.marks c.args.world.now) (g.W.Env.marks c.matches.new.world)) (IsSwitchCut (parts_of (ground g.W.World.gives (g.W.Env.fixed c.args.world.now)) (all ts)) c.args.scope.now) (g.W.World.state c.args.world.now) (g.W.World.state c.matches.new.world)) (sym c.in-Some.ensures.cases.0)
+    (λ k. subst (λ (ts : List Term). MayFallSilent (SilenceCause (g.W.Env.marks c.args.world.now) (g.W.Env.marks c.matches.new.world)) (IsSwitchCut (parts_of (ground g.W.World.gives (g.W.Env.fixed c.args.world.now)) (all ts)) c.args.scope.now) (g.W.World.state c.args.world.now) (g.W.World.state c.matches.new.world)) (sym c.in-Some.ensures.cases.0)
     (cutting.switch_then (ground g.W.World.gives (g.W.Env.fixed c.args.world.now)) c.args.scope.now _ _ _ _ _ _ c.in-Some.part.now (view c.in_ok-value.value) c.perform.ensures.passed.later c.matches.ensures.passed.later c.in-Ok.ensures.1 c.in_ok-value.ensures.done c.in-Some.others.now
-    (subst (λ z. Goes (IsLost (g.W.Env.marks c.perform.new.world) (g.W.Env.marks c.matches.new.world)) (IsBranchCut (matching z) (parts_of (ground g.W.World.gives (g.W.Env.fixed c.args.world.now)) (all c.in-Some.others.now)) c.args.scope.now) (g.W.World.state c.perform.new.world) (g.W.World.state c.matches.new.world)) c.in-Ok.ensures.0
-    (steps.back (λ f h. Goes (IsLost (g.W.Env.marks c.perform.new.world) (g.W.Env.marks c.matches.new.world)) (IsBranchCut (matching (view c.in-Ok.wanted)) (parts_of (ground g.W.World.gives f) (all c.in-Some.others.now)) h) (g.W.World.state c.perform.new.world) (g.W.World.state c.matches.new.world)) _ _ _ _ c.perform.ensures.passed.fixed c.perform.ensures.scope k))))
+    (subst (λ z. MayFallSilent (SilenceCause (g.W.Env.marks c.perform.new.world) (g.W.Env.marks c.matches.new.world)) (IsBranchCut (switch_decision z) (parts_of (ground g.W.World.gives (g.W.Env.fixed c.args.world.now)) (all c.in-Some.others.now)) c.args.scope.now) (g.W.World.state c.perform.new.world) (g.W.World.state c.matches.new.world)) c.in-Ok.ensures.0
+    (steps.back (λ f h. MayFallSilent (SilenceCause (g.W.Env.marks c.perform.new.world) (g.W.Env.marks c.matches.new.world)) (IsBranchCut (switch_decision (view c.in-Ok.wanted)) (parts_of (ground g.W.World.gives f) (all c.in-Some.others.now)) h) (g.W.World.state c.perform.new.world) (g.W.World.state c.matches.new.world)) _ _ _ _ c.perform.ensures.passed.fixed c.perform.ensures.scope k))))
     c.matches.ensures.cut
 
 pub for_all-returns-in_err-value-clause-cut : goal.for_all-returns-in_err-value-clause-cut
 for_all-returns-in_err-value-clause-cut g t c =
     cutting.on_any c.from_residual.result
-    (subst (λ (ts : List Term). Goes (IsLost (g.W.Env.marks c.args.world.now) (g.W.Env.marks c.perform.new.world)) (IsForAllCut (part_of (ground g.W.World.gives (g.W.Env.fixed c.args.world.now)) c.args.table.now ∷ parts_of (ground g.W.World.gives (g.W.Env.fixed c.args.world.now)) (all ts)) c.args.scope.now) (g.W.World.state c.args.world.now) (g.W.World.state c.perform.new.world)) (sym (formula_is (g.W.Env.fixed c.args.world.now).types c.args.scope.now c.args.table.now c.args.parts.now c.requires.0 c.requires.1 c.in-Some.formula.now _ c.in-Some.ensures.cases.0))
-    (cutting.for_all_first (ground g.W.World.gives (g.W.Env.fixed c.args.world.now)) c.args.scope.now (IsLost (g.W.Env.marks c.args.world.now) (g.W.Env.marks c.perform.new.world)) (g.W.World.state c.args.world.now) (g.W.World.state c.perform.new.world) c.args.table.now c.in_err-value.ensures.cut c.in-Some.formula.now))
+    (subst (λ (ts : List Term). MayFallSilent (SilenceCause (g.W.Env.marks c.args.world.now) (g.W.Env.marks c.perform.new.world)) (IsForAllCut (part_of (ground g.W.World.gives (g.W.Env.fixed c.args.world.now)) c.args.table.now ∷ parts_of (ground g.W.World.gives (g.W.Env.fixed c.args.world.now)) (all ts)) c.args.scope.now) (g.W.World.state c.args.world.now) (g.W.World.state c.perform.new.world)) (sym (formula_is (g.W.Env.fixed c.args.world.now).types c.args.scope.now c.args.table.now c.args.parts.now c.requires.0 c.requires.1 c.in-Some.formula.now _ c.in-Some.ensures.cases.0))
+    (cutting.for_all_first (ground g.W.World.gives (g.W.Env.fixed c.args.world.now)) c.args.scope.now (SilenceCause (g.W.Env.marks c.args.world.now) (g.W.Env.marks c.perform.new.world)) (g.W.World.state c.args.world.now) (g.W.World.state c.perform.new.world) c.args.table.now c.in_err-value.ensures.cut c.in-Some.formula.now))
 
 pub for_all-returns-in_err-values-in-Ok-clause-cut : goal.for_all-returns-in_err-values-in-Ok-clause-cut
 for_all-returns-in_err-values-in-Ok-clause-cut g t c =
     cutting.on_any c.from_residual-in_err-values-in-Ok.result
-    (subst (λ (ts : List Term). Goes (IsLost (g.W.Env.marks c.args.world.now) (g.W.Env.marks c.each.new.world)) (IsForAllCut (part_of (ground g.W.World.gives (g.W.Env.fixed c.args.world.now)) c.args.table.now ∷ parts_of (ground g.W.World.gives (g.W.Env.fixed c.args.world.now)) (all ts)) c.args.scope.now) (g.W.World.state c.args.world.now) (g.W.World.state c.each.new.world)) (sym (formula_is (g.W.Env.fixed c.args.world.now).types c.args.scope.now c.args.table.now c.args.parts.now c.requires.0 c.requires.1 c.in-Some.formula.now _ c.in-Some.ensures.cases.0))
+    (subst (λ (ts : List Term). MayFallSilent (SilenceCause (g.W.Env.marks c.args.world.now) (g.W.Env.marks c.each.new.world)) (IsForAllCut (part_of (ground g.W.World.gives (g.W.Env.fixed c.args.world.now)) c.args.table.now ∷ parts_of (ground g.W.World.gives (g.W.Env.fixed c.args.world.now)) (all ts)) c.args.scope.now) (g.W.World.state c.args.world.now) (g.W.World.state c.each.new.world)) (sym (formula_is (g.W.Env.fixed c.args.world.now).types c.args.scope.now c.args.table.now c.args.parts.now c.requires.0 c.requires.1 c.in-Some.formula.now _ c.in-Some.ensures.cases.0))
     (cutting.for_all_then (ground g.W.World.gives (g.W.Env.fixed c.args.world.now)) c.args.scope.now _ _ _ _ _ _ c.args.table.now (view c.in_ok-value.value) c.perform.ensures.passed.later c.each.ensures.passed.later (is_no_error _ c.in-Ok.ensures.1) c.in_ok-value.ensures.done c.in-Some.formula.now c.as_slice.result.now (c.as_slice.ensures ∙ c.in-Ok.ensures.0)
-    (steps.back (λ f h. Goes (IsLost (g.W.Env.marks c.perform.new.world) (g.W.Env.marks c.each.new.world)) (cutting.each_left (ground g.W.World.gives f) h c.in-Some.formula.now c.as_slice.result.now) (g.W.World.state c.perform.new.world) (g.W.World.state c.each.new.world)) _ _ _ _ c.perform.ensures.passed.fixed c.perform.ensures.scope c.in_err-values-in-Ok.ensures.cut)))
+    (steps.back (λ f h. MayFallSilent (SilenceCause (g.W.Env.marks c.perform.new.world) (g.W.Env.marks c.each.new.world)) (cutting.each_left (ground g.W.World.gives f) h c.in-Some.formula.now c.as_slice.result.now) (g.W.World.state c.perform.new.world) (g.W.World.state c.each.new.world)) _ _ _ _ c.perform.ensures.passed.fixed c.perform.ensures.scope c.in_err-values-in-Ok.ensures.cut)))
 
 pub for_all-returns-in_err-for_all-in-Ok-clause-cut : goal.for_all-returns-in_err-for_all-in-Ok-clause-cut
 for_all-returns-in_err-for_all-in-Ok-clause-cut g t c =
     cutting.on_any c.from_residual-in_err-for_all-in-Ok.result
-    (subst (λ (ts : List Term). Goes (IsLost (g.W.Env.marks c.args.world.now) (g.W.Env.marks c.each.new.world)) (IsForAllCut (part_of (ground g.W.World.gives (g.W.Env.fixed c.args.world.now)) c.args.table.now ∷ parts_of (ground g.W.World.gives (g.W.Env.fixed c.args.world.now)) (all ts)) c.args.scope.now) (g.W.World.state c.args.world.now) (g.W.World.state c.each.new.world)) (sym (formula_is (g.W.Env.fixed c.args.world.now).types c.args.scope.now c.args.table.now c.args.parts.now c.requires.0 c.requires.1 c.in-Some.formula.now _ c.in-Some.ensures.cases.0))
+    (subst (λ (ts : List Term). MayFallSilent (SilenceCause (g.W.Env.marks c.args.world.now) (g.W.Env.marks c.each.new.world)) (IsForAllCut (part_of (ground g.W.World.gives (g.W.Env.fixed c.args.world.now)) c.args.table.now ∷ parts_of (ground g.W.World.gives (g.W.Env.fixed c.args.world.now)) (all ts)) c.args.scope.now) (g.W.World.state c.args.world.now) (g.W.World.state c.each.new.world)) (sym (formula_is (g.W.Env.fixed c.args.world.now).types c.args.scope.now c.args.table.now c.args.parts.now c.requires.0 c.requires.1 c.in-Some.formula.now _ c.in-Some.ensures.cases.0))
     (cutting.for_all_behind (ground g.W.World.gives (g.W.Env.fixed c.args.world.now)) c.args.scope.now _ _ _ _ _ _ c.args.table.now (view c.in_ok-value.value) c.perform.ensures.passed.later c.each.ensures.passed.later (is_no_error _ c.in-Ok.ensures.1) c.in_ok-value.ensures.done c.in-Some.formula.now c.as_slice.result.now (map view c.in_ok-values-in-Ok.values.items) (c.as_slice.ensures ∙ c.in-Ok.ensures.0)
-    (steps.back (λ f h. Goes (IsLost (g.W.Env.marks c.perform.new.world) (g.W.Env.marks c.each.new.world)) (λ s u. AreEach (performing (ground g.W.World.gives f) c.in-Some.formula.now) h c.as_slice.result.now s (map view c.in_ok-values-in-Ok.values.items) u) (g.W.World.state c.perform.new.world) (g.W.World.state c.each.new.world)) _ _ _ _ c.perform.ensures.passed.fixed c.perform.ensures.scope c.in_ok-values-in-Ok.ensures.done)))
+    (steps.back (λ f h. MayFallSilent (SilenceCause (g.W.Env.marks c.perform.new.world) (g.W.Env.marks c.each.new.world)) (λ s u. PerformsEach (performing (ground g.W.World.gives f) c.in-Some.formula.now) h c.as_slice.result.now s (map view c.in_ok-values-in-Ok.values.items) u) (g.W.World.state c.perform.new.world) (g.W.World.state c.each.new.world)) _ _ _ _ c.perform.ensures.passed.fixed c.perform.ensures.scope c.in_ok-values-in-Ok.ensures.done)))
 
 pub update_if-returns-in_err-value-clause-cut : goal.update_if-returns-in_err-value-clause-cut
 update_if-returns-in_err-value-clause-cut g t c =
     cutting.on_any c.from_residual.result
-    (subst (λ (ts : List Term). Goes (IsLost (g.W.Env.marks c.args.world.now) (g.W.Env.marks c.perform.new.world)) (IsUpdateIfCut (ground g.W.World.gives (g.W.Env.fixed c.args.world.now)) c.args.target (parts_of (ground g.W.World.gives (g.W.Env.fixed c.args.world.now)) (all ts)) c.args.scope.now) (g.W.World.state c.args.world.now) (g.W.World.state c.perform.new.world)) (sym c.filter_and_change.ensures)
-    (cutting.update_first (ground g.W.World.gives (g.W.Env.fixed c.args.world.now)) c.args.scope.now (IsLost (g.W.Env.marks c.args.world.now) (g.W.Env.marks c.perform.new.world)) (g.W.World.state c.args.world.now) (g.W.World.state c.perform.new.world) c.filter_and_change.result.0.now c.in_err-value.ensures.cut c.args.target c.filter_and_change.result.1.now))
+    (subst (λ (ts : List Term). MayFallSilent (SilenceCause (g.W.Env.marks c.args.world.now) (g.W.Env.marks c.perform.new.world)) (IsUpdateIfCut (ground g.W.World.gives (g.W.Env.fixed c.args.world.now)) c.args.target (parts_of (ground g.W.World.gives (g.W.Env.fixed c.args.world.now)) (all ts)) c.args.scope.now) (g.W.World.state c.args.world.now) (g.W.World.state c.perform.new.world)) (sym c.filter_and_change.ensures)
+    (cutting.update_first (ground g.W.World.gives (g.W.Env.fixed c.args.world.now)) c.args.scope.now (SilenceCause (g.W.Env.marks c.args.world.now) (g.W.Env.marks c.perform.new.world)) (g.W.World.state c.args.world.now) (g.W.World.state c.perform.new.world) c.filter_and_change.result.0.now c.in_err-value.ensures.cut c.args.target c.filter_and_change.result.1.now))
 
 pub update_if-returns-in_err-changes-in-Ok-clause-cut : goal.update_if-returns-in_err-changes-in-Ok-clause-cut
 update_if-returns-in_err-changes-in-Ok-clause-cut g t c =
     cutting.on_any c.from_residual-in_err-changes-in-Ok.result
-    (subst (λ (ts : List Term). Goes (IsLost (g.W.Env.marks c.args.world.now) (g.W.Env.marks c.each.new.world)) (IsUpdateIfCut (ground g.W.World.gives (g.W.Env.fixed c.args.world.now)) c.args.target (parts_of (ground g.W.World.gives (g.W.Env.fixed c.args.world.now)) (all ts)) c.args.scope.now) (g.W.World.state c.args.world.now) (g.W.World.state c.each.new.world)) (sym c.filter_and_change.ensures)
+    (subst (λ (ts : List Term). MayFallSilent (SilenceCause (g.W.Env.marks c.args.world.now) (g.W.Env.marks c.each.new.world)) (IsUpdateIfCut (ground g.W.World.gives (g.W.Env.fixed c.args.world.now)) c.args.target (parts_of (ground g.W.World.gives (g.W.Env.fixed c.args.world.now)) (all ts)) c.args.scope.now) (g.W.World.state c.args.world.now) (g.W.World.state c.each.new.world)) (sym c.filter_and_change.ensures)
     (cutting.update_then (ground g.W.World.gives (g.W.Env.fixed c.args.world.now)) c.args.scope.now _ _ _ _ _ _ c.filter_and_change.result.0.now (view c.in_ok-value.value) c.perform.ensures.passed.later c.each.ensures.passed.later (is_no_error _ c.in-Ok.ensures.1) c.in_ok-value.ensures.done c.args.target c.filter_and_change.result.1.now c.as_slice-kept.result.now (c.as_slice-kept.ensures ∙ c.in-Ok.ensures.0)
-    (cutting.changes_first (IsLost (g.W.Env.marks c.perform.new.world) (g.W.Env.marks c.each.new.world)) (ground g.W.World.gives (g.W.Env.fixed c.args.world.now)) c.args.target c.filter_and_change.result.1.now c.args.scope.now c.as_slice-kept.result.now (g.W.World.state c.perform.new.world) (g.W.World.state c.each.new.world) (steps.back (λ f h. Goes (IsLost (g.W.Env.marks c.perform.new.world) (g.W.Env.marks c.each.new.world)) (cutting.each_left (ground g.W.World.gives f) h c.filter_and_change.result.1.now c.as_slice-kept.result.now) (g.W.World.state c.perform.new.world) (g.W.World.state c.each.new.world)) _ _ _ _ c.perform.ensures.passed.fixed c.perform.ensures.scope c.in_err-changes-in-Ok.ensures.cut))))
+    (cutting.changes_first (SilenceCause (g.W.Env.marks c.perform.new.world) (g.W.Env.marks c.each.new.world)) (ground g.W.World.gives (g.W.Env.fixed c.args.world.now)) c.args.target c.filter_and_change.result.1.now c.args.scope.now c.as_slice-kept.result.now (g.W.World.state c.perform.new.world) (g.W.World.state c.each.new.world) (steps.back (λ f h. MayFallSilent (SilenceCause (g.W.Env.marks c.perform.new.world) (g.W.Env.marks c.each.new.world)) (cutting.each_left (ground g.W.World.gives f) h c.filter_and_change.result.1.now c.as_slice-kept.result.now) (g.W.World.state c.perform.new.world) (g.W.World.state c.each.new.world)) _ _ _ _ c.perform.ensures.passed.fixed c.perform.ensures.scope c.in_err-changes-in-Ok.ensures.cut))))
 
 pub update_if-returns-in_ok-changes-in-Ok-clause-cut : goal.update_if-returns-in_ok-changes-in-Ok-clause-cut
 update_if-returns-in_ok-changes-in-Ok-clause-cut g t c =
     on_err_weaker c.update.result
-    (λ k. subst (λ (ts : List Term). Goes (IsLost (g.W.Env.marks c.args.world.now) (g.W.Env.marks c.update.new.world)) (IsUpdateIfCut (ground g.W.World.gives (g.W.Env.fixed c.args.world.now)) c.args.target (parts_of (ground g.W.World.gives (g.W.Env.fixed c.args.world.now)) (all ts)) c.args.scope.now) (g.W.World.state c.args.world.now) (g.W.World.state c.update.new.world)) (sym c.filter_and_change.ensures)
+    (λ k. subst (λ (ts : List Term). MayFallSilent (SilenceCause (g.W.Env.marks c.args.world.now) (g.W.Env.marks c.update.new.world)) (IsUpdateIfCut (ground g.W.World.gives (g.W.Env.fixed c.args.world.now)) c.args.target (parts_of (ground g.W.World.gives (g.W.Env.fixed c.args.world.now)) (all ts)) c.args.scope.now) (g.W.World.state c.args.world.now) (g.W.World.state c.update.new.world)) (sym c.filter_and_change.ensures)
     (cutting.update_then (ground g.W.World.gives (g.W.Env.fixed c.args.world.now)) c.args.scope.now _ _ _ _ _ _ c.filter_and_change.result.0.now (view c.in_ok-value.value) c.perform.ensures.passed.later (passed_on _ _ _ c.each.ensures.passed c.update.ensures.passed).later (is_no_error _ c.in-Ok.ensures.1) c.in_ok-value.ensures.done c.args.target c.filter_and_change.result.1.now c.as_slice-kept.result.now (c.as_slice-kept.ensures ∙ c.in-Ok.ensures.0)
-    (cutting.changes_then (ground g.W.World.gives (g.W.Env.fixed c.args.world.now)) c.args.target c.filter_and_change.result.1.now c.args.scope.now c.as_slice-kept.result.now (map view c.in_ok-changes-in-Ok.changes.items) _ _ _ _ _ _ c.each.ensures.passed.later c.update.ensures.passed.later (steps.back (λ f h. Goes (IsLost (g.W.Env.marks c.perform.new.world) (g.W.Env.marks c.each.new.world)) (λ s u. AreEach (performing (ground g.W.World.gives f) c.filter_and_change.result.1.now) h c.as_slice-kept.result.now s (map view c.in_ok-changes-in-Ok.changes.items) u) (g.W.World.state c.perform.new.world) (g.W.World.state c.each.new.world)) _ _ _ _ c.perform.ensures.passed.fixed c.perform.ensures.scope c.in_ok-changes-in-Ok.ensures.done)
-    (subst (λ (f : Fixed). Goes (IsLost (g.W.Env.marks c.each.new.world) (g.W.Env.marks c.update.new.world)) (CutUpdate (frame_of f) c.args.target c.as_slice-kept.result.now (map view c.in_ok-changes-in-Ok.changes.items)) (g.W.World.state c.each.new.world) (g.W.World.state c.update.new.world)) (c.each.ensures.passed.fixed ∙ c.perform.ensures.passed.fixed) (subst (λ vs. Goes (IsLost (g.W.Env.marks c.each.new.world) (g.W.Env.marks c.update.new.world)) (CutUpdate (frame_of (g.W.Env.fixed c.each.new.world)) c.args.target c.as_slice-kept.result.now (map view vs)) (g.W.World.state c.each.new.world) (g.W.World.state c.update.new.world)) c.as_slice.ensures.value k)))))
+    (cutting.changes_then (ground g.W.World.gives (g.W.Env.fixed c.args.world.now)) c.args.target c.filter_and_change.result.1.now c.args.scope.now c.as_slice-kept.result.now (map view c.in_ok-changes-in-Ok.changes.items) _ _ _ _ _ _ c.each.ensures.passed.later c.update.ensures.passed.later (steps.back (λ f h. MayFallSilent (SilenceCause (g.W.Env.marks c.perform.new.world) (g.W.Env.marks c.each.new.world)) (λ s u. PerformsEach (performing (ground g.W.World.gives f) c.filter_and_change.result.1.now) h c.as_slice-kept.result.now s (map view c.in_ok-changes-in-Ok.changes.items) u) (g.W.World.state c.perform.new.world) (g.W.World.state c.each.new.world)) _ _ _ _ c.perform.ensures.passed.fixed c.perform.ensures.scope c.in_ok-changes-in-Ok.ensures.done)
+    (subst (λ (f : Fixed). MayFallSilent (SilenceCause (g.W.Env.marks c.each.new.world) (g.W.Env.marks c.update.new.world)) (CutUpdate (eval_frame f) c.args.target c.as_slice-kept.result.now (map view c.in_ok-changes-in-Ok.changes.items)) (g.W.World.state c.each.new.world) (g.W.World.state c.update.new.world)) (c.each.ensures.passed.fixed ∙ c.perform.ensures.passed.fixed) (subst (λ vs. MayFallSilent (SilenceCause (g.W.Env.marks c.each.new.world) (g.W.Env.marks c.update.new.world)) (CutUpdate (eval_frame (g.W.Env.fixed c.each.new.world)) c.args.target c.as_slice-kept.result.now (map view vs)) (g.W.World.state c.each.new.world) (g.W.World.state c.update.new.world)) c.as_slice.ensures.value k)))))
     c.update.ensures.cut
 
 pub act_deed-returns-in-UpdateIf-clause-cut : goal.act_deed-returns-in-UpdateIf-clause-cut
 act_deed-returns-in-UpdateIf-clause-cut g t c =
-    subst (λ (d : Deed). OnErr c.update_if.result (Goes (IsLost (g.W.Env.marks c.args.world.now) (g.W.Env.marks c.update_if.new.world)) (IsActCut (ground g.W.World.gives (g.W.Env.fixed c.args.world.now)) d (parts_of (ground g.W.World.gives (g.W.Env.fixed c.args.world.now)) (all c.args.parts.now)) c.args.scope.now) (g.W.World.state c.args.world.now) (g.W.World.state c.update_if.new.world))) (sym c.in-UpdateIf.is) c.update_if.ensures.cut
+    subst (λ (d : Deed). OnErr c.update_if.result (MayFallSilent (SilenceCause (g.W.Env.marks c.args.world.now) (g.W.Env.marks c.update_if.new.world)) (IsActCut (ground g.W.World.gives (g.W.Env.fixed c.args.world.now)) d (parts_of (ground g.W.World.gives (g.W.Env.fixed c.args.world.now)) (all c.args.parts.now)) c.args.scope.now) (g.W.World.state c.args.world.now) (g.W.World.state c.update_if.new.world))) (sym c.in-UpdateIf.is) c.update_if.ensures.cut
 
 pub act_deed-returns-in_err-values-in_default-clause-cut : goal.act_deed-returns-in_err-values-in_default-clause-cut
 act_deed-returns-in_err-values-in_default-clause-cut g t c =
     cutting.on_any c.from_residual.result
-    (cutting.deed_first (IsLost (g.W.Env.marks c.args.world.now) (g.W.Env.marks c.part_values.new.world)) (ground g.W.World.gives (g.W.Env.fixed c.args.world.now)) c.args.deed.now c.args.parts.now c.args.scope.now (g.W.World.state c.args.world.now) (g.W.World.state c.part_values.new.world) (acted.not_updating c.args.deed.now c.in_default.not-UpdateIf) c.in_err-values-in_default.ensures.cut)
+    (cutting.deed_first (SilenceCause (g.W.Env.marks c.args.world.now) (g.W.Env.marks c.part_values.new.world)) (ground g.W.World.gives (g.W.Env.fixed c.args.world.now)) c.args.deed.now c.args.parts.now c.args.scope.now (g.W.World.state c.args.world.now) (g.W.World.state c.part_values.new.world) (acted.not_updating c.args.deed.now c.in_default.not-UpdateIf) c.in_err-values-in_default.ensures.cut)
 
 pub in_scope-returns-in_err-push-clause-cut : goal.in_scope-returns-in_err-push-clause-cut
 in_scope-returns-in_err-push-clause-cut g t c =
     cutting.on_any c.from_residual.result
-    (cutting.tree_nowhere (IsLost (g.W.Env.marks c.args.world.now) (g.W.Env.marks c.args.world.now)) (ground g.W.World.gives (g.W.Env.fixed c.args.world.now)) c.args.formula.now (inner c.args.scope.now (view c.args.row)) (g.W.World.state c.args.world.now))
+    (cutting.tree_nowhere (SilenceCause (g.W.Env.marks c.args.world.now) (g.W.Env.marks c.args.world.now)) (ground g.W.World.gives (g.W.Env.fixed c.args.world.now)) c.args.formula.now (inner c.args.scope.now (view c.args.row)) (g.W.World.state c.args.world.now))

@@ -1,5 +1,5 @@
 use Rattle.std.proofs.Common.{◌≡◌, ◌≤◌, ◌+◌, ◌*◌, ◌++◌, List, length, map, true}
-use Rattle.fx_base.specs.Silence.{Goes, IsLost}
+use Rattle.fx_base.specs.Silence.{MayFallSilent, SilenceCause}
 use Rattle.fx_types.specs.Types.{Shape}
 use Rattle.fx_types.specs.ValueView.{view}
 use Rattle.fx_semantics.specs.Sound.{AreFit}
@@ -9,14 +9,14 @@ use Rattle.fx_core.specs.Term.{all, term_size, terms_size}
 use Rattle.fx_value.specs.Fits.{fits_in}
 use Rattle.fx_core.specs.declared.sources.Source.{Source}
 use Rattle.fx_deeds.specs.Fitting.{AreOf}
-use Rattle.fx_deeds.specs.Lefts.{Decides}
-use Rattle.fx_deeds.specs.Stages.{Passed, stage}
+use Rattle.fx_deeds.specs.RemainingRows.{RestDecides}
+use Rattle.fx_deeds.specs.WorldSteps.{Passed, stage}
 use Rattle.fx_deeds.specs.State.{ground}
 use Rattle.fx_deeds.specs.Writable.{WritesOnly}
 use Rattle.fx_behave.proofs.Cutting.{Carries, branches_left, each_left, parts_left, recovery_left}
 use Rattle.fx_behave.proofs.Sequences.{DecideAll, branches_of, chain_of, each_of, parts_of, recovery_of}
-use Rattle.fx_behave.specs.Actable.{AreActable, AreBranches, AreRecoveries, EndsIn, IsActableInside, IsMatchedBy}
-use Rattle.fx_behave.specs.Perform.{matching}
+use Rattle.fx_behave.specs.Actable.{AreActable, AreActingBranches, AreActingRecoveries, LastHasType, IsActableInside, IsMatchedBy}
+use Rattle.fx_behave.specs.Perform.{switch_decision}
 use Rattle.fx_behave.specs.Writable.{AnyMayWrite, MayWrite}
 use Rattle.fx_behave.proofs.acting.+perform.Given as goal
 
@@ -74,11 +74,11 @@ invariant-chain-loop-part g l = record {
   passed : Passed (stage (g.W.Env.fixed l.fn.world) (g.W.World.state l.fn.world) (g.W.Env.marks l.fn.world) (g.W.Env.visited l.fn.world))
       (stage (g.W.Env.fixed l.world) (g.W.World.state l.world) (g.W.Env.marks l.world) (g.W.Env.visited l.world));
   allowed : (x : Source) → AnyMayWrite (all l.rest) x → AnyMayWrite (all l.parts) x;
-  only : Goes (IsLost (g.W.Env.marks l.fn.world) (g.W.Env.marks l.world)) (WritesOnly (AnyMayWrite (all l.parts))) (g.W.World.state l.fn.world) (g.W.World.state l.world);
+  only : MayFallSilent (SilenceCause (g.W.Env.marks l.fn.world) (g.W.Env.marks l.world)) (WritesOnly (AnyMayWrite (all l.parts))) (g.W.World.state l.fn.world) (g.W.World.state l.world);
   scope : l.scope ≡ l.fn.scope;
-  fits : (u : Shape) → EndsIn (g.W.Env.fixed l.fn.world).types l.fn.scope u l.parts → EndsIn (g.W.Env.fixed l.fn.world).types l.fn.scope u l.rest;
-  done : Goes (IsLost (g.W.Env.marks l.fn.world) (g.W.Env.marks l.world)) (Decides (chain_of (ground g.W.World.gives (g.W.Env.fixed l.fn.world)) l.fn.scope l.rest) (chain_of (ground g.W.World.gives (g.W.Env.fixed l.fn.world)) l.fn.scope l.parts)) (g.W.World.state l.fn.world) (g.W.World.state l.world);
-  cut : Goes (IsLost (g.W.Env.marks l.fn.world) (g.W.Env.marks l.world)) (Carries (parts_left (ground g.W.World.gives (g.W.Env.fixed l.fn.world)) l.fn.scope l.rest) (parts_left (ground g.W.World.gives (g.W.Env.fixed l.fn.world)) l.fn.scope l.parts)) (g.W.World.state l.fn.world) (g.W.World.state l.world);
+  fits : (u : Shape) → LastHasType (g.W.Env.fixed l.fn.world).types l.fn.scope u l.parts → LastHasType (g.W.Env.fixed l.fn.world).types l.fn.scope u l.rest;
+  done : MayFallSilent (SilenceCause (g.W.Env.marks l.fn.world) (g.W.Env.marks l.world)) (RestDecides (chain_of (ground g.W.World.gives (g.W.Env.fixed l.fn.world)) l.fn.scope l.rest) (chain_of (ground g.W.World.gives (g.W.Env.fixed l.fn.world)) l.fn.scope l.parts)) (g.W.World.state l.fn.world) (g.W.World.state l.world);
+  cut : MayFallSilent (SilenceCause (g.W.Env.marks l.fn.world) (g.W.Env.marks l.world)) (Carries (parts_left (ground g.W.World.gives (g.W.Env.fixed l.fn.world)) l.fn.scope l.rest) (parts_left (ground g.W.World.gives (g.W.Env.fixed l.fn.world)) l.fn.scope l.parts)) (g.W.World.state l.fn.world) (g.W.World.state l.world);
   small : terms_size (all l.rest) ≤ terms_size (all l.parts);
 }
 
@@ -91,11 +91,11 @@ invariant-branches-loop-part g l = record {
   passed : Passed (stage (g.W.Env.fixed l.fn.world) (g.W.World.state l.fn.world) (g.W.Env.marks l.fn.world) (g.W.Env.visited l.fn.world))
       (stage (g.W.Env.fixed l.world) (g.W.World.state l.world) (g.W.Env.marks l.world) (g.W.Env.visited l.world));
   allowed : (x : Source) → AnyMayWrite (all l.rest) x → AnyMayWrite (all l.parts) x;
-  only : Goes (IsLost (g.W.Env.marks l.fn.world) (g.W.Env.marks l.world)) (WritesOnly (AnyMayWrite (all l.parts))) (g.W.World.state l.fn.world) (g.W.World.state l.world);
+  only : MayFallSilent (SilenceCause (g.W.Env.marks l.fn.world) (g.W.Env.marks l.world)) (WritesOnly (AnyMayWrite (all l.parts))) (g.W.World.state l.fn.world) (g.W.World.state l.world);
   scope : l.scope ≡ l.fn.scope;
-  fits : (u : Shape) → AreBranches (g.W.Env.fixed l.fn.world).types l.fn.scope u l.parts → AreBranches (g.W.Env.fixed l.fn.world).types l.fn.scope u l.rest;
-  done : Goes (IsLost (g.W.Env.marks l.fn.world) (g.W.Env.marks l.world)) (Decides (branches_of decision_of (ground g.W.World.gives (g.W.Env.fixed l.fn.world)) l.fn.scope l.rest) (branches_of decision_of (ground g.W.World.gives (g.W.Env.fixed l.fn.world)) l.fn.scope l.parts)) (g.W.World.state l.fn.world) (g.W.World.state l.world);
-  cut : Goes (IsLost (g.W.Env.marks l.fn.world) (g.W.Env.marks l.world)) (Carries (branches_left decision_of (ground g.W.World.gives (g.W.Env.fixed l.fn.world)) l.fn.scope l.rest) (branches_left decision_of (ground g.W.World.gives (g.W.Env.fixed l.fn.world)) l.fn.scope l.parts)) (g.W.World.state l.fn.world) (g.W.World.state l.world);
+  fits : (u : Shape) → AreActingBranches (g.W.Env.fixed l.fn.world).types l.fn.scope u l.parts → AreActingBranches (g.W.Env.fixed l.fn.world).types l.fn.scope u l.rest;
+  done : MayFallSilent (SilenceCause (g.W.Env.marks l.fn.world) (g.W.Env.marks l.world)) (RestDecides (branches_of decision_of (ground g.W.World.gives (g.W.Env.fixed l.fn.world)) l.fn.scope l.rest) (branches_of decision_of (ground g.W.World.gives (g.W.Env.fixed l.fn.world)) l.fn.scope l.parts)) (g.W.World.state l.fn.world) (g.W.World.state l.world);
+  cut : MayFallSilent (SilenceCause (g.W.Env.marks l.fn.world) (g.W.Env.marks l.world)) (Carries (branches_left decision_of (ground g.W.World.gives (g.W.Env.fixed l.fn.world)) l.fn.scope l.rest) (branches_left decision_of (ground g.W.World.gives (g.W.Env.fixed l.fn.world)) l.fn.scope l.parts)) (g.W.World.state l.fn.world) (g.W.World.state l.world);
   small : terms_size (all l.rest) ≤ terms_size (all l.parts);
 }
 
@@ -108,12 +108,12 @@ invariant-matches-loop-part g l = record {
   passed : Passed (stage (g.W.Env.fixed l.fn.world) (g.W.World.state l.fn.world) (g.W.Env.marks l.fn.world) (g.W.Env.visited l.fn.world))
       (stage (g.W.Env.fixed l.world) (g.W.World.state l.world) (g.W.Env.marks l.world) (g.W.Env.visited l.world));
   allowed : (x : Source) → AnyMayWrite (all l.rest) x → AnyMayWrite (all l.parts) x;
-  only : Goes (IsLost (g.W.Env.marks l.fn.world) (g.W.Env.marks l.world)) (WritesOnly (AnyMayWrite (all l.parts))) (g.W.World.state l.fn.world) (g.W.World.state l.world);
+  only : MayFallSilent (SilenceCause (g.W.Env.marks l.fn.world) (g.W.Env.marks l.world)) (WritesOnly (AnyMayWrite (all l.parts))) (g.W.World.state l.fn.world) (g.W.World.state l.world);
   scope : l.scope ≡ l.fn.scope;
   wanted : l.wanted ≡ l.fn.wanted;
   fits : (u : Shape) → IsMatchedBy (g.W.Env.fixed l.fn.world).types l.fn.scope (view l.fn.wanted) u l.parts → IsMatchedBy (g.W.Env.fixed l.fn.world).types l.fn.scope (view l.fn.wanted) u l.rest;
-  done : Goes (IsLost (g.W.Env.marks l.fn.world) (g.W.Env.marks l.world)) (Decides (branches_of (matching (view l.fn.wanted)) (ground g.W.World.gives (g.W.Env.fixed l.fn.world)) l.fn.scope l.rest) (branches_of (matching (view l.fn.wanted)) (ground g.W.World.gives (g.W.Env.fixed l.fn.world)) l.fn.scope l.parts)) (g.W.World.state l.fn.world) (g.W.World.state l.world);
-  cut : Goes (IsLost (g.W.Env.marks l.fn.world) (g.W.Env.marks l.world)) (Carries (branches_left (matching (view l.fn.wanted)) (ground g.W.World.gives (g.W.Env.fixed l.fn.world)) l.fn.scope l.rest) (branches_left (matching (view l.fn.wanted)) (ground g.W.World.gives (g.W.Env.fixed l.fn.world)) l.fn.scope l.parts)) (g.W.World.state l.fn.world) (g.W.World.state l.world);
+  done : MayFallSilent (SilenceCause (g.W.Env.marks l.fn.world) (g.W.Env.marks l.world)) (RestDecides (branches_of (switch_decision (view l.fn.wanted)) (ground g.W.World.gives (g.W.Env.fixed l.fn.world)) l.fn.scope l.rest) (branches_of (switch_decision (view l.fn.wanted)) (ground g.W.World.gives (g.W.Env.fixed l.fn.world)) l.fn.scope l.parts)) (g.W.World.state l.fn.world) (g.W.World.state l.world);
+  cut : MayFallSilent (SilenceCause (g.W.Env.marks l.fn.world) (g.W.Env.marks l.world)) (Carries (branches_left (switch_decision (view l.fn.wanted)) (ground g.W.World.gives (g.W.Env.fixed l.fn.world)) l.fn.scope l.rest) (branches_left (switch_decision (view l.fn.wanted)) (ground g.W.World.gives (g.W.Env.fixed l.fn.world)) l.fn.scope l.parts)) (g.W.World.state l.fn.world) (g.W.World.state l.world);
   small : terms_size (all l.rest) ≤ terms_size (all l.parts);
 }
 
@@ -126,11 +126,11 @@ invariant-recover-loop-part g l = record {
   passed : Passed (stage (g.W.Env.fixed l.fn.world) (g.W.World.state l.fn.world) (g.W.Env.marks l.fn.world) (g.W.Env.visited l.fn.world))
       (stage (g.W.Env.fixed l.world) (g.W.World.state l.world) (g.W.Env.marks l.world) (g.W.Env.visited l.world));
   allowed : (x : Source) → AnyMayWrite (all l.rest) x → AnyMayWrite (all l.parts) x;
-  only : Goes (IsLost (g.W.Env.marks l.fn.world) (g.W.Env.marks l.world)) (WritesOnly (AnyMayWrite (all l.parts))) (g.W.World.state l.fn.world) (g.W.World.state l.world);
+  only : MayFallSilent (SilenceCause (g.W.Env.marks l.fn.world) (g.W.Env.marks l.world)) (WritesOnly (AnyMayWrite (all l.parts))) (g.W.World.state l.fn.world) (g.W.World.state l.world);
   scope : l.scope ≡ l.fn.scope;
-  fits : (u : Shape) → AreRecoveries (g.W.Env.fixed l.fn.world).types l.fn.scope u l.parts → AreRecoveries (g.W.Env.fixed l.fn.world).types l.fn.scope u l.rest × (fits_in (view l.last) u ≡ true);
-  done : Goes (IsLost (g.W.Env.marks l.fn.world) (g.W.Env.marks l.world)) (Decides (recovery_of (ground g.W.World.gives (g.W.Env.fixed l.fn.world)) l.fn.scope (view l.last) l.rest) (recovery_of (ground g.W.World.gives (g.W.Env.fixed l.fn.world)) l.fn.scope (none_left form.IfError) l.parts)) (g.W.World.state l.fn.world) (g.W.World.state l.world);
-  cut : Goes (IsLost (g.W.Env.marks l.fn.world) (g.W.Env.marks l.world)) (Carries (recovery_left (ground g.W.World.gives (g.W.Env.fixed l.fn.world)) l.fn.scope l.rest) (recovery_left (ground g.W.World.gives (g.W.Env.fixed l.fn.world)) l.fn.scope l.parts)) (g.W.World.state l.fn.world) (g.W.World.state l.world);
+  fits : (u : Shape) → AreActingRecoveries (g.W.Env.fixed l.fn.world).types l.fn.scope u l.parts → AreActingRecoveries (g.W.Env.fixed l.fn.world).types l.fn.scope u l.rest × (fits_in (view l.last) u ≡ true);
+  done : MayFallSilent (SilenceCause (g.W.Env.marks l.fn.world) (g.W.Env.marks l.world)) (RestDecides (recovery_of (ground g.W.World.gives (g.W.Env.fixed l.fn.world)) l.fn.scope (view l.last) l.rest) (recovery_of (ground g.W.World.gives (g.W.Env.fixed l.fn.world)) l.fn.scope (none_left form.IfError) l.parts)) (g.W.World.state l.fn.world) (g.W.World.state l.world);
+  cut : MayFallSilent (SilenceCause (g.W.Env.marks l.fn.world) (g.W.Env.marks l.world)) (Carries (recovery_left (ground g.W.World.gives (g.W.Env.fixed l.fn.world)) l.fn.scope l.rest) (recovery_left (ground g.W.World.gives (g.W.Env.fixed l.fn.world)) l.fn.scope l.parts)) (g.W.World.state l.fn.world) (g.W.World.state l.world);
   small : terms_size (all l.rest) ≤ terms_size (all l.parts);
 }
 
@@ -142,11 +142,11 @@ abbrev pub invariant-each-loop-row : goal.invariant-each-loop-row
 invariant-each-loop-row g l = record {
   passed : Passed (stage (g.W.Env.fixed l.fn.world) (g.W.World.state l.fn.world) (g.W.Env.marks l.fn.world) (g.W.Env.visited l.fn.world))
       (stage (g.W.Env.fixed l.world) (g.W.World.state l.world) (g.W.Env.marks l.world) (g.W.Env.visited l.world));
-  only : Goes (IsLost (g.W.Env.marks l.fn.world) (g.W.Env.marks l.world)) (WritesOnly (MayWrite l.formula)) (g.W.World.state l.fn.world) (g.W.World.state l.world);
+  only : MayFallSilent (SilenceCause (g.W.Env.marks l.fn.world) (g.W.Env.marks l.world)) (WritesOnly (MayWrite l.formula)) (g.W.World.state l.fn.world) (g.W.World.state l.world);
   scope : l.scope ≡ l.fn.scope;
   fits : (u : Shape) → IsActableInside (g.W.Env.fixed l.fn.world).types l.fn.scope u l.formula l.rows → IsActableInside (g.W.Env.fixed l.fn.world).types l.fn.scope u l.formula l.rest × AreOf u (map view l.values.items);
-  done : Goes (IsLost (g.W.Env.marks l.fn.world) (g.W.Env.marks l.world)) (DecideAll (map view l.values.items) (each_of (ground g.W.World.gives (g.W.Env.fixed l.fn.world)) l.fn.scope l.formula l.rest) (each_of (ground g.W.World.gives (g.W.Env.fixed l.fn.world)) l.fn.scope l.formula l.rows)) (g.W.World.state l.fn.world) (g.W.World.state l.world);
-  cut : Goes (IsLost (g.W.Env.marks l.fn.world) (g.W.Env.marks l.world)) (Carries (each_left (ground g.W.World.gives (g.W.Env.fixed l.fn.world)) l.fn.scope l.formula l.rest) (each_left (ground g.W.World.gives (g.W.Env.fixed l.fn.world)) l.fn.scope l.formula l.rows)) (g.W.World.state l.fn.world) (g.W.World.state l.world);
+  done : MayFallSilent (SilenceCause (g.W.Env.marks l.fn.world) (g.W.Env.marks l.world)) (DecideAll (map view l.values.items) (each_of (ground g.W.World.gives (g.W.Env.fixed l.fn.world)) l.fn.scope l.formula l.rest) (each_of (ground g.W.World.gives (g.W.Env.fixed l.fn.world)) l.fn.scope l.formula l.rows)) (g.W.World.state l.fn.world) (g.W.World.state l.world);
+  cut : MayFallSilent (SilenceCause (g.W.Env.marks l.fn.world) (g.W.Env.marks l.world)) (Carries (each_left (ground g.W.World.gives (g.W.Env.fixed l.fn.world)) l.fn.scope l.formula l.rest) (each_left (ground g.W.World.gives (g.W.Env.fixed l.fn.world)) l.fn.scope l.formula l.rows)) (g.W.World.state l.fn.world) (g.W.World.state l.world);
 }
 
 abbrev pub decreases-part_values-loop-part : goal.decreases-part_values-loop-part
@@ -158,10 +158,10 @@ invariant-part_values-loop-part g l = record {
   passed : Passed (stage (g.W.Env.fixed l.fn.world) (g.W.World.state l.fn.world) (g.W.Env.marks l.fn.world) (g.W.Env.visited l.fn.world))
       (stage (g.W.Env.fixed l.world) (g.W.World.state l.world) (g.W.Env.marks l.world) (g.W.Env.visited l.world));
   allowed : (x : Source) → AnyMayWrite (all l.rest) x → AnyMayWrite (all l.parts) x;
-  only : Goes (IsLost (g.W.Env.marks l.fn.world) (g.W.Env.marks l.world)) (WritesOnly (AnyMayWrite (all l.parts))) (g.W.World.state l.fn.world) (g.W.World.state l.world);
+  only : MayFallSilent (SilenceCause (g.W.Env.marks l.fn.world) (g.W.Env.marks l.world)) (WritesOnly (AnyMayWrite (all l.parts))) (g.W.World.state l.fn.world) (g.W.World.state l.world);
   scope : l.scope ≡ l.fn.scope;
   fits : (us : List Shape) → AreActable (g.W.Env.fixed l.fn.world).types l.fn.scope us l.parts → (done : List Shape) × (left : List Shape) × (us ≡ done ++ left) × AreFit (map view l.values.items) done × AreActable (g.W.Env.fixed l.fn.world).types l.fn.scope left l.rest;
-  done : Goes (IsLost (g.W.Env.marks l.fn.world) (g.W.Env.marks l.world)) (DecideAll (map view l.values.items) (parts_of (ground g.W.World.gives (g.W.Env.fixed l.fn.world)) l.fn.scope l.rest) (parts_of (ground g.W.World.gives (g.W.Env.fixed l.fn.world)) l.fn.scope l.parts)) (g.W.World.state l.fn.world) (g.W.World.state l.world);
-  cut : Goes (IsLost (g.W.Env.marks l.fn.world) (g.W.Env.marks l.world)) (Carries (parts_left (ground g.W.World.gives (g.W.Env.fixed l.fn.world)) l.fn.scope l.rest) (parts_left (ground g.W.World.gives (g.W.Env.fixed l.fn.world)) l.fn.scope l.parts)) (g.W.World.state l.fn.world) (g.W.World.state l.world);
+  done : MayFallSilent (SilenceCause (g.W.Env.marks l.fn.world) (g.W.Env.marks l.world)) (DecideAll (map view l.values.items) (parts_of (ground g.W.World.gives (g.W.Env.fixed l.fn.world)) l.fn.scope l.rest) (parts_of (ground g.W.World.gives (g.W.Env.fixed l.fn.world)) l.fn.scope l.parts)) (g.W.World.state l.fn.world) (g.W.World.state l.world);
+  cut : MayFallSilent (SilenceCause (g.W.Env.marks l.fn.world) (g.W.Env.marks l.world)) (Carries (parts_left (ground g.W.World.gives (g.W.Env.fixed l.fn.world)) l.fn.scope l.rest) (parts_left (ground g.W.World.gives (g.W.Env.fixed l.fn.world)) l.fn.scope l.parts)) (g.W.World.state l.fn.world) (g.W.World.state l.world);
   small : terms_size (all l.rest) ≤ terms_size (all l.parts);
 }

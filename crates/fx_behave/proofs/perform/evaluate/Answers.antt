@@ -1,7 +1,7 @@
 use Rattle.std.proofs.lemmas.Result.{IfOk-weaker}
 use Rattle.std.proofs.Common.{◌∙◌}
 use Rattle.fx_base.proofs.Silences.{goes_two}
-use Rattle.fx_base.specs.Silence.{IsLost}
+use Rattle.fx_base.specs.Silence.{SilenceCause}
 use Rattle.fx_base.specs.Telling.{Stays}
 use Rattle.fx_types.specs.ValueView.{view}
 use Rattle.fx_deeds.proofs.Passing.{passed_on, passed_staying, same_state}
@@ -48,7 +48,7 @@ returns-in_err-ready-clause-passed g c =
 
 pub returns-in_err-taking-clause-stays : goal.returns-in_err-taking-clause-stays
 returns-in_err-taking-clause-stays g c =
-    same_state (IsLost (g.W.Env.marks c.args.world.now) (g.W.Env.marks c.args.world.now)) (g.W.World.state c.args.world.now)
+    same_state (SilenceCause (g.W.Env.marks c.args.world.now) (g.W.Env.marks c.args.world.now)) (g.W.World.state c.args.world.now)
 
 pub returns-clause-stays : goal.returns-clause-stays
 returns-clause-stays g c =

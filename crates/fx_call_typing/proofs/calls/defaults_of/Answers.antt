@@ -4,7 +4,7 @@ use Rattle.fx_typing.specs.Builds.{blank_record}
 use Rattle.fx_typing.specs.Calls.{defaults_of}
 use Rattle.fx_typing.specs.Targets.{rows_named}
 use Rattle.fx_typing.specs.TypedView.{typed}
-use Rattle.fx_resolve.specs.PartView.{part}
+use Rattle.fx_resolve.specs.PartView.{judged_part}
 use Rattle.fx_call_typing.specs.Changes.{changing_view}
 use Rattle.fx_call_typing.proofs.RowSteps.{rows_stop}
 use Rattle.fx_call_typing.proofs.Named.{name_goes}
@@ -15,5 +15,5 @@ returns-in_err-rows c =
     let p = err_from_is_err_and c.from_residual-in_err-rows.result c.from_residual-in_err-rows.ensures.1 in
     let n = c.args.names.now in
     rw (p.1, p.2)
-    (name_goes typed (map part c.args.all.items) (c.in_ok-name.name, map part c.in_ok-name.field-0-1.items) (defaults_of n) (Err c.in_err-rows.field-0.0) c.in_ok-name.ensures
+    (name_goes typed (map judged_part c.args.all.items) (c.in_ok-name.name, map judged_part c.in_ok-name.field-0-1.items) (defaults_of n) (Err c.in_err-rows.field-0.0) c.in_ok-name.ensures
     (rows_stop changing_view typed (rows_named n c.in_ok-name.name) (λ r. Ok (blank_record r.1)) c.in_err-rows.field-0.0 c.in_err-rows.ensures))

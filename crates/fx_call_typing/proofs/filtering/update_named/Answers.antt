@@ -6,7 +6,7 @@ use Rattle.fx_typing.specs.Parts.{values}
 use Rattle.fx_typing.specs.Targets.{rows_named}
 use Rattle.fx_typing.specs.declared.typed.Typed.{Typed}
 use Rattle.fx_typing.specs.TypedView.{typed}
-use Rattle.fx_resolve.specs.PartView.{part}
+use Rattle.fx_resolve.specs.PartView.{judged_part}
 use Rattle.fx_core.specs.Term.{Term}
 use Rattle.fx_call_typing.specs.Changes.{changing_view}
 use Rattle.fx_node_typing.proofs.Exits.{first_stops, goes_on}
@@ -17,7 +17,7 @@ pub returns-in_err-changes : goal.returns-in_err-changes
 returns-in_err-changes c =
     let p = err_from_is_err_and c.from_residual.result c.from_residual.ensures.1 in
     rw (p.1, p.2)
-    (first_stops (λ (x : Vec Typed Global). map typed x.items) typed (values (map part c.args.changes.items)) _ c.in_err-changes.field-0.0 c.in_err-changes.ensures)
+    (first_stops (λ (x : Vec Typed Global). map typed x.items) typed (values (map judged_part c.args.changes.items)) _ c.in_err-changes.field-0.0 c.in_err-changes.ensures)
 
 pub returns-in_err-rows : goal.returns-in_err-rows
 returns-in_err-rows c =
@@ -25,12 +25,12 @@ returns-in_err-rows c =
     let o = rows_named c.args.names.now c.args.name.now in
     let xs = map typed c.in_ok-changes.changes.items in
     rw (p.1, p.2)
-    (goes_on typed (values (map part c.args.changes.items)) xs (λ (xs : List (Term × Shape)). by_rows o (λ r. update_to r c.args.alias (part c.args.condition) xs)) (Err c.in_err-rows.field-0.0) c.in_ok-changes.ensures
-    (rows_stop changing_view typed o (λ r. update_to r c.args.alias (part c.args.condition) xs) c.in_err-rows.field-0.0 c.in_err-rows.ensures))
+    (goes_on typed (values (map judged_part c.args.changes.items)) xs (λ (xs : List (Term × Shape)). by_rows o (λ r. update_to r c.args.alias (judged_part c.args.condition) xs)) (Err c.in_err-rows.field-0.0) c.in_ok-changes.ensures
+    (rows_stop changing_view typed o (λ r. update_to r c.args.alias (judged_part c.args.condition) xs) c.in_err-rows.field-0.0 c.in_err-rows.ensures))
 
 pub returns : goal.returns
 returns c =
     let o = rows_named c.args.names.now c.args.name.now in
     let xs = map typed c.in_ok-changes.changes.items in
-    goes_on typed (values (map part c.args.changes.items)) xs (λ (xs : List (Term × Shape)). by_rows o (λ r. update_to r c.args.alias (part c.args.condition) xs)) c.update_to.result c.in_ok-changes.ensures
-    (rows_go typed o (changing_view c.in_ok-rows.rows) (λ r. update_to r c.args.alias (part c.args.condition) xs) c.update_to.result c.in_ok-rows.ensures c.update_to.ensures)
+    goes_on typed (values (map judged_part c.args.changes.items)) xs (λ (xs : List (Term × Shape)). by_rows o (λ r. update_to r c.args.alias (judged_part c.args.condition) xs)) c.update_to.result c.in_ok-changes.ensures
+    (rows_go typed o (changing_view c.in_ok-rows.rows) (λ r. update_to r c.args.alias (judged_part c.args.condition) xs) c.update_to.result c.in_ok-rows.ensures c.update_to.ensures)

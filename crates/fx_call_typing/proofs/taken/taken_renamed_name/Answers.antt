@@ -1,6 +1,6 @@
 use Rattle.std.proofs.Common.{◌≡◌, None, ap, map, option_map, sym, ◌∙◌}
-use Rattle.fx_typing.specs.Breaks.{taken_or}
-use Rattle.fx_resolve.specs.PartView.{part}
+use Rattle.fx_typing.specs.Breaks.{name_taken_or}
+use Rattle.fx_resolve.specs.PartView.{judged_part}
 use Rattle.fx_call_typing.proofs.InTurn.{renamed_step}
 use Rattle.fx_call_typing.proofs.taken.taken_renamed_name.Goals as goal
 
@@ -9,8 +9,8 @@ loop-more-preserved c =
     let o = option_map (λ w. w.now) c.name_of.result in
     let m = option_map (λ w. w.now) c.name_of-new.result in
     let ns = map (λ w. w.now) c.loop-more.names.items in
-    let free : taken_or m ns None ≡ None =
-    sym (c.find_name.ensures ∙ ap (λ ws. taken_or m (map (λ w. w.now) ws) None) c.as_slice.ensures.value) ∙ ap (option_map (λ w. w.now)) c.in_default-find_name.is in
-    renamed_step part c.loop-more.more.now c.old-item.result c.new-item.result o m ns (map (λ w. w.now) c.in_ok-names.names.items)
+    let free : name_taken_or m ns None ≡ None =
+    sym (c.find_name.ensures ∙ ap (λ ws. name_taken_or m (map (λ w. w.now) ws) None) c.as_slice.ensures.value) ∙ ap (option_map (λ w. w.now)) c.in_default-find_name.is in
+    renamed_step judged_part c.loop-more.more.now c.old-item.result c.new-item.result o m ns (map (λ w. w.now) c.in_ok-names.names.items)
     c.in-len2-up.len_at_least c.old-item.is c.new-item.is c.name_of.ensures c.name_of-new.ensures free c.in_ok-names.ensures
     ∙ c.loop-more.invariant

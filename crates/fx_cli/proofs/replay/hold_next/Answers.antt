@@ -2,10 +2,10 @@ use Rattle.std.proofs.Common.{◌≡◌, true, length, refl, subst, sym, rules, 
 use Rattle.fx_base.specs.Faults.{Rose}
 use Rattle.fx_base.specs.Telling.{Tells}
 use Rattle.fx_base.proofs.Chains.{told}
-use Rattle.app_wire.specs.Doorway.{Closes, Comes}
+use Rattle.app_wire.specs.Doorway.{Closes, NextComes}
 use Rattle.office.proofs.Plays.{three}
-use Rattle.office.specs.Answers.{Converses, IsCount}
-use Rattle.fx_cli.specs.Held.{Conversation, standing}
+use Rattle.office.specs.Answers.{Converses, IsAnswerCount}
+use Rattle.fx_cli.specs.Conversations.{Conversation, office_at}
 use Rattle.fx_cli.proofs.Replays.{sends_one}
 use Rattle.fx_cli.proofs.replay.hold_next.Goals as goal
 
@@ -15,12 +15,12 @@ returns-clause-held g c =
     let single = g.D.Doors.single c.args.doors.now in
     let talked = c.converse-end.ensures.talked in
     let more : c.in_ok-next.field-0 ≡ true = search rules in
-    let came = subst (λ m. Tells (Comes m) (tells c.args.doors.now) (tells c.next.new.self)) more (told (Comes c.in_ok-next.field-0) _ _ c.in_ok-next.ensures.ok) in
+    let came = subst (λ m. Tells (NextComes m) (tells c.args.doors.now) (tells c.next.new.self)) more (told (NextComes c.in_ok-next.field-0) _ _ c.in_ok-next.ensures.ok) in
     let closed = told Closes (tells c.converse-end.new.doors) (tells c.hang_up.new.self) c.hang_up.ensures.told in
     let conversation : Conversation = record {
       exchanges = talked.0;
       end = c.converse-end.result;
-      office = standing c.converse-end.new.self;
+      office = office_at c.converse-end.new.self;
       before = g.D.Doors.faults c.next.new.self;
       after = g.D.Doors.faults c.hang_up.new.self;
     } in
@@ -31,7 +31,7 @@ returns-clause-held g c =
       counted = refl;
       held = record {
         plays = talked.2;
-        few = subst (λ one. IsCount conversation.end one (length conversation.exchanges)) c.in_ok-next.ensures.single talked.3;
+        few = subst (λ one. IsAnswerCount conversation.end one (length conversation.exchanges)) c.in_ok-next.ensures.single talked.3;
         since = c.in_ok-next.ensures.cause.later;
         later = omega (arith, c.converse-end.ensures.later, c.hang_up.ensures.faults);
         cause = λ e. subst (Rose conversation.before) (sym c.hang_up.ensures.faults) (c.converse-end.ensures.cause e);

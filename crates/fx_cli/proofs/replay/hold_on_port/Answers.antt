@@ -2,7 +2,7 @@ use Rattle.std.proofs.Common.{inl, inr, refl, subst}
 use Rattle.fx_base.specs.Telling.{Stays}
 use Rattle.fx_base.proofs.Chains.{told}
 use Rattle.app_wire.specs.Doorway.{Listens}
-use Rattle.fx_cli.specs.Held.{Replayed, standing}
+use Rattle.fx_cli.specs.Conversations.{Replayed, office_at}
 use Rattle.fx_cli.specs.declared.replay.ReplayEnd.TheVariants.{Done}
 use Rattle.fx_cli.proofs.replay.hold_on_port.Goals as goal
 
@@ -15,7 +15,7 @@ returns-in-Ok-clause-served g c =
       between = faults c.listen.new.self;
       mid = tells c.listen.new.self;
       listens = (c.in-Ok.ensures.cause.later, told (Listens c.args.port) (tells c.args.doors.now) (tells c.listen.new.self) c.in-Ok.ensures.ok);
-      replayed = subst (λ one. Replayed c.args.most Done one (standing c.args.office.now) (standing c.replay.new.office) (faults c.listen.new.self) (faults c.replay.new.doors) (clock c.args.clock.now) (clock c.replay.new.clock) (tells c.listen.new.self) (tells c.replay.new.doors) c.replay.result)
+      replayed = subst (λ one. Replayed c.args.most Done one (office_at c.args.office.now) (office_at c.replay.new.office) (faults c.listen.new.self) (faults c.replay.new.doors) (clock c.args.clock.now) (clock c.replay.new.clock) (tells c.listen.new.self) (tells c.replay.new.doors) c.replay.result)
           c.in-Ok.ensures.single c.replay.ensures.replayed;
     })
 

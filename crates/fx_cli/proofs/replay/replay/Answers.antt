@@ -1,5 +1,5 @@
 use Rattle.std.proofs.Common.{inl, inr, None, Ok, ap, refl, sym, ◌≡◌, ◌<◌, length, subst, ◌∙◌, arith}
-use Rattle.fx_cli.specs.Held.{HoldsNext, Sends, all_moments, StopsAt, standing}
+use Rattle.fx_cli.specs.Conversations.{HoldsNext, Sends, all_moments, StopsAt, office_at}
 use Rattle.fx_base.proofs.Silences.{later_then}
 use Rattle.app_wire.specs.Doorway.{Doorway}
 use Rattle.app_wire.specs.Moments.{Ticks}
@@ -15,11 +15,11 @@ returns-in-Some-clause-replayed g c =
     let one = g.D.Doors.single c.args.doors.now in
     let inv = c.loop-held.invariant.told in
     let few : length inv.0 < c.args.most = omega (arith, c.loop-held-test.true, inv.3) in
-    let next = subst (λ o. HoldsNext o c.in-Ok-Some.end (standing c.loop-held.office) (standing c.hold_next.new.office) (faults c.loop-held.doors) (faults c.hold_next.new.doors) (clock c.loop-held.clock) (clock c.hold_next.new.clock) (tells c.loop-held.doors) (tells c.hold_next.new.doors))
+    let next = subst (λ o. HoldsNext o c.in-Ok-Some.end (office_at c.loop-held.office) (office_at c.hold_next.new.office) (faults c.loop-held.doors) (faults c.hold_next.new.doors) (clock c.loop-held.clock) (clock c.hold_next.new.clock) (tells c.loop-held.doors) (tells c.hold_next.new.doors))
     c.loop-held.invariant.single (rw c.in-Ok-Some.field-0-is at c.in-Ok-Some.ensures.held) in
     let same : c.one.result ≡ one = c.one.ensures ∙ c.in-Ok-Some.ensures.single ∙ c.loop-held.invariant.single in
     let stops = subst (λ o. StopsAt c.in-Ok-Some.end o c.stop_at.result) same c.stop_at.ensures in
-    replay_stops c.args.most c.args.at_most one (standing c.args.office.now) (standing c.loop-held.office) (standing c.hold_next.new.office) (faults c.args.doors.now) (faults c.loop-held.doors) (faults c.hold_next.new.doors)
+    replay_stops c.args.most c.args.at_most one (office_at c.args.office.now) (office_at c.loop-held.office) (office_at c.hold_next.new.office) (faults c.args.doors.now) (faults c.loop-held.doors) (faults c.hold_next.new.doors)
     (clock c.args.clock.now) (clock c.loop-held.clock) (clock c.hold_next.new.clock) (tells c.args.doors.now) (tells c.loop-held.doors) (tells c.hold_next.new.doors)
     inv.0 c.in-Ok-Some.end c.in-Some.stop few inv.1 inv.2 inv.4 next (rw c.in-Some.is at stops)
 
@@ -30,12 +30,12 @@ loop-held-preserved g c =
     let clock = g.C.Clock.told in
     let one = g.D.Doors.single c.args.doors.now in
     let inv = c.loop-held.invariant.told in
-    let next = subst (λ o. HoldsNext o c.in-Ok-Some.end (standing c.loop-held.office) (standing c.hold_next.new.office) (faults c.loop-held.doors) (faults c.hold_next.new.doors) (clock c.loop-held.clock) (clock c.hold_next.new.clock) (tells c.loop-held.doors) (tells c.hold_next.new.doors))
+    let next = subst (λ o. HoldsNext o c.in-Ok-Some.end (office_at c.loop-held.office) (office_at c.hold_next.new.office) (faults c.loop-held.doors) (faults c.hold_next.new.doors) (clock c.loop-held.clock) (clock c.hold_next.new.clock) (tells c.loop-held.doors) (tells c.hold_next.new.doors))
     c.loop-held.invariant.single (rw c.in-Ok-Some.field-0-is at c.in-Ok-Some.ensures.held) in
     let same : c.one.result ≡ one = c.one.ensures ∙ c.in-Ok-Some.ensures.single ∙ c.loop-held.invariant.single in
     let stops = subst (λ o. StopsAt c.in-Ok-Some.end o c.stop_at.result) same c.stop_at.ensures in
     record {
-      told = held_on one (standing c.args.office.now) (standing c.loop-held.office) (standing c.hold_next.new.office) (faults c.args.doors.now) (faults c.loop-held.doors) (faults c.hold_next.new.doors)
+      told = held_on one (office_at c.args.office.now) (office_at c.loop-held.office) (office_at c.hold_next.new.office) (faults c.args.doors.now) (faults c.loop-held.doors) (faults c.hold_next.new.doors)
           (clock c.args.clock.now) (clock c.loop-held.clock) (clock c.hold_next.new.clock) (tells c.args.doors.now) (tells c.loop-held.doors) (tells c.hold_next.new.doors)
           inv.0 c.loop-held.held c.in-Ok-Some.end inv.1 inv.2 inv.3 inv.4 next (rw c.in_default.is at stops);
       single = c.in-Ok-Some.ensures.single ∙ c.loop-held.invariant.single;
@@ -52,10 +52,10 @@ returns-in-Err-clause-replayed g c =
     record {
       held = inv.0;
       last = None;
-      mid = standing c.loop-held.office;
+      mid = office_at c.loop-held.office;
       between = g.D.Doors.faults c.loop-held.doors;
       is_held = inv.2;
-      ends = (inr (omega (arith, c.loop-held-test.true, inv.3), c.in-Err.ensures.cause), ap standing failed.2);
+      ends = (inr (omega (arith, c.loop-held-test.true, inv.3), c.in-Err.ensures.cause), ap office_at failed.2);
       ticks = subst (λ k. Ticks (g.C.Clock.told c.args.clock.now) (all_moments inv.0) (g.C.Clock.told k)) (sym failed.1) inv.1;
       told = two (λ x y z s k. (subst (Sends one inv.0 x) (sym k) s, λ _. tt)) inv.4 failed.0;
     }
@@ -66,7 +66,7 @@ returns-clause-replayed g c =
     record {
       held = inv.0;
       last = None;
-      mid = standing c.loop-held.office;
+      mid = office_at c.loop-held.office;
       between = g.D.Doors.faults c.loop-held.doors;
       is_held = inv.2;
       ends = (inl (inv.3 ∙ omega (arith, c.loop-held-test.false, c.loop-held.auto.held-end), refl, refl), refl);
@@ -82,10 +82,10 @@ returns-in-Ok-None-clause-replayed g c =
     record {
       held = inv.0;
       last = None;
-      mid = standing c.loop-held.office;
+      mid = office_at c.loop-held.office;
       between = g.D.Doors.faults c.loop-held.doors;
       is_held = inv.2;
-      ends = (inr (omega (arith, c.loop-held-test.true, inv.3), c.in-Ok-None.ensures.later), ap standing (c.in-Ok-None.ensures.same none).1);
+      ends = (inr (omega (arith, c.loop-held-test.true, inv.3), c.in-Ok-None.ensures.later), ap office_at (c.in-Ok-None.ensures.same none).1);
       ticks = subst (λ k. Ticks (g.C.Clock.told c.args.clock.now) (all_moments inv.0) (g.C.Clock.told k)) (sym (c.in-Ok-None.ensures.same none).0) inv.1;
       told = two (λ x y z s k. (subst (Sends one inv.0 x) (sym k.1) s, λ _. ap (λ (d : Doorway). d.coming) k.1 ∙ k.0)) inv.4 (c.in-Ok-None.ensures.none none);
     }

@@ -1,6 +1,6 @@
 use Rattle.std.proofs.Common.{Some, refl, string_bytes, subst, sym}
 use Rattle.app_cells.specs.declared.app.App.{App}
-use Rattle.fx_cli.specs.Held.{Serves}
+use Rattle.fx_cli.specs.Conversations.{Serves}
 use Rattle.fx_cli.specs.Outside.{work_of, work_sight}
 use Rattle.fx_cli.specs.Plain.{IsShownNow}
 use Rattle.fx_cli.specs.Report.{EndsOver, LeavesKeeper, Reports, no_show}

@@ -1,26 +1,26 @@
 use Rattle.std.proofs.Common.{Some, Err, refl, subst}
-use Rattle.office.specs.app_loader.JudgedFormulas.{Tells}
-use Rattle.fx_cli.specs.Held.{Serves}
-use Rattle.fx_cli.specs.Report.{EndsOver, JudgedAs, Takes, no_show}
+use Rattle.office.specs.app_loader.JudgedFormulas.{ReportsBreaks}
+use Rattle.fx_cli.specs.Conversations.{Serves}
+use Rattle.fx_cli.specs.Report.{EndsOver, JudgedAs, MatchesFile, no_show}
 use Rattle.fx_cli.specs.declared.words.Form.TheVariants.{Serve}
 use Rattle.fx_cli.proofs.Reported.{reports_over, reports_refused}
 use Rattle.fx_cli.proofs.report.serve_file.Goals as goal
 
 pub returns-clause-reports : goal.returns-clause-reports
 returns-clause-reports g c =
-    let taken : Takes g.F.Files c.args.files.now c.read.new.self (Some (Serve, c.args.name.now)) Serve c.in-Ok.file.items = record {
+    let taken : MatchesFile g.F.Files c.args.files.now c.read.new.self (Some (Serve, c.args.name.now)) Serve c.in-Ok.file.items = record {
       name = c.args.name.now;
       asks = record { is_wanted = refl; grown = c.in-Ok.ensures.asked };
       first = c.in-Ok.ensures.bytes;
     } in
-    let tells = subst (λ bs. Tells (λ breaks. JudgedAs Serve bs (Err breaks)) c.in-Err.end) c.deref.ensures.value c.in-Err.ensures.refused in
+    let tells = subst (λ bs. ReportsBreaks (λ breaks. JudgedAs Serve bs (Err breaks)) c.in-Err.end) c.deref.ensures.value c.in-Err.ensures.refused in
     reports_refused g.F.Files c.args.files.now c.read.new.self no_show
     (EndsOver g.K.Keeper c.args.service.store.now c.args.keeper.now c.args.keeper.now (λ end old new. Serves c.args.service.port c.args.service.most (g.D.Doors.single c.args.doors.now) old new (g.D.Doors.faults c.args.doors.now) (g.D.Doors.faults c.args.doors.now) (g.C.Clock.told c.args.clock.now) (g.C.Clock.told c.args.clock.now) (g.D.Doors.told c.args.doors.now) (g.D.Doors.told c.args.doors.now) end))
     Serve c.args.name.now c.in-Ok.file.items c.in-Err.end c.refuse.result taken tells c.refuse.ensures
 
 pub returns-in-Ok-load-clause-reports : goal.returns-in-Ok-load-clause-reports
 returns-in-Ok-load-clause-reports g c =
-    let taken : Takes g.F.Files c.args.files.now c.read.new.self (Some (Serve, c.args.name.now)) Serve c.in-Ok.file.items = record {
+    let taken : MatchesFile g.F.Files c.args.files.now c.read.new.self (Some (Serve, c.args.name.now)) Serve c.in-Ok.file.items = record {
       name = c.args.name.now;
       asks = record { is_wanted = refl; grown = c.in-Ok.ensures.asked };
       first = c.in-Ok.ensures.bytes;

@@ -1,5 +1,5 @@
 use Rattle.std.proofs.Common.{◌≡◌, ◌∷◌, [], true, subst, sym}
-use Rattle.fx_base.specs.Silence.{IsLost}
+use Rattle.fx_base.specs.Silence.{SilenceCause}
 use Rattle.fx_types.specs.Types.{records}
 use Rattle.fx_semantics.specs.Around.{record_of}
 use Rattle.fx_value.specs.Fits.{fits_in}
@@ -21,7 +21,7 @@ returns-clause-fits g c = λ cs h. c.make.ensures.fits (records cs) (subst (λ z
 
 pub returns-in_err-copy-clause-only : goal.returns-in_err-copy-clause-only
 returns-in_err-copy-clause-only g c =
-    only_nowhere (IsOneOf (source.Gathered c.args.collection ∷ [])) (IsLost (g.W.Env.marks c.args.world.now) (g.W.Env.marks c.args.world.now)) (g.W.World.state c.args.world.now)
+    only_nowhere (IsOneOf (source.Gathered c.args.collection ∷ [])) (SilenceCause (g.W.Env.marks c.args.world.now) (g.W.Env.marks c.args.world.now)) (g.W.World.state c.args.world.now)
 
 pub returns-in_err-rows-clause-only : goal.returns-in_err-rows-clause-only
 returns-in_err-rows-clause-only g c =

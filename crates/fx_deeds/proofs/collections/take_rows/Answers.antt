@@ -1,5 +1,5 @@
 use Rattle.std.proofs.Common.{◌∷◌, [], inl, map, refl}
-use Rattle.fx_base.specs.Silence.{IsLost}
+use Rattle.fx_base.specs.Silence.{SilenceCause}
 use Rattle.fx_types.specs.ValueView.{view}
 use Rattle.fx_types.specs.Types.{column_list}
 use Rattle.fx_core.specs.declared.sources.Source.TheVariants as source
@@ -9,7 +9,7 @@ use Rattle.fx_deeds.proofs.Passing.{passed_on, passed_nowhere}
 use Rattle.fx_deeds.proofs.Allowing.{only_on, only_nowhere}
 use Rattle.fx_deeds.specs.Writable.{IsOneOf}
 use Rattle.fx_deeds.proofs.Deeding.{goes_nowhere}
-use Rattle.fx_deeds.specs.Lefts.{Decides}
+use Rattle.fx_deeds.specs.RemainingRows.{RestDecides}
 use Rattle.fx_deeds.proofs.Steps.{Whole}
 use Rattle.fx_deeds.proofs.collections.take_rows.Goals as goal
 
@@ -47,7 +47,7 @@ returns-in_err-answer-clause-cut g c =
 pub returns-in_err-row-clause-cut : goal.returns-in_err-row-clause-cut
 returns-in_err-row-clause-cut g c =
     on_any _
-    (cut_where (IsLost (g.W.Env.marks c.args.world.now) (g.W.Env.marks c.loop-sought.world)) (g.W.World.state c.args.world.now) (g.W.World.state c.loop-sought.world) (CutTaken (column_list c.args.columns.now) c.args.collection (map view c.loop-sought.rest.now)) (CutTaken (column_list c.args.columns.now) c.args.collection (map view c.args.rows.now)) (λ s. inl refl) c.loop-sought.invariant.cut)
+    (cut_where (SilenceCause (g.W.Env.marks c.args.world.now) (g.W.Env.marks c.loop-sought.world)) (g.W.World.state c.args.world.now) (g.W.World.state c.loop-sought.world) (CutTaken (column_list c.args.columns.now) c.args.collection (map view c.loop-sought.rest.now)) (CutTaken (column_list c.args.columns.now) c.args.collection (map view c.args.rows.now)) (λ s. inl refl) c.loop-sought.invariant.cut)
 
 pub loop-sought-init : goal.loop-sought-init
 loop-sought-init g c =
@@ -56,9 +56,9 @@ loop-sought-init g c =
     let W : Whole (g.W.World.App) = taking (column_list c.args.columns.now) c.args.collection c.args.rows.now in
     record {
       passed = passed_nowhere _;
-      only = only_nowhere (IsOneOf (source.Gathered c.args.collection ∷ [])) (IsLost m m) s;
-      done = goes_nowhere (IsLost m m) (Decides W W) s (λ a x t h. h);
-      cut = carries_nowhere (IsLost m m) s (CutTaken (column_list c.args.columns.now) c.args.collection (map view c.args.rows.now));
+      only = only_nowhere (IsOneOf (source.Gathered c.args.collection ∷ [])) (SilenceCause m m) s;
+      done = goes_nowhere (SilenceCause m m) (RestDecides W W) s (λ a x t h. h);
+      cut = carries_nowhere (SilenceCause m m) s (CutTaken (column_list c.args.columns.now) c.args.collection (map view c.args.rows.now));
     }
 
 pub returns-in-Some-2-clause-passed : goal.returns-in-Some-2-clause-passed

@@ -1,12 +1,12 @@
 use Rattle.std.proofs.Common.{◌∷◌, [], length, map}
-use Rattle.fx_base.specs.Silence.{Goes, IsLost}
+use Rattle.fx_base.specs.Silence.{MayFallSilent, SilenceCause}
 use Rattle.fx_types.specs.Types.{column_list}
 use Rattle.fx_types.specs.ValueView.{view}
 use Rattle.fx_core.specs.declared.sources.Source.TheVariants as source
 use Rattle.fx_deeds.proofs.CutOff.{Carries, CutTaken}
 use Rattle.fx_deeds.specs.Collections.{AreTaken}
-use Rattle.fx_deeds.specs.Lefts.{Decides}
-use Rattle.fx_deeds.specs.Stages.{Passed, stage}
+use Rattle.fx_deeds.specs.RemainingRows.{RestDecides}
+use Rattle.fx_deeds.specs.WorldSteps.{Passed, stage}
 use Rattle.fx_deeds.specs.Writable.{IsOneOf, WritesOnly}
 use Rattle.fx_deeds.proofs.collections.take_rows.Given as goal
 
@@ -14,9 +14,9 @@ abbrev pub invariant-loop-sought : goal.invariant-loop-sought
 invariant-loop-sought g l = record {
   passed : Passed (stage (g.W.Env.fixed l.fn.world) (g.W.World.state l.fn.world) (g.W.Env.marks l.fn.world) (g.W.Env.visited l.fn.world))
       (stage (g.W.Env.fixed l.world) (g.W.World.state l.world) (g.W.Env.marks l.world) (g.W.Env.visited l.world));
-  only : Goes (IsLost (g.W.Env.marks l.fn.world) (g.W.Env.marks l.world)) (WritesOnly (IsOneOf (source.Gathered l.collection ∷ []))) (g.W.World.state l.fn.world) (g.W.World.state l.world);
-  done : Goes (IsLost (g.W.Env.marks l.fn.world) (g.W.Env.marks l.world)) (Decides (AreTaken (column_list l.columns) l.collection (map view l.rest)) (AreTaken (column_list l.columns) l.collection (map view l.rows))) (g.W.World.state l.fn.world) (g.W.World.state l.world);
-  cut : Goes (IsLost (g.W.Env.marks l.fn.world) (g.W.Env.marks l.world)) (Carries (CutTaken (column_list l.columns) l.collection (map view l.rest)) (CutTaken (column_list l.columns) l.collection (map view l.rows))) (g.W.World.state l.fn.world) (g.W.World.state l.world);
+  only : MayFallSilent (SilenceCause (g.W.Env.marks l.fn.world) (g.W.Env.marks l.world)) (WritesOnly (IsOneOf (source.Gathered l.collection ∷ []))) (g.W.World.state l.fn.world) (g.W.World.state l.world);
+  done : MayFallSilent (SilenceCause (g.W.Env.marks l.fn.world) (g.W.Env.marks l.world)) (RestDecides (AreTaken (column_list l.columns) l.collection (map view l.rest)) (AreTaken (column_list l.columns) l.collection (map view l.rows))) (g.W.World.state l.fn.world) (g.W.World.state l.world);
+  cut : MayFallSilent (SilenceCause (g.W.Env.marks l.fn.world) (g.W.Env.marks l.world)) (Carries (CutTaken (column_list l.columns) l.collection (map view l.rest)) (CutTaken (column_list l.columns) l.collection (map view l.rows))) (g.W.World.state l.fn.world) (g.W.World.state l.world);
 }
 
 abbrev pub decreases-loop-sought : goal.decreases-loop-sought

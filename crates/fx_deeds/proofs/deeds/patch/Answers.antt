@@ -1,7 +1,7 @@
 use Rattle.fx_core.specs.declared.deeds.Target.TheVariants as target
 use Rattle.std.proofs.Common.{◌≡◌, ◌∷◌, [], ◌∙◌, List, map, ap, subst, sym, true}
 use Rattle.std.specs.Prelude.{IfOk, option_map}
-use Rattle.fx_base.specs.Silence.{IsLost}
+use Rattle.fx_base.specs.Silence.{SilenceCause}
 use Rattle.fx_types.specs.declared.values.Value.{Value}
 use Rattle.fx_types.specs.ValueView.{view}
 use Rattle.fx_core.specs.declared.deeds.Deed.TheVariants as deed
@@ -12,9 +12,9 @@ use Rattle.fx_deeds.proofs.Holding.{base_can}
 use Rattle.fx_deeds.proofs.Targets.{can_patch, patched_fits}
 use Rattle.fx_deeds.proofs.Allowing.{only_nowhere, only_wider}
 use Rattle.fx_deeds.specs.Doable.{AnswersAs, CanDo}
-use Rattle.fx_deeds.specs.RowValues.{rows_among, columns_in}
+use Rattle.fx_deeds.specs.RowValues.{rows_among, columns_of_rows}
 use Rattle.fx_deeds.specs.Writable.{IsOneOf, DeedMayWrite}
-use Rattle.fx_deeds.specs.State.{frame_of}
+use Rattle.fx_deeds.specs.State.{eval_frame}
 use Rattle.std.specs.List.{find}
 use Rattle.fx_tables.specs.Unions.{is_fault}
 use Rattle.fx_deeds.proofs.CutRows.{cut_among, cut_as}
@@ -55,11 +55,11 @@ returns-in-Gathered-clause-fits g c = λ u h.
 
 pub returns-in_err-error-clause-only : goal.returns-in_err-error-clause-only
 returns-in_err-error-clause-only g c =
-    only_nowhere (DeedMayWrite (deed.Patch c.args.target)) (IsLost (g.W.Env.marks c.args.world.now) (g.W.Env.marks c.args.world.now)) (g.W.World.state c.args.world.now)
+    only_nowhere (DeedMayWrite (deed.Patch c.args.target)) (SilenceCause (g.W.Env.marks c.args.world.now) (g.W.Env.marks c.args.world.now)) (g.W.World.state c.args.world.now)
 
 pub returns-in-Some-clause-only : goal.returns-in-Some-clause-only
 returns-in-Some-clause-only g c =
-    only_nowhere (DeedMayWrite (deed.Patch c.args.target)) (IsLost (g.W.Env.marks c.args.world.now) (g.W.Env.marks c.args.world.now)) (g.W.World.state c.args.world.now)
+    only_nowhere (DeedMayWrite (deed.Patch c.args.target)) (SilenceCause (g.W.Env.marks c.args.world.now) (g.W.Env.marks c.args.world.now)) (g.W.World.state c.args.world.now)
 
 pub returns-in-Table-clause-only : goal.returns-in-Table-clause-only
 returns-in-Table-clause-only g c =
@@ -74,8 +74,8 @@ returns-in-Table-clause-cut g c =
     let b = view c.in-Some-split_first.base.now in
     let ys = map view c.in-Some-split_first.changes.now in
     let none = ap (λ (z : List Value). find is_fault (map view z)) (sym c.in-Some-split_first.ensures.cases.0) ∙ no_error c.in_ok-error.field-0 _ c.in_ok-error.ensures c.in_default.not-Some in
-    cut_as c.patch_table.result (IsLost (g.W.Env.marks c.args.world.now) (g.W.Env.marks c.patch_table.new.world)) (g.W.World.state c.args.world.now) (g.W.World.state c.patch_table.new.world) (frame_of (g.W.Env.fixed c.args.world.now)) (deed.Patch c.args.target) (deed.Patch (target.Table c.in-Table.table)) c.args.values.now (c.in-Some-split_first.base.now ∷ c.in-Some-split_first.changes.now) (ap deed.Patch c.in-Table.is) c.in-Some-split_first.ensures.cases.0
-    (cut_among c.patch_table.result (IsLost (g.W.Env.marks c.args.world.now) (g.W.Env.marks c.patch_table.new.world)) (g.W.World.state c.args.world.now) (g.W.World.state c.patch_table.new.world) (b ∷ ys) (λ s n x t. IsPatched (g.W.Env.fixed c.args.world.now).schema c.in-Table.table b ys s x t) none c.patch_table.ensures.cut)
+    cut_as c.patch_table.result (SilenceCause (g.W.Env.marks c.args.world.now) (g.W.Env.marks c.patch_table.new.world)) (g.W.World.state c.args.world.now) (g.W.World.state c.patch_table.new.world) (eval_frame (g.W.Env.fixed c.args.world.now)) (deed.Patch c.args.target) (deed.Patch (target.Table c.in-Table.table)) c.args.values.now (c.in-Some-split_first.base.now ∷ c.in-Some-split_first.changes.now) (ap deed.Patch c.in-Table.is) c.in-Some-split_first.ensures.cases.0
+    (cut_among c.patch_table.result (SilenceCause (g.W.Env.marks c.args.world.now) (g.W.Env.marks c.patch_table.new.world)) (g.W.World.state c.args.world.now) (g.W.World.state c.patch_table.new.world) (b ∷ ys) (λ s n x t. IsPatched (g.W.Env.fixed c.args.world.now).schema c.in-Table.table b ys s x t) none c.patch_table.ensures.cut)
 
 pub returns-in-Gathered-clause-cut : goal.returns-in-Gathered-clause-cut
 returns-in-Gathered-clause-cut g c =
@@ -83,8 +83,8 @@ returns-in-Gathered-clause-cut g c =
     let ys = map view c.in-Some-split_first.changes.now in
     let k = c.in-Gathered.collection in
     let none = ap (λ (z : List Value). find is_fault (map view z)) (sym c.in-Some-split_first.ensures.cases.0) ∙ no_error c.in_ok-error.field-0 _ c.in_ok-error.ensures c.in_default.not-Some in
-    cut_as c.patch_equal.result (IsLost (g.W.Env.marks c.args.world.now) (g.W.Env.marks c.patch_equal.new.world)) (g.W.World.state c.args.world.now) (g.W.World.state c.patch_equal.new.world) (frame_of (g.W.Env.fixed c.args.world.now)) (deed.Patch c.args.target) (deed.Patch (target.Gathered k)) c.args.values.now (c.in-Some-split_first.base.now ∷ c.in-Some-split_first.changes.now) (ap deed.Patch c.in-Gathered.is) c.in-Some-split_first.ensures.cases.0
-    (cut_among c.patch_equal.result (IsLost (g.W.Env.marks c.args.world.now) (g.W.Env.marks c.patch_equal.new.world)) (g.W.World.state c.args.world.now) (g.W.World.state c.patch_equal.new.world) (b ∷ ys) (λ s n x t. IsPatchedIn (columns_in ((g.W.Env.fixed c.args.world.now).types (source.Gathered k))) k b ys s x t) none c.patch_equal.ensures.cut)
+    cut_as c.patch_equal.result (SilenceCause (g.W.Env.marks c.args.world.now) (g.W.Env.marks c.patch_equal.new.world)) (g.W.World.state c.args.world.now) (g.W.World.state c.patch_equal.new.world) (eval_frame (g.W.Env.fixed c.args.world.now)) (deed.Patch c.args.target) (deed.Patch (target.Gathered k)) c.args.values.now (c.in-Some-split_first.base.now ∷ c.in-Some-split_first.changes.now) (ap deed.Patch c.in-Gathered.is) c.in-Some-split_first.ensures.cases.0
+    (cut_among c.patch_equal.result (SilenceCause (g.W.Env.marks c.args.world.now) (g.W.Env.marks c.patch_equal.new.world)) (g.W.World.state c.args.world.now) (g.W.World.state c.patch_equal.new.world) (b ∷ ys) (λ s n x t. IsPatchedIn (columns_of_rows ((g.W.Env.fixed c.args.world.now).types (source.Gathered k))) k b ys s x t) none c.patch_equal.ensures.cut)
 
 pub returns-in_err-error-clause-passed : goal.returns-in_err-error-clause-passed
 returns-in_err-error-clause-passed g c = passed_nowhere _

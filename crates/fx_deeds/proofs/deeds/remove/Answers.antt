@@ -1,7 +1,7 @@
 use Rattle.fx_core.specs.declared.deeds.Target.TheVariants as target
 use Rattle.std.proofs.Common.{◌∙◌, ◌∷◌, [], ap, sym, subst, refl}
 use Rattle.std.specs.Prelude.{map, option_map, take}
-use Rattle.fx_base.specs.Silence.{IsLost}
+use Rattle.fx_base.specs.Silence.{SilenceCause}
 use Rattle.fx_types.specs.Types.{booleans}
 use Rattle.fx_types.specs.ValueView.{view}
 use Rattle.fx_core.specs.declared.deeds.Deed.TheVariants as deed
@@ -9,12 +9,12 @@ use Rattle.fx_core.specs.declared.sources.Source.TheVariants as source
 use Rattle.fx_deeds.proofs.Adding.{error_fits}
 use Rattle.fx_deeds.proofs.Allowing.{only_nowhere, only_wider}
 use Rattle.fx_deeds.specs.Writable.{IsOneOf, DeedMayWrite}
-use Rattle.fx_deeds.specs.State.{frame_of}
+use Rattle.fx_deeds.specs.State.{eval_frame}
 use Rattle.fx_deeds.proofs.CutRows.{cut_among, cut_as}
 use Rattle.fx_deeds.proofs.Deeding.{no_error}
 use Rattle.fx_deeds.specs.Collections.{AreTaken}
 use Rattle.fx_deeds.specs.Deeds.{AreRemoved}
-use Rattle.fx_deeds.specs.RowValues.{columns_in}
+use Rattle.fx_deeds.specs.RowValues.{columns_of_rows}
 use Rattle.fx_deeds.proofs.Passing.{passed_nowhere}
 use Rattle.fx_deeds.proofs.deeds.remove.Goals as goal
 
@@ -23,11 +23,11 @@ returns-in-Some-clause-fits g c = error_fits (map view c.args.values.now) (view 
 
 pub returns-in_err-error-clause-only : goal.returns-in_err-error-clause-only
 returns-in_err-error-clause-only g c =
-    only_nowhere (DeedMayWrite (deed.Remove c.args.target)) (IsLost (g.W.Env.marks c.args.world.now) (g.W.Env.marks c.args.world.now)) (g.W.World.state c.args.world.now)
+    only_nowhere (DeedMayWrite (deed.Remove c.args.target)) (SilenceCause (g.W.Env.marks c.args.world.now) (g.W.Env.marks c.args.world.now)) (g.W.World.state c.args.world.now)
 
 pub returns-in-Some-clause-only : goal.returns-in-Some-clause-only
 returns-in-Some-clause-only g c =
-    only_nowhere (DeedMayWrite (deed.Remove c.args.target)) (IsLost (g.W.Env.marks c.args.world.now) (g.W.Env.marks c.args.world.now)) (g.W.World.state c.args.world.now)
+    only_nowhere (DeedMayWrite (deed.Remove c.args.target)) (SilenceCause (g.W.Env.marks c.args.world.now) (g.W.Env.marks c.args.world.now)) (g.W.World.state c.args.world.now)
 
 pub returns-in-Table-clause-only : goal.returns-in-Table-clause-only
 returns-in-Table-clause-only g c =
@@ -40,15 +40,15 @@ returns-in-Gathered-clause-only g c =
 pub returns-in-Table-clause-cut : goal.returns-in-Table-clause-cut
 returns-in-Table-clause-cut g c =
     let ys = map view c.args.values.now in
-    cut_as c.remove_rows.result (IsLost (g.W.Env.marks c.args.world.now) (g.W.Env.marks c.remove_rows.new.world)) (g.W.World.state c.args.world.now) (g.W.World.state c.remove_rows.new.world) (frame_of (g.W.Env.fixed c.args.world.now)) (deed.Remove c.args.target) (deed.Remove (target.Table c.in-Table.table)) c.args.values.now c.args.values.now (ap deed.Remove c.in-Table.is) refl
-    (cut_among c.remove_rows.result (IsLost (g.W.Env.marks c.args.world.now) (g.W.Env.marks c.remove_rows.new.world)) (g.W.World.state c.args.world.now) (g.W.World.state c.remove_rows.new.world) ys (λ s n x t. AreRemoved c.in-Table.table (take n ys) s x t) (no_error c.in_ok-error.field-0 _ c.in_ok-error.ensures c.in_default.not-Some) c.remove_rows.ensures.cut)
+    cut_as c.remove_rows.result (SilenceCause (g.W.Env.marks c.args.world.now) (g.W.Env.marks c.remove_rows.new.world)) (g.W.World.state c.args.world.now) (g.W.World.state c.remove_rows.new.world) (eval_frame (g.W.Env.fixed c.args.world.now)) (deed.Remove c.args.target) (deed.Remove (target.Table c.in-Table.table)) c.args.values.now c.args.values.now (ap deed.Remove c.in-Table.is) refl
+    (cut_among c.remove_rows.result (SilenceCause (g.W.Env.marks c.args.world.now) (g.W.Env.marks c.remove_rows.new.world)) (g.W.World.state c.args.world.now) (g.W.World.state c.remove_rows.new.world) ys (λ s n x t. AreRemoved c.in-Table.table (take n ys) s x t) (no_error c.in_ok-error.field-0 _ c.in_ok-error.ensures c.in_default.not-Some) c.remove_rows.ensures.cut)
 
 pub returns-in-Gathered-clause-cut : goal.returns-in-Gathered-clause-cut
 returns-in-Gathered-clause-cut g c =
     let ys = map view c.args.values.now in
     let k = c.in-Gathered.collection in
-    cut_as c.remove_equal.result (IsLost (g.W.Env.marks c.args.world.now) (g.W.Env.marks c.remove_equal.new.world)) (g.W.World.state c.args.world.now) (g.W.World.state c.remove_equal.new.world) (frame_of (g.W.Env.fixed c.args.world.now)) (deed.Remove c.args.target) (deed.Remove (target.Gathered k)) c.args.values.now c.args.values.now (ap deed.Remove c.in-Gathered.is) refl
-    (cut_among c.remove_equal.result (IsLost (g.W.Env.marks c.args.world.now) (g.W.Env.marks c.remove_equal.new.world)) (g.W.World.state c.args.world.now) (g.W.World.state c.remove_equal.new.world) ys (λ s n x t. AreTaken (columns_in ((g.W.Env.fixed c.args.world.now).types (source.Gathered k))) k (take n ys) s x t) (no_error c.in_ok-error.field-0 _ c.in_ok-error.ensures c.in_default.not-Some) c.remove_equal.ensures.cut)
+    cut_as c.remove_equal.result (SilenceCause (g.W.Env.marks c.args.world.now) (g.W.Env.marks c.remove_equal.new.world)) (g.W.World.state c.args.world.now) (g.W.World.state c.remove_equal.new.world) (eval_frame (g.W.Env.fixed c.args.world.now)) (deed.Remove c.args.target) (deed.Remove (target.Gathered k)) c.args.values.now c.args.values.now (ap deed.Remove c.in-Gathered.is) refl
+    (cut_among c.remove_equal.result (SilenceCause (g.W.Env.marks c.args.world.now) (g.W.Env.marks c.remove_equal.new.world)) (g.W.World.state c.args.world.now) (g.W.World.state c.remove_equal.new.world) ys (λ s n x t. AreTaken (columns_of_rows ((g.W.Env.fixed c.args.world.now).types (source.Gathered k))) k (take n ys) s x t) (no_error c.in_ok-error.field-0 _ c.in_ok-error.ensures c.in_default.not-Some) c.remove_equal.ensures.cut)
 
 pub returns-in_err-error-clause-passed : goal.returns-in_err-error-clause-passed
 returns-in_err-error-clause-passed g c = passed_nowhere _

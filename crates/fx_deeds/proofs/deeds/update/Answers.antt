@@ -1,6 +1,6 @@
 use Rattle.std.proofs.Common.{◌∙◌, ◌∷◌, [], map, ap, subst, sym}
 use Rattle.std.specs.Prelude.{option_map}
-use Rattle.fx_base.specs.Silence.{IsLost}
+use Rattle.fx_base.specs.Silence.{SilenceCause}
 use Rattle.fx_types.specs.Types.{booleans}
 use Rattle.fx_types.specs.ValueView.{view}
 use Rattle.fx_core.specs.declared.deeds.Deed.TheVariants as deed
@@ -16,7 +16,7 @@ use Rattle.fx_deeds.specs.Writable.{IsOneOf, DeedMayWrite}
 use Rattle.fx_deeds.proofs.CutOff.{cut_nowhere, on_any}
 use Rattle.fx_deeds.proofs.CutUpdates.{cut_update, cut_update_in}
 use Rattle.fx_deeds.specs.CutOff.{IsUpdateBegun}
-use Rattle.fx_deeds.specs.State.{frame_of}
+use Rattle.fx_deeds.specs.State.{eval_frame}
 use Rattle.fx_deeds.proofs.Passing.{passed_nowhere}
 use Rattle.fx_deeds.proofs.deeds.update.Goals as goal
 
@@ -36,11 +36,11 @@ update_equal-requires g c =
 
 pub returns-in_err-error-clause-only : goal.returns-in_err-error-clause-only
 returns-in_err-error-clause-only g c =
-    only_nowhere (DeedMayWrite (deed.UpdateIf c.args.target)) (IsLost (g.W.Env.marks c.args.world.now) (g.W.Env.marks c.args.world.now)) (g.W.World.state c.args.world.now)
+    only_nowhere (DeedMayWrite (deed.UpdateIf c.args.target)) (SilenceCause (g.W.Env.marks c.args.world.now) (g.W.Env.marks c.args.world.now)) (g.W.World.state c.args.world.now)
 
 pub returns-in-Some-clause-only : goal.returns-in-Some-clause-only
 returns-in-Some-clause-only g c =
-    only_nowhere (DeedMayWrite (deed.UpdateIf c.args.target)) (IsLost (g.W.Env.marks c.args.world.now) (g.W.Env.marks c.args.world.now)) (g.W.World.state c.args.world.now)
+    only_nowhere (DeedMayWrite (deed.UpdateIf c.args.target)) (SilenceCause (g.W.Env.marks c.args.world.now) (g.W.Env.marks c.args.world.now)) (g.W.World.state c.args.world.now)
 
 pub returns-in-Table-clause-only : goal.returns-in-Table-clause-only
 returns-in-Table-clause-only g c =
@@ -52,16 +52,16 @@ returns-in-Gathered-clause-only g c =
 
 pub returns-in_err-error-clause-cut : goal.returns-in_err-error-clause-cut
 returns-in_err-error-clause-cut g c =
-    on_any _ (cut_nowhere (IsLost (g.W.Env.marks c.args.world.now) (g.W.Env.marks c.args.world.now)) (IsUpdateBegun (frame_of (g.W.Env.fixed c.args.world.now)) c.args.target c.args.rows.now (map view c.args.changes.now)) (g.W.World.state c.args.world.now))
+    on_any _ (cut_nowhere (SilenceCause (g.W.Env.marks c.args.world.now) (g.W.Env.marks c.args.world.now)) (IsUpdateBegun (eval_frame (g.W.Env.fixed c.args.world.now)) c.args.target c.args.rows.now (map view c.args.changes.now)) (g.W.World.state c.args.world.now))
 
 pub returns-in-Table-clause-cut : goal.returns-in-Table-clause-cut
 returns-in-Table-clause-cut g c =
-    cut_update c.update_table.result (IsLost (g.W.Env.marks c.args.world.now) (g.W.Env.marks c.update_table.new.world)) (g.W.World.state c.args.world.now) (g.W.World.state c.update_table.new.world) (frame_of (g.W.Env.fixed c.args.world.now)) c.args.target c.in-Table.table c.args.rows.now (map view c.args.changes.now) c.in-Table.is
+    cut_update c.update_table.result (SilenceCause (g.W.Env.marks c.args.world.now) (g.W.Env.marks c.update_table.new.world)) (g.W.World.state c.args.world.now) (g.W.World.state c.update_table.new.world) (eval_frame (g.W.Env.fixed c.args.world.now)) c.args.target c.in-Table.table c.args.rows.now (map view c.args.changes.now) c.in-Table.is
     (no_error c.in_ok-error.field-0 _ c.in_ok-error.ensures c.in_default.not-Some) c.update_table.ensures.cut
 
 pub returns-in-Gathered-clause-cut : goal.returns-in-Gathered-clause-cut
 returns-in-Gathered-clause-cut g c =
-    cut_update_in c.update_equal.result (IsLost (g.W.Env.marks c.args.world.now) (g.W.Env.marks c.update_equal.new.world)) (g.W.World.state c.args.world.now) (g.W.World.state c.update_equal.new.world) (frame_of (g.W.Env.fixed c.args.world.now)) c.args.target c.in-Gathered.collection c.args.rows.now (map view c.args.changes.now) c.in-Gathered.is
+    cut_update_in c.update_equal.result (SilenceCause (g.W.Env.marks c.args.world.now) (g.W.Env.marks c.update_equal.new.world)) (g.W.World.state c.args.world.now) (g.W.World.state c.update_equal.new.world) (eval_frame (g.W.Env.fixed c.args.world.now)) c.args.target c.in-Gathered.collection c.args.rows.now (map view c.args.changes.now) c.in-Gathered.is
     (no_error c.in_ok-error.field-0 _ c.in_ok-error.ensures c.in_default.not-Some) c.update_equal.ensures.cut
 
 pub returns-in_err-error-clause-passed : goal.returns-in_err-error-clause-passed

@@ -1,6 +1,6 @@
 use Rattle.std.proofs.Common.{length}
 use Rattle.fx_deeds.proofs.Lefting.{LeavesTo}
-use Rattle.fx_deeds.specs.Lefts.{AreRecords}
+use Rattle.fx_deeds.specs.RemainingRows.{AreRecords}
 use Rattle.fx_deeds.proofs.filtering.rows_left.Given as goal
 
 abbrev pub invariant-loop-row : goal.invariant-loop-row

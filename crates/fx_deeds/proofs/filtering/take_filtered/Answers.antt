@@ -1,5 +1,5 @@
 use Rattle.std.proofs.Common.{◌≡◌, ◌∙◌, ◌∷◌, [], true, map, refl, ap, subst, sym}
-use Rattle.fx_base.specs.Silence.{IsLost}
+use Rattle.fx_base.specs.Silence.{SilenceCause}
 use Rattle.fx_types.specs.Types.{booleans, tables}
 use Rattle.fx_types.specs.Values.{boolean}
 use Rattle.fx_types.specs.ValueView.{view}
@@ -11,9 +11,9 @@ use Rattle.fx_deeds.proofs.CutUpdates.{held_cut}
 use Rattle.fx_deeds.proofs.Holding.{taken_if, takes_if}
 use Rattle.fx_deeds.proofs.Lefting.{left_fits, made_records, rows_back}
 use Rattle.fx_deeds.proofs.Allowing.{only_behind, only_nowhere, only_staying}
-use Rattle.fx_deeds.specs.Collections.{AreLeft, AreTakenIf}
+use Rattle.fx_deeds.specs.Collections.{RemainAfterFilter, AreTakenIf}
 use Rattle.fx_deeds.specs.Deeds.{OrError}
-use Rattle.fx_deeds.specs.Lefts.{rows_by}
+use Rattle.fx_deeds.specs.RemainingRows.{record_rows}
 use Rattle.fx_deeds.specs.Writable.{IsOneOf}
 use Rattle.fx_deeds.proofs.Passing.{passed_nowhere, passed_on}
 use Rattle.fx_deeds.proofs.filtering.take_filtered.Goals as goal
@@ -25,26 +25,26 @@ pub make-requires : goal.make-requires
 make-requires g c =
     let cs = c.requires.0 in
     gathers_rows (g.W.Env.fixed c.args.world.now) (g.W.Env.fixed c.rows_held.new.world) (g.W.World.names c.rows_held.new.world) c.args.collection cs _ c.rows_held.ensures.passed.fixed (g.met.W.World.typed c.rows_held.new.world) c.requires.1
-    (left_fits cs c.as_slice-in-Ok.result.now (rows_by c.as_slice-in-Ok-2.result.now) c.in_ok-left-in-Ok.left c.in_ok-left-in-Ok.ensures
+    (left_fits cs c.as_slice-in-Ok.result.now (record_rows c.as_slice-in-Ok-2.result.now) c.in_ok-left-in-Ok.left c.in_ok-left-in-Ok.ensures
     (subst (λ z. fits_in (table_of z) (tables cs) ≡ true) (sym c.as_slice-in-Ok.ensures) (c.in_ok-rows-in-Ok.ensures.fits cs c.requires.1)))
 
 pub returns-in_ok-left-in-Ok-clause-done : goal.returns-in_ok-left-in-Ok-clause-done
 returns-in_ok-left-in-Ok-clause-done g c =
     let vs = c.as_slice-in-Ok-2.result.now in
     let kept = rows_back vs c.as_slice.result.now (ap (map view) c.as_slice-in-Ok-2.ensures.value ∙ c.in_ok-kept-in-Ok.ensures) ∙ c.as_slice.ensures ∙ c.in-Ok.ensures.0 in
-    taken_if c.make.result _ _ _ _ _ _ c.args.collection c.in_ok-rows-in-Ok.rows c.in_ok-left-in-Ok.left (rows_by vs) (view c.args.filtered) c.rows_held.ensures.passed.later c.make.ensures.passed.later c.in-Ok.ensures.1 kept
-    (subst (λ z. AreLeft z (rows_by vs) c.in_ok-left-in-Ok.left) c.as_slice-in-Ok.ensures c.in_ok-left-in-Ok.ensures) c.in_ok-rows-in-Ok.ensures.held c.make.ensures.done
+    taken_if c.make.result _ _ _ _ _ _ c.args.collection c.in_ok-rows-in-Ok.rows c.in_ok-left-in-Ok.left (record_rows vs) (view c.args.filtered) c.rows_held.ensures.passed.later c.make.ensures.passed.later c.in-Ok.ensures.1 kept
+    (subst (λ z. RemainAfterFilter z (record_rows vs) c.in_ok-left-in-Ok.left) c.as_slice-in-Ok.ensures c.in_ok-left-in-Ok.ensures) c.in_ok-rows-in-Ok.ensures.held c.make.ensures.done
 
 pub returns-in_ok-left-in-Ok-clause-fits : goal.returns-in_ok-left-in-Ok-clause-fits
 returns-in_ok-left-in-Ok-clause-fits g c = c.make.ensures.fits booleans refl
 
 pub returns-in_err-kept-in-Ok-clause-only : goal.returns-in_err-kept-in-Ok-clause-only
 returns-in_err-kept-in-Ok-clause-only g c =
-    only_nowhere (IsOneOf (source.Gathered c.args.collection ∷ [])) (IsLost (g.W.Env.marks c.args.world.now) (g.W.Env.marks c.args.world.now)) (g.W.World.state c.args.world.now)
+    only_nowhere (IsOneOf (source.Gathered c.args.collection ∷ [])) (SilenceCause (g.W.Env.marks c.args.world.now) (g.W.Env.marks c.args.world.now)) (g.W.World.state c.args.world.now)
 
 pub returns-in-Err-clause-only : goal.returns-in-Err-clause-only
 returns-in-Err-clause-only g c =
-    only_nowhere (IsOneOf (source.Gathered c.args.collection ∷ [])) (IsLost (g.W.Env.marks c.args.world.now) (g.W.Env.marks c.args.world.now)) (g.W.World.state c.args.world.now)
+    only_nowhere (IsOneOf (source.Gathered c.args.collection ∷ [])) (SilenceCause (g.W.Env.marks c.args.world.now) (g.W.Env.marks c.args.world.now)) (g.W.World.state c.args.world.now)
 
 pub returns-in_err-rows-in-Ok-clause-only : goal.returns-in_err-rows-in-Ok-clause-only
 returns-in_err-rows-in-Ok-clause-only g c =
@@ -64,8 +64,8 @@ returns-in_ok-left-in-Ok-clause-cut g c =
     let d = view c.args.filtered in
     let kept = rows_back vs c.as_slice.result.now (ap (map view) c.as_slice-in-Ok-2.ensures.value ∙ c.in_ok-kept-in-Ok.ensures) ∙ c.as_slice.ensures ∙ c.in-Ok.ensures.0 in
     held_cut c.make.result _ _ _ _ _ _ c.args.collection c.in_ok-rows-in-Ok.rows c.in_ok-left-in-Ok.left (boolean true) (λ s x t. OrError d (AreTakenIf c.args.collection (rows_in d) s x t) s x t) c.rows_held.ensures.passed.later c.make.ensures.passed.later
-    (takes_if c.args.collection c.in_ok-rows-in-Ok.rows c.in_ok-left-in-Ok.left (rows_by vs) d c.in-Ok.ensures.1 kept
-    (subst (λ z. AreLeft z (rows_by vs) c.in_ok-left-in-Ok.left) c.as_slice-in-Ok.ensures c.in_ok-left-in-Ok.ensures)) c.in_ok-rows-in-Ok.ensures.held c.make.ensures.cut
+    (takes_if c.args.collection c.in_ok-rows-in-Ok.rows c.in_ok-left-in-Ok.left (record_rows vs) d c.in-Ok.ensures.1 kept
+    (subst (λ z. RemainAfterFilter z (record_rows vs) c.in_ok-left-in-Ok.left) c.as_slice-in-Ok.ensures c.in_ok-left-in-Ok.ensures)) c.in_ok-rows-in-Ok.ensures.held c.make.ensures.cut
 
 pub returns-in_ok-left-in-Ok-clause-passed : goal.returns-in_ok-left-in-Ok-clause-passed
 returns-in_ok-left-in-Ok-clause-passed g c = passed_on _ _ _ c.rows_held.ensures.passed c.make.ensures.passed

@@ -6,9 +6,9 @@ use Rattle.fx_deeds.proofs.Passing.{passed_on, passed_nowhere}
 use Rattle.fx_deeds.proofs.Steps.{remove_goes, remove_stops, removing, Whole}
 use Rattle.fx_deeds.proofs.Allowing.{only_on, only_nowhere}
 use Rattle.fx_deeds.specs.Writable.{IsOneOf}
-use Rattle.fx_base.specs.Silence.{IsLost}
+use Rattle.fx_base.specs.Silence.{SilenceCause}
 use Rattle.fx_deeds.proofs.Deeding.{goes_nowhere}
-use Rattle.fx_deeds.specs.Lefts.{Decides}
+use Rattle.fx_deeds.specs.RemainingRows.{RestDecides}
 use Rattle.fx_deeds.proofs.removing.remove_rows.Goals as goal
 
 pub returns-in_err-answer-clause-passed : goal.returns-in_err-answer-clause-passed
@@ -50,9 +50,9 @@ loop-row-init g c =
     let W : Whole (g.W.World.App) = removing c.args.table c.args.rows.now in
     record {
       passed = passed_nowhere _;
-      only = only_nowhere (IsOneOf (source.Table c.args.table ∷ [])) (IsLost m m) s;
-      done = goes_nowhere (IsLost m m) (Decides W W) s (λ a x t h. h);
-      cut = carries_nowhere (IsLost m m) s (CutRemoved c.args.table (map view c.args.rows.now));
+      only = only_nowhere (IsOneOf (source.Table c.args.table ∷ [])) (SilenceCause m m) s;
+      done = goes_nowhere (SilenceCause m m) (RestDecides W W) s (λ a x t h. h);
+      cut = carries_nowhere (SilenceCause m m) s (CutRemoved c.args.table (map view c.args.rows.now));
     }
 
 pub returns-in-Some-2-clause-passed : goal.returns-in-Some-2-clause-passed

@@ -1,11 +1,11 @@
 use Rattle.std.proofs.Common.{◌∷◌, [], length, map}
-use Rattle.fx_base.specs.Silence.{Goes, IsLost}
+use Rattle.fx_base.specs.Silence.{MayFallSilent, SilenceCause}
 use Rattle.fx_types.specs.ValueView.{view}
 use Rattle.fx_core.specs.declared.sources.Source.TheVariants as source
 use Rattle.fx_deeds.proofs.CutOff.{Carries, CutRemoved}
 use Rattle.fx_deeds.specs.Deeds.{AreRemoved}
-use Rattle.fx_deeds.specs.Lefts.{Decides}
-use Rattle.fx_deeds.specs.Stages.{Passed, stage}
+use Rattle.fx_deeds.specs.RemainingRows.{RestDecides}
+use Rattle.fx_deeds.specs.WorldSteps.{Passed, stage}
 use Rattle.fx_deeds.specs.Writable.{IsOneOf, WritesOnly}
 use Rattle.fx_deeds.proofs.removing.remove_rows.Given as goal
 
@@ -13,9 +13,9 @@ abbrev pub invariant-loop-row : goal.invariant-loop-row
 invariant-loop-row g l = record {
   passed : Passed (stage (g.W.Env.fixed l.fn.world) (g.W.World.state l.fn.world) (g.W.Env.marks l.fn.world) (g.W.Env.visited l.fn.world))
       (stage (g.W.Env.fixed l.world) (g.W.World.state l.world) (g.W.Env.marks l.world) (g.W.Env.visited l.world));
-  only : Goes (IsLost (g.W.Env.marks l.fn.world) (g.W.Env.marks l.world)) (WritesOnly (IsOneOf (source.Table l.table ∷ []))) (g.W.World.state l.fn.world) (g.W.World.state l.world);
-  done : Goes (IsLost (g.W.Env.marks l.fn.world) (g.W.Env.marks l.world)) (Decides (AreRemoved l.table (map view l.rest)) (AreRemoved l.table (map view l.rows))) (g.W.World.state l.fn.world) (g.W.World.state l.world);
-  cut : Goes (IsLost (g.W.Env.marks l.fn.world) (g.W.Env.marks l.world)) (Carries (CutRemoved l.table (map view l.rest)) (CutRemoved l.table (map view l.rows))) (g.W.World.state l.fn.world) (g.W.World.state l.world);
+  only : MayFallSilent (SilenceCause (g.W.Env.marks l.fn.world) (g.W.Env.marks l.world)) (WritesOnly (IsOneOf (source.Table l.table ∷ []))) (g.W.World.state l.fn.world) (g.W.World.state l.world);
+  done : MayFallSilent (SilenceCause (g.W.Env.marks l.fn.world) (g.W.Env.marks l.world)) (RestDecides (AreRemoved l.table (map view l.rest)) (AreRemoved l.table (map view l.rows))) (g.W.World.state l.fn.world) (g.W.World.state l.world);
+  cut : MayFallSilent (SilenceCause (g.W.Env.marks l.fn.world) (g.W.Env.marks l.world)) (Carries (CutRemoved l.table (map view l.rest)) (CutRemoved l.table (map view l.rows))) (g.W.World.state l.fn.world) (g.W.World.state l.world);
 }
 
 abbrev pub decreases-loop-row : goal.decreases-loop-row

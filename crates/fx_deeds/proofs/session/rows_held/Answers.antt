@@ -1,5 +1,5 @@
 use Rattle.std.proofs.Common.{◌≡◌, ◌++◌, ap, ◌∙◌}
-use Rattle.fx_base.specs.Silence.{IsLost}
+use Rattle.fx_base.specs.Silence.{SilenceCause}
 use Rattle.fx_types.specs.ValueView.{view}
 use Rattle.fx_semantics.specs.Rows.{rows_in}
 use Rattle.fx_core.specs.declared.sources.Source.TheVariants as source
@@ -26,15 +26,15 @@ returns-clause-fits g c = λ cs h.
 
 pub returns-in_err-value-clause-stays : goal.returns-in_err-value-clause-stays
 returns-in_err-value-clause-stays g c =
-    state_stays (IsLost (g.W.Env.marks c.args.world.now) (g.W.Env.marks c.read.new.self)) (g.W.Env.told c.args.world.now) (g.W.Env.told c.read.new.self) (g.W.World.state c.args.world.now) (g.W.World.state c.read.new.self) (g.met.W.World.keeps c.args.world.now c.read.new.self) (g.met.W.World.lost c.args.world.now) (g.met.W.World.lost c.read.new.self) c.read.ensures.told
+    state_stays (SilenceCause (g.W.Env.marks c.args.world.now) (g.W.Env.marks c.read.new.self)) (g.W.Env.told c.args.world.now) (g.W.Env.told c.read.new.self) (g.W.World.state c.args.world.now) (g.W.World.state c.read.new.self) (g.met.W.World.keeps c.args.world.now c.read.new.self) (g.met.W.World.lost c.args.world.now) (g.met.W.World.lost c.read.new.self) c.read.ensures.told
 
 pub returns-in_err-with_table-clause-stays : goal.returns-in_err-with_table-clause-stays
 returns-in_err-with_table-clause-stays g c =
-    state_stays (IsLost (g.W.Env.marks c.args.world.now) (g.W.Env.marks c.read.new.self)) (g.W.Env.told c.args.world.now) (g.W.Env.told c.read.new.self) (g.W.World.state c.args.world.now) (g.W.World.state c.read.new.self) (g.met.W.World.keeps c.args.world.now c.read.new.self) (g.met.W.World.lost c.args.world.now) (g.met.W.World.lost c.read.new.self) c.read.ensures.told
+    state_stays (SilenceCause (g.W.Env.marks c.args.world.now) (g.W.Env.marks c.read.new.self)) (g.W.Env.told c.args.world.now) (g.W.Env.told c.read.new.self) (g.W.World.state c.args.world.now) (g.W.World.state c.read.new.self) (g.met.W.World.keeps c.args.world.now c.read.new.self) (g.met.W.World.lost c.args.world.now) (g.met.W.World.lost c.read.new.self) c.read.ensures.told
 
 pub returns-clause-stays : goal.returns-clause-stays
 returns-clause-stays g c =
-    state_stays (IsLost (g.W.Env.marks c.args.world.now) (g.W.Env.marks c.read.new.self)) (g.W.Env.told c.args.world.now) (g.W.Env.told c.read.new.self) (g.W.World.state c.args.world.now) (g.W.World.state c.read.new.self) (g.met.W.World.keeps c.args.world.now c.read.new.self) (g.met.W.World.lost c.args.world.now) (g.met.W.World.lost c.read.new.self) c.read.ensures.told
+    state_stays (SilenceCause (g.W.Env.marks c.args.world.now) (g.W.Env.marks c.read.new.self)) (g.W.Env.told c.args.world.now) (g.W.Env.told c.read.new.self) (g.W.World.state c.args.world.now) (g.W.World.state c.read.new.self) (g.met.W.World.keeps c.args.world.now c.read.new.self) (g.met.W.World.lost c.args.world.now) (g.met.W.World.lost c.read.new.self) c.read.ensures.told
 
 pub returns-in_err-value-clause-passed : goal.returns-in_err-value-clause-passed
 returns-in_err-value-clause-passed g c =

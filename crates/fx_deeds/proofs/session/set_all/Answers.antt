@@ -3,13 +3,13 @@ use Rattle.session_state.specs.declared.change.Change.TheVariants as change
 use Rattle.std.proofs.Common.{inl, map, refl}
 use Rattle.fx_types.specs.ValueView.{view}
 use Rattle.fx_deeds.proofs.CutOff.{CutSet, carried, cut_where, on_any, refused_stays, set_goes_on, carries_nowhere}
-use Rattle.fx_base.specs.Silence.{IsLost}
+use Rattle.fx_base.specs.Silence.{SilenceCause}
 use Rattle.fx_deeds.proofs.Passing.{passed_on, passed_nowhere}
 use Rattle.fx_deeds.proofs.Steps.{can_rest, set_ends, set_goes, set_refused, setting, Whole}
 use Rattle.fx_deeds.proofs.Allowing.{first_among, only_over, others_among, only_nowhere}
 use Rattle.fx_deeds.specs.Writable.{IsOneOf}
 use Rattle.fx_deeds.proofs.Deeding.{goes_nowhere}
-use Rattle.fx_deeds.specs.Lefts.{Decides}
+use Rattle.fx_deeds.specs.RemainingRows.{RestDecides}
 use Rattle.fx_deeds.proofs.session.set_all.Goals as goal
 
 pub returns-in_err-change-clause-passed : goal.returns-in_err-change-clause-passed
@@ -34,7 +34,7 @@ loop-value-preserved g c = record {
 
 pub returns-clause-done : goal.returns-clause-done
 returns-clause-done g c =
-    set_ends (IsLost (g.W.Env.marks c.args.world.now) (g.W.Env.marks c.loop-value.world)) (g.W.Env.fixed c.args.world.now).types (g.W.World.state c.args.world.now) (g.W.World.state c.loop-value.world)
+    set_ends (SilenceCause (g.W.Env.marks c.args.world.now) (g.W.Env.marks c.loop-value.world)) (g.W.Env.fixed c.args.world.now).types (g.W.World.state c.args.world.now) (g.W.World.state c.loop-value.world)
     (setting c.args.variables.now c.args.values.now) c.loop-value.names.now c.loop-value.rest.now (nil_from_length _ c.in_default.ensures.cases) c.loop-value.invariant.can c.loop-value.invariant.done
 
 pub returns-in_err-change-clause-only : goal.returns-in_err-change-clause-only
@@ -54,7 +54,7 @@ returns-in_err-change-clause-cut g c =
 pub returns-in_err-copy-clause-cut : goal.returns-in_err-copy-clause-cut
 returns-in_err-copy-clause-cut g c =
     on_any _
-    (cut_where (IsLost (g.W.Env.marks c.args.world.now) (g.W.Env.marks c.loop-value.world)) (g.W.World.state c.args.world.now) (g.W.World.state c.loop-value.world) (CutSet c.loop-value.names.now (map view c.loop-value.rest.now))
+    (cut_where (SilenceCause (g.W.Env.marks c.args.world.now) (g.W.Env.marks c.loop-value.world)) (g.W.World.state c.args.world.now) (g.W.World.state c.loop-value.world) (CutSet c.loop-value.names.now (map view c.loop-value.rest.now))
     (CutSet c.args.variables.now (map view c.args.values.now)) (λ s. inl refl) c.loop-value.invariant.cut)
 
 pub returns-in_err-error-clause-cut : goal.returns-in_err-error-clause-cut
@@ -62,7 +62,7 @@ returns-in_err-error-clause-cut g c =
     on_any _
     (carried _ _ _ _ _ _ (CutSet c.loop-value.names.now (map view c.loop-value.rest.now)) (CutSet c.args.variables.now (map view c.args.values.now)) c.loop-value.invariant.passed.later c.change.ensures.passed.later (λ s. inl refl)
     c.loop-value.invariant.cut
-    (refused_stays (IsLost (g.W.Env.marks c.loop-value.world) (g.W.Env.marks c.change.new.world)) (change.Context c.first_variable-number.result.0 c.in_ok-copy.field-0) _ (g.W.World.state c.loop-value.world) (g.W.World.state c.change.new.world) c.if-not-branch.true c.in_ok-change.ensures.done))
+    (refused_stays (SilenceCause (g.W.Env.marks c.loop-value.world) (g.W.Env.marks c.change.new.world)) (change.Context c.first_variable-number.result.0 c.in_ok-copy.field-0) _ (g.W.World.state c.loop-value.world) (g.W.World.state c.change.new.world) c.if-not-branch.true c.in_ok-change.ensures.done))
 
 pub loop-value-init : goal.loop-value-init
 loop-value-init g c =
@@ -72,10 +72,10 @@ loop-value-init g c =
     record {
       passed = passed_nowhere _;
       allowed = λ x h. h;
-      only = only_nowhere (IsOneOf c.args.variables.now) (IsLost m m) s;
+      only = only_nowhere (IsOneOf c.args.variables.now) (SilenceCause m m) s;
       can = c.requires;
-      done = goes_nowhere (IsLost m m) (Decides W W) s (λ a x t h. h);
-      cut = carries_nowhere (IsLost m m) s (CutSet c.args.variables.now (map view c.args.values.now));
+      done = goes_nowhere (SilenceCause m m) (RestDecides W W) s (λ a x t h. h);
+      cut = carries_nowhere (SilenceCause m m) s (CutSet c.args.variables.now (map view c.args.values.now));
     }
 
 pub returns-then-not-branch-clause-passed : goal.returns-then-not-branch-clause-passed

@@ -1,12 +1,12 @@
 use Rattle.fx_deeds.proofs.CutOff.{Carries, CutSet}
 use Rattle.std.proofs.Common.{length, map}
-use Rattle.fx_base.specs.Silence.{Goes, IsLost}
+use Rattle.fx_base.specs.Silence.{MayFallSilent, SilenceCause}
 use Rattle.fx_types.specs.ValueView.{view}
 use Rattle.fx_core.specs.declared.sources.Source.{Source}
-use Rattle.fx_deeds.specs.Deeds.{AreSet}
+use Rattle.fx_deeds.specs.Deeds.{UpdatesContext}
 use Rattle.fx_deeds.specs.Fitting.{CanTakeAll}
-use Rattle.fx_deeds.specs.Lefts.{Decides}
-use Rattle.fx_deeds.specs.Stages.{Passed, stage}
+use Rattle.fx_deeds.specs.RemainingRows.{RestDecides}
+use Rattle.fx_deeds.specs.WorldSteps.{Passed, stage}
 use Rattle.fx_deeds.specs.Within.{IsAmong}
 use Rattle.fx_deeds.specs.Writable.{IsOneOf, WritesOnly}
 use Rattle.fx_deeds.proofs.session.set_all.Given as goal
@@ -16,10 +16,10 @@ invariant-loop-value g l = record {
   passed : Passed (stage (g.W.Env.fixed l.fn.world) (g.W.World.state l.fn.world) (g.W.Env.marks l.fn.world) (g.W.Env.visited l.fn.world))
       (stage (g.W.Env.fixed l.world) (g.W.World.state l.world) (g.W.Env.marks l.world) (g.W.Env.visited l.world));
   allowed : (x : Source) → IsAmong x l.names → IsAmong x l.variables;
-  only : Goes (IsLost (g.W.Env.marks l.fn.world) (g.W.Env.marks l.world)) (WritesOnly (IsOneOf l.variables)) (g.W.World.state l.fn.world) (g.W.World.state l.world);
+  only : MayFallSilent (SilenceCause (g.W.Env.marks l.fn.world) (g.W.Env.marks l.world)) (WritesOnly (IsOneOf l.variables)) (g.W.World.state l.fn.world) (g.W.World.state l.world);
   can : CanTakeAll (g.W.Env.fixed l.fn.world).types l.names (map view l.rest);
-  done : Goes (IsLost (g.W.Env.marks l.fn.world) (g.W.Env.marks l.world)) (Decides (AreSet l.names (map view l.rest)) (AreSet l.variables (map view l.values))) (g.W.World.state l.fn.world) (g.W.World.state l.world);
-  cut : Goes (IsLost (g.W.Env.marks l.fn.world) (g.W.Env.marks l.world)) (Carries (CutSet l.names (map view l.rest)) (CutSet l.variables (map view l.values))) (g.W.World.state l.fn.world) (g.W.World.state l.world);
+  done : MayFallSilent (SilenceCause (g.W.Env.marks l.fn.world) (g.W.Env.marks l.world)) (RestDecides (UpdatesContext l.names (map view l.rest)) (UpdatesContext l.variables (map view l.values))) (g.W.World.state l.fn.world) (g.W.World.state l.world);
+  cut : MayFallSilent (SilenceCause (g.W.Env.marks l.fn.world) (g.W.Env.marks l.world)) (Carries (CutSet l.names (map view l.rest)) (CutSet l.variables (map view l.values))) (g.W.World.state l.fn.world) (g.W.World.state l.world);
 }
 
 abbrev pub decreases-loop-value : goal.decreases-loop-value

@@ -1,6 +1,6 @@
 use Rattle.std.proofs.Common.{◌≡◌, ◌∙◌, ap}
 use Rattle.std.specs.Prelude.{option_map}
-use Rattle.fx_base.specs.Silence.{IsLost}
+use Rattle.fx_base.specs.Silence.{SilenceCause}
 use Rattle.fx_types.specs.ValueView.{view}
 use Rattle.fx_env.specs.Telling.{tables_told}
 use Rattle.fx_semantics.specs.Rows.{rows_in}
@@ -9,7 +9,7 @@ use Rattle.fx_deeds.proofs.Finding.{is_query}
 use Rattle.fx_deeds.proofs.Passing.{passed_staying}
 use Rattle.fx_deeds.proofs.Tabling.{cells_found, found_there}
 use Rattle.fx_deeds.proofs.Told.{state_holds, state_stays}
-use Rattle.fx_deeds.specs.Deeds.{row_at}
+use Rattle.fx_deeds.specs.Deeds.{row_numbered}
 use Rattle.fx_deeds.specs.Finding.{first_cells}
 use Rattle.fx_deeds.proofs.table_rows.find_cells.Goals as goal
 
@@ -27,7 +27,7 @@ returns-clause-found g c =
     let found = cells_found c.asked_once.ensures schema (tables_told told) c.args.table c.args.id c.args.shape.now d o c.requires
     c.in_ok-found.ensures.value
     (c.in_ok-first_cells.ensures ∙ ap (λ z. first_cells z (rows_in d)) c.as_slice.ensures) in
-    state_holds _ _ _ (λ s. o ≡ option_map (λ (r : Row). r.cells) (row_at c.args.table c.args.id s))
+    state_holds _ _ _ (λ s. o ≡ option_map (λ (r : Row). r.cells) (row_numbered c.args.table c.args.id s))
     (state_stays _ (g.W.Env.told old) told _ _ (g.met.W.World.keeps old new) (g.met.W.World.lost old) (g.met.W.World.lost new) c.scan_row.ensures.told)
     (found_there (g.W.World.state new) told c.args.shape.now c.args.table c.args.id o (g.met.W.World.lost new) (g.met.W.World.rows new) found)
 
@@ -60,12 +60,12 @@ returns-clause-passed g c =
 
 pub returns-in_err-found-clause-stays : goal.returns-in_err-found-clause-stays
 returns-in_err-found-clause-stays g c =
-    state_stays (IsLost (g.W.Env.marks c.args.world.now) (g.W.Env.marks c.scan_row.new.world)) (g.W.Env.told c.args.world.now) (g.W.Env.told c.scan_row.new.world) (g.W.World.state c.args.world.now) (g.W.World.state c.scan_row.new.world) (g.met.W.World.keeps c.args.world.now c.scan_row.new.world) (g.met.W.World.lost c.args.world.now) (g.met.W.World.lost c.scan_row.new.world) c.scan_row.ensures.told
+    state_stays (SilenceCause (g.W.Env.marks c.args.world.now) (g.W.Env.marks c.scan_row.new.world)) (g.W.Env.told c.args.world.now) (g.W.Env.told c.scan_row.new.world) (g.W.World.state c.args.world.now) (g.W.World.state c.scan_row.new.world) (g.met.W.World.keeps c.args.world.now c.scan_row.new.world) (g.met.W.World.lost c.args.world.now) (g.met.W.World.lost c.scan_row.new.world) c.scan_row.ensures.told
 
 pub returns-in_err-first_cells-clause-stays : goal.returns-in_err-first_cells-clause-stays
 returns-in_err-first_cells-clause-stays g c =
-    state_stays (IsLost (g.W.Env.marks c.args.world.now) (g.W.Env.marks c.scan_row.new.world)) (g.W.Env.told c.args.world.now) (g.W.Env.told c.scan_row.new.world) (g.W.World.state c.args.world.now) (g.W.World.state c.scan_row.new.world) (g.met.W.World.keeps c.args.world.now c.scan_row.new.world) (g.met.W.World.lost c.args.world.now) (g.met.W.World.lost c.scan_row.new.world) c.scan_row.ensures.told
+    state_stays (SilenceCause (g.W.Env.marks c.args.world.now) (g.W.Env.marks c.scan_row.new.world)) (g.W.Env.told c.args.world.now) (g.W.Env.told c.scan_row.new.world) (g.W.World.state c.args.world.now) (g.W.World.state c.scan_row.new.world) (g.met.W.World.keeps c.args.world.now c.scan_row.new.world) (g.met.W.World.lost c.args.world.now) (g.met.W.World.lost c.scan_row.new.world) c.scan_row.ensures.told
 
 pub returns-clause-stays : goal.returns-clause-stays
 returns-clause-stays g c =
-    state_stays (IsLost (g.W.Env.marks c.args.world.now) (g.W.Env.marks c.scan_row.new.world)) (g.W.Env.told c.args.world.now) (g.W.Env.told c.scan_row.new.world) (g.W.World.state c.args.world.now) (g.W.World.state c.scan_row.new.world) (g.met.W.World.keeps c.args.world.now c.scan_row.new.world) (g.met.W.World.lost c.args.world.now) (g.met.W.World.lost c.scan_row.new.world) c.scan_row.ensures.told
+    state_stays (SilenceCause (g.W.Env.marks c.args.world.now) (g.W.Env.marks c.scan_row.new.world)) (g.W.Env.told c.args.world.now) (g.W.Env.told c.scan_row.new.world) (g.W.World.state c.args.world.now) (g.W.World.state c.scan_row.new.world) (g.met.W.World.keeps c.args.world.now c.scan_row.new.world) (g.met.W.World.lost c.args.world.now) (g.met.W.World.lost c.scan_row.new.world) c.scan_row.ensures.told

@@ -1,5 +1,5 @@
 use Rattle.std.proofs.Common.{◌≡◌, ◌∙◌, ◌∷◌, [], ap, subst, sym}
-use Rattle.fx_base.specs.Silence.{IsLost}
+use Rattle.fx_base.specs.Silence.{SilenceCause}
 use Rattle.fx_core.specs.declared.sources.Source.TheVariants as source
 use Rattle.row_queries.specs.TableRows.{AreCellsOf}
 use Rattle.fx_deeds.proofs.Cells.{blanks_fit, changed_cells_fit}
@@ -18,11 +18,11 @@ make_row-requires-clause-cells g c =
 
 pub returns-in_err-blanks-clause-only : goal.returns-in_err-blanks-clause-only
 returns-in_err-blanks-clause-only g c =
-    only_nowhere (IsOneOf (source.Table c.args.table ∷ [])) (IsLost (g.W.Env.marks c.args.world.now) (g.W.Env.marks c.args.world.now)) (g.W.World.state c.args.world.now)
+    only_nowhere (IsOneOf (source.Table c.args.table ∷ [])) (SilenceCause (g.W.Env.marks c.args.world.now) (g.W.Env.marks c.args.world.now)) (g.W.World.state c.args.world.now)
 
 pub returns-in_err-cells-clause-only : goal.returns-in_err-cells-clause-only
 returns-in_err-cells-clause-only g c =
-    only_nowhere (IsOneOf (source.Table c.args.table ∷ [])) (IsLost (g.W.Env.marks c.args.world.now) (g.W.Env.marks c.args.world.now)) (g.W.World.state c.args.world.now)
+    only_nowhere (IsOneOf (source.Table c.args.table ∷ [])) (SilenceCause (g.W.Env.marks c.args.world.now) (g.W.Env.marks c.args.world.now)) (g.W.World.state c.args.world.now)
 
 pub returns-in_err-blanks-clause-passed : goal.returns-in_err-blanks-clause-passed
 returns-in_err-blanks-clause-passed g c = passed_nowhere _

@@ -1,5 +1,5 @@
 use Rattle.std.proofs.Common.{◌≡◌, ◌∙◌, ◌∷◌, [], refl, subst, sym}
-use Rattle.fx_base.specs.Silence.{IsLost}
+use Rattle.fx_base.specs.Silence.{SilenceCause}
 use Rattle.fx_env.specs.Scopes.{Fixed}
 use Rattle.fx_core.specs.declared.sources.Source.TheVariants as source
 use Rattle.row_keeper.specs.declared.rows.Put.TheVariants.{NoRow}
@@ -16,7 +16,7 @@ use Rattle.fx_deeds.proofs.Passing.{passed_on}
 use Rattle.fx_deeds.proofs.table_rows.put_changed.Goals as goal
 
 pub returns-in_default-clause-done : goal.returns-in_default-clause-done
-returns-in_default-clause-done g c = misses_row (IsLost (g.W.Env.marks c.args.world.now) (g.W.Env.marks c.find_cells.new.world)) (g.W.World.state c.args.world.now) (g.W.World.state c.find_cells.new.world) c.args.shape.now c.args.table c.args.id c.args.changes.now c.in_ok-found.field-0 c.new.result NoRow (none_of c.in_ok-found.field-0 c.in_default.not-Some) refl c.in_ok-found.ensures.found
+returns-in_default-clause-done g c = misses_row (SilenceCause (g.W.Env.marks c.args.world.now) (g.W.Env.marks c.find_cells.new.world)) (g.W.World.state c.args.world.now) (g.W.World.state c.find_cells.new.world) c.args.shape.now c.args.table c.args.id c.args.changes.now c.in_ok-found.field-0 c.new.result NoRow (none_of c.in_ok-found.field-0 c.in_default.not-Some) refl c.in_ok-found.ensures.found
 
 pub replace-requires : goal.replace-requires
 replace-requires g c =

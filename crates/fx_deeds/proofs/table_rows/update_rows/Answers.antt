@@ -1,6 +1,6 @@
 use Rattle.std.proofs.Common.{◌∷◌, [], map, inl, inr, subst, sym}
 use Rattle.std.proofs.lemmas.List.{nil_from_length}
-use Rattle.fx_base.specs.Silence.{IsLost}
+use Rattle.fx_base.specs.Silence.{SilenceCause}
 use Rattle.fx_types.specs.ValueView.{view}
 use Rattle.fx_env.specs.Scopes.{Fixed}
 use Rattle.fx_core.specs.declared.sources.Source.TheVariants as source
@@ -12,7 +12,7 @@ use Rattle.fx_deeds.specs.Writable.{IsOneOf}
 use Rattle.fx_deeds.proofs.CutOff.{on_any, carries_nowhere}
 use Rattle.fx_deeds.proofs.CutUpdates.{CutUpdated, updated_cut, updated_goes}
 use Rattle.fx_deeds.proofs.Deeding.{goes_nowhere}
-use Rattle.fx_deeds.specs.Lefts.{Decides}
+use Rattle.fx_deeds.specs.RemainingRows.{RestDecides}
 use Rattle.fx_deeds.proofs.Steps.{Whole}
 use Rattle.fx_deeds.proofs.table_rows.update_rows.Goals as goal
 
@@ -47,12 +47,12 @@ loop-row-preserved g c = record {
 
 pub returns-in_default-split_first-clause-done : goal.returns-in_default-split_first-clause-done
 returns-in_default-split_first-clause-done g c =
-    update_ends (IsLost (g.W.Env.marks c.args.world.now) (g.W.Env.marks c.loop-row.world)) (g.W.World.state c.args.world.now) (g.W.World.state c.loop-row.world) (updating c.args.shape.now c.args.table c.args.rows.now c.args.changes.now)
+    update_ends (SilenceCause (g.W.Env.marks c.args.world.now) (g.W.Env.marks c.loop-row.world)) (g.W.World.state c.args.world.now) (g.W.World.state c.loop-row.world) (updating c.args.shape.now c.args.table c.args.rows.now c.args.changes.now)
     c.args.shape.now c.args.table c.loop-row.rest.now c.loop-row.left.now (inr (nil_from_length _ c.in_default-split_first.ensures.cases)) c.loop-row.invariant.done
 
 pub returns-clause-done : goal.returns-clause-done
 returns-clause-done g c =
-    update_ends (IsLost (g.W.Env.marks c.args.world.now) (g.W.Env.marks c.loop-row.world)) (g.W.World.state c.args.world.now) (g.W.World.state c.loop-row.world) (updating c.args.shape.now c.args.table c.args.rows.now c.args.changes.now)
+    update_ends (SilenceCause (g.W.Env.marks c.args.world.now) (g.W.Env.marks c.loop-row.world)) (g.W.World.state c.args.world.now) (g.W.World.state c.loop-row.world) (updating c.args.shape.now c.args.table c.args.rows.now c.args.changes.now)
     c.args.shape.now c.args.table c.loop-row.rest.now c.loop-row.left.now (inl (nil_from_length _ c.in_default.ensures.cases)) c.loop-row.invariant.done
 
 pub returns-in-Some-2-clause-passed : goal.returns-in-Some-2-clause-passed
@@ -78,8 +78,8 @@ loop-row-init g c =
     let W : Whole (g.W.World.App) = updating c.args.shape.now c.args.table c.args.rows.now c.args.changes.now in
     record {
       passed = passed_nowhere _;
-      only = only_nowhere (IsOneOf (source.Table c.args.table ∷ [])) (IsLost m m) s;
+      only = only_nowhere (IsOneOf (source.Table c.args.table ∷ [])) (SilenceCause m m) s;
       can = c.requires.can;
-      done = goes_nowhere (IsLost m m) (Decides W W) s (λ a x t h. h);
-      cut = carries_nowhere (IsLost m m) s (CutUpdated c.args.shape.now c.args.table c.args.rows.now (map view c.args.changes.now));
+      done = goes_nowhere (SilenceCause m m) (RestDecides W W) s (λ a x t h. h);
+      cut = carries_nowhere (SilenceCause m m) s (CutUpdated c.args.shape.now c.args.table c.args.rows.now (map view c.args.changes.now));
     }

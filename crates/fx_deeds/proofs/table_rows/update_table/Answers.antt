@@ -1,5 +1,5 @@
 use Rattle.std.proofs.Common.{◌∷◌, [], map}
-use Rattle.fx_base.specs.Silence.{IsLost}
+use Rattle.fx_base.specs.Silence.{SilenceCause}
 use Rattle.fx_types.specs.ValueView.{view}
 use Rattle.fx_core.specs.declared.sources.Source.TheVariants as source
 use Rattle.fx_deeds.proofs.Tabling.{of_shape}
@@ -19,16 +19,16 @@ update_rows-requires-clause-can g c =
 
 pub returns-in_err-shape-clause-only : goal.returns-in_err-shape-clause-only
 returns-in_err-shape-clause-only g c =
-    only_nowhere (IsOneOf (source.Table c.args.table ∷ [])) (IsLost (g.W.Env.marks c.args.world.now) (g.W.Env.marks c.args.world.now)) (g.W.World.state c.args.world.now)
+    only_nowhere (IsOneOf (source.Table c.args.table ∷ [])) (SilenceCause (g.W.Env.marks c.args.world.now) (g.W.Env.marks c.args.world.now)) (g.W.World.state c.args.world.now)
 
 pub returns-in_err-shape-clause-cut : goal.returns-in_err-shape-clause-cut
 returns-in_err-shape-clause-cut g c =
     on_any _
-    (cut_nowhere (IsLost (g.W.Env.marks c.args.world.now) (g.W.Env.marks c.args.world.now)) (λ s n d t. OfTable (g.W.Env.fixed c.args.world.now).schema c.args.table (λ p. AreUpdated p c.args.table (take n c.args.rows.now) (map view c.args.changes.now) s d t)) (g.W.World.state c.args.world.now))
+    (cut_nowhere (SilenceCause (g.W.Env.marks c.args.world.now) (g.W.Env.marks c.args.world.now)) (λ s n d t. OfTable (g.W.Env.fixed c.args.world.now).schema c.args.table (λ p. AreUpdated p c.args.table (take n c.args.rows.now) (map view c.args.changes.now) s d t)) (g.W.World.state c.args.world.now))
 
 pub returns-clause-cut : goal.returns-clause-cut
 returns-clause-cut g c =
-    cut_of_table c.update_rows.result (IsLost (g.W.Env.marks c.args.world.now) (g.W.Env.marks c.update_rows.new.world)) (g.W.World.state c.args.world.now) (g.W.World.state c.update_rows.new.world) (g.W.Env.fixed c.args.world.now).schema c.args.table c.in_ok-shape.shape c.args.rows.now (map view c.args.changes.now) c.in_ok-shape.ensures c.update_rows.ensures.cut
+    cut_of_table c.update_rows.result (SilenceCause (g.W.Env.marks c.args.world.now) (g.W.Env.marks c.update_rows.new.world)) (g.W.World.state c.args.world.now) (g.W.World.state c.update_rows.new.world) (g.W.Env.fixed c.args.world.now).schema c.args.table c.in_ok-shape.shape c.args.rows.now (map view c.args.changes.now) c.in_ok-shape.ensures c.update_rows.ensures.cut
 
 pub returns-in_err-shape-clause-passed : goal.returns-in_err-shape-clause-passed
 returns-in_err-shape-clause-passed g c = passed_nowhere _

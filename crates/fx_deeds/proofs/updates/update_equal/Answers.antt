@@ -1,5 +1,5 @@
 use Rattle.std.proofs.Common.{◌≡◌, ◌∙◌, ◌∷◌, [], true, refl, map, ap, subst, sym}
-use Rattle.fx_base.specs.Silence.{IsLost}
+use Rattle.fx_base.specs.Silence.{SilenceCause}
 use Rattle.fx_types.specs.Types.{booleans, column_list}
 use Rattle.fx_types.specs.Values.{boolean}
 use Rattle.fx_types.specs.ValueView.{view}
@@ -11,8 +11,8 @@ use Rattle.fx_deeds.proofs.Lefting.{made_records, rows_back}
 use Rattle.fx_deeds.proofs.Allowing.{only_behind, only_nowhere, only_staying}
 use Rattle.fx_deeds.specs.Collections.{AreUpdatedIn, AreWith}
 use Rattle.fx_deeds.specs.Fitting.{CanChangeAll}
-use Rattle.fx_deeds.specs.Lefts.{rows_by}
-use Rattle.fx_deeds.specs.RowValues.{columns_in}
+use Rattle.fx_deeds.specs.RemainingRows.{record_rows}
+use Rattle.fx_deeds.specs.RowValues.{columns_of_rows}
 use Rattle.fx_deeds.specs.Writable.{IsOneOf}
 use Rattle.fx_deeds.proofs.Passing.{passed_nowhere, passed_on}
 use Rattle.fx_deeds.proofs.updates.update_equal.Goals as goal
@@ -24,27 +24,27 @@ pub rows_with-requires-clause-can : goal.rows_with-requires-clause-can
 rows_with-requires-clause-can g c =
     let cs = c.requires.0 in
     let e : map view c.as_slice-2.result.now ≡ map record_of c.args.kept.now = ap (map view) c.as_slice-2.ensures.value ∙ c.in_ok-kept.ensures in
-    subst (λ z. CanChangeAll z (rows_by c.as_slice-2.result.now) (map view c.args.changes.now)) (same_columns (g.W.Env.fixed c.args.world.now).types c.args.collection cs (column_list c.in_ok-columns.columns) c.requires.1 c.in_ok-columns.ensures)
+    subst (λ z. CanChangeAll z (record_rows c.as_slice-2.result.now) (map view c.args.changes.now)) (same_columns (g.W.Env.fixed c.args.world.now).types c.args.collection cs (column_list c.in_ok-columns.columns) c.requires.1 c.in_ok-columns.ensures)
     (subst (λ z. CanChangeAll cs z (map view c.args.changes.now)) (sym (rows_back c.as_slice-2.result.now c.args.kept.now e)) c.requires.2)
 
 pub returns-clause-done : goal.returns-clause-done
 returns-clause-done g c =
     let cs = column_list c.in_ok-columns.columns in
     let e : map view c.as_slice-2.result.now ≡ map record_of c.args.kept.now = ap (map view) c.as_slice-2.ensures.value ∙ c.in_ok-kept.ensures in
-    updated_in c.make.result _ _ _ _ _ _ c.args.collection (g.W.Env.fixed c.args.world.now).types cs c.in_ok-rows.rows c.in_ok-made.made c.args.kept.now (rows_by c.as_slice-2.result.now) (map view c.args.changes.now)
+    updated_in c.make.result _ _ _ _ _ _ c.args.collection (g.W.Env.fixed c.args.world.now).types cs c.in_ok-rows.rows c.in_ok-made.made c.args.kept.now (record_rows c.as_slice-2.result.now) (map view c.args.changes.now)
     c.rows_held.ensures.passed.later c.make.ensures.passed.later c.in_ok-columns.ensures (rows_back c.as_slice-2.result.now c.args.kept.now e)
-    (subst (λ z. AreWith cs z (rows_by c.as_slice-2.result.now) (map view c.args.changes.now) c.in_ok-made.made) c.as_slice.ensures c.in_ok-made.ensures.with) c.in_ok-rows.ensures.held c.make.ensures.done
+    (subst (λ z. AreWith cs z (record_rows c.as_slice-2.result.now) (map view c.args.changes.now) c.in_ok-made.made) c.as_slice.ensures c.in_ok-made.ensures.with) c.in_ok-rows.ensures.held c.make.ensures.done
 
 pub returns-clause-fits : goal.returns-clause-fits
 returns-clause-fits g c = c.make.ensures.fits booleans refl
 
 pub returns-in_err-columns-clause-only : goal.returns-in_err-columns-clause-only
 returns-in_err-columns-clause-only g c =
-    only_nowhere (IsOneOf (source.Gathered c.args.collection ∷ [])) (IsLost (g.W.Env.marks c.args.world.now) (g.W.Env.marks c.args.world.now)) (g.W.World.state c.args.world.now)
+    only_nowhere (IsOneOf (source.Gathered c.args.collection ∷ [])) (SilenceCause (g.W.Env.marks c.args.world.now) (g.W.Env.marks c.args.world.now)) (g.W.World.state c.args.world.now)
 
 pub returns-in_err-kept-clause-only : goal.returns-in_err-kept-clause-only
 returns-in_err-kept-clause-only g c =
-    only_nowhere (IsOneOf (source.Gathered c.args.collection ∷ [])) (IsLost (g.W.Env.marks c.args.world.now) (g.W.Env.marks c.args.world.now)) (g.W.World.state c.args.world.now)
+    only_nowhere (IsOneOf (source.Gathered c.args.collection ∷ [])) (SilenceCause (g.W.Env.marks c.args.world.now) (g.W.Env.marks c.args.world.now)) (g.W.World.state c.args.world.now)
 
 pub returns-in_err-rows-clause-only : goal.returns-in_err-rows-clause-only
 returns-in_err-rows-clause-only g c =
@@ -63,10 +63,10 @@ returns-clause-cut g c =
     let cs = column_list c.in_ok-columns.columns in
     let types = (g.W.Env.fixed c.args.world.now).types in
     let e : map view c.as_slice-2.result.now ≡ map record_of c.args.kept.now = ap (map view) c.as_slice-2.ensures.value ∙ c.in_ok-kept.ensures in
-    held_cut c.make.result _ _ _ _ _ _ c.args.collection c.in_ok-rows.rows c.in_ok-made.made (boolean true) (AreUpdatedIn (columns_in (types (source.Gathered c.args.collection))) c.args.collection c.args.kept.now (map view c.args.changes.now))
+    held_cut c.make.result _ _ _ _ _ _ c.args.collection c.in_ok-rows.rows c.in_ok-made.made (boolean true) (AreUpdatedIn (columns_of_rows (types (source.Gathered c.args.collection))) c.args.collection c.args.kept.now (map view c.args.changes.now))
     c.rows_held.ensures.passed.later c.make.ensures.passed.later
-    (updates_in c.args.collection types cs c.in_ok-rows.rows c.in_ok-made.made c.args.kept.now (rows_by c.as_slice-2.result.now) (map view c.args.changes.now) c.in_ok-columns.ensures (rows_back c.as_slice-2.result.now c.args.kept.now e)
-    (subst (λ z. AreWith cs z (rows_by c.as_slice-2.result.now) (map view c.args.changes.now) c.in_ok-made.made) c.as_slice.ensures c.in_ok-made.ensures.with)) c.in_ok-rows.ensures.held c.make.ensures.cut
+    (updates_in c.args.collection types cs c.in_ok-rows.rows c.in_ok-made.made c.args.kept.now (record_rows c.as_slice-2.result.now) (map view c.args.changes.now) c.in_ok-columns.ensures (rows_back c.as_slice-2.result.now c.args.kept.now e)
+    (subst (λ z. AreWith cs z (record_rows c.as_slice-2.result.now) (map view c.args.changes.now) c.in_ok-made.made) c.as_slice.ensures c.in_ok-made.ensures.with)) c.in_ok-rows.ensures.held c.make.ensures.cut
 
 pub returns-clause-passed : goal.returns-clause-passed
 returns-clause-passed g c = passed_on _ _ _ c.rows_held.ensures.passed c.make.ensures.passed

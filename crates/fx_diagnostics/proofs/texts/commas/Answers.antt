@@ -4,8 +4,8 @@ use Rattle.std.proofs.lemmas.Result.{IfOk-weaker}
 use Rattle.std.proofs.lemmas.Str.{chars_from_encodes, encodes-append}
 use Rattle.std.specs.Prelude.{encode_utf8_all}
 use Rattle.std.specs.Str.{chars}
-use Rattle.fx_typing.specs.Details.{commas}
-use Rattle.fx_diagnostics.specs.Gaps.{comma_at}
+use Rattle.fx_typing.specs.Details.{comma_separated}
+use Rattle.fx_diagnostics.specs.Separators.{comma_at}
 use Rattle.fx_diagnostics.proofs.Lists.{commas_next}
 use Rattle.fx_diagnostics.proofs.texts.commas.Goals as goal
 
@@ -19,6 +19,6 @@ loop-place-preserved c =
 
 pub returns : goal.returns
 returns c =
-    let spelt = sym (c.as_str.ensures.value ∙ c.loop-place.invariant ∙ ap (λ (ts : List (List ℕ)). encode_utf8_all (commas ts)) (take_all c.loop-place.place c.args.texts.now (omega arith))) in
-    let same : chars c.as_str.result.now ≡ commas c.args.texts.now = sym (chars_from_encodes (commas c.args.texts.now) c.as_str.result.now c.as_str.utf8 spelt) in
+    let spelt = sym (c.as_str.ensures.value ∙ c.loop-place.invariant ∙ ap (λ (ts : List (List ℕ)). encode_utf8_all (comma_separated ts)) (take_all c.loop-place.place c.args.texts.now (omega arith))) in
+    let same : chars c.as_str.result.now ≡ comma_separated c.args.texts.now = sym (chars_from_encodes (comma_separated c.args.texts.now) c.as_str.result.now c.as_str.utf8 spelt) in
     IfOk-weaker c.of.result _ _ (λ w e. e ∙ same) c.of.ensures

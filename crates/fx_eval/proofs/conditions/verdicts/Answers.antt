@@ -1,7 +1,7 @@
 use Rattle.std.proofs.Common.{◌≡◌, ◌∙◌, ap, length, map, sym}
 use Rattle.std.proofs.lemmas.List.{length-map}
 use Rattle.fx_types.specs.ValueView.{view}
-use Rattle.fx_eval.specs.Given.{given}
+use Rattle.fx_eval.specs.Given.{argument_values}
 use Rattle.fx_eval.proofs.Turns.{condition_many, for_many, next_formula, verdict_step}
 use Rattle.fx_eval.proofs.conditions.verdicts.Goals as goal
 
@@ -16,7 +16,7 @@ loop-condition-preserved c =
     let n = length c.args.rows.now in
     let made = c.in_ok-verdicts-2.ensures in
     let next = next_formula n left rest x c.in-Some.ensures.steps.0 c.loop-condition.invariant.fine in
-    let each_one : length ds ≡ n = for_many n (given x) ds c.values_of.ensures next.0 in
+    let each_one : length ds ≡ n = for_many n (argument_values x) ds c.values_of.ensures next.0 in
     let same : length (map view ds) ≡ length (map view vs) = length-map ds view ∙ each_one ∙ sym c.loop-condition.invariant.long ∙ sym (length-map vs view) in
     record {
       value = verdict_step _ (map view vs) left rest x (map view ds) (map view ws) c.in-Some.ensures.steps.0 c.values_of.ensures made c.loop-condition.invariant.value;

@@ -21,20 +21,20 @@ use Rattle.fx_eval.proofs.Visiting.{all_passed, all_step, end_passed, fields_ste
 use Rattle.fx_eval.proofs.Visiting.{each_step as each_rows_step}
 use Rattle.fx_eval.specs.Visits.{TurnVisits, Visits, parts}
 use Rattle.fx_eval.specs.declared.demands.Demand.TheVariants as demand
-use Rattle.fx_eval.specs.Moments.{moment}
-use Rattle.fx_eval.specs.Courses.{answers, catches, chooses, goes, going, passes}
+use Rattle.fx_eval.specs.EvalSteps.{moment}
+use Rattle.fx_eval.specs.Courses.{answers, catches, chooses, goes, course_going, passes}
 use Rattle.fx_eval.specs.Demands.{CanStand}
 use Rattle.fx_eval.specs.Parts.{AreBranches, AreConditions, AreFine, AreRecoveries, IsSwitched, caught_in, inner, terms_of}
 use Rattle.fx_types.specs.declared.faults.Fault.{Fault}
-use Rattle.fx_env.specs.Scopes.{CanEvaluate, Held, around}
+use Rattle.fx_env.specs.Scopes.{CanEvaluate, ScopeValues, around}
 use Rattle.fx_semantics.specs.Around.{record_of}
 use Rattle.fx_semantics.specs.Around.{catching as around_caught}
 use Rattle.fx_semantics.specs.Fresh.{IsValue, meaning}
 use Rattle.fx_semantics.specs.Rows.{IsOfFound}
 use Rattle.fx_core.specs.Term.{of, all, call, cons, over}
-use Rattle.fx_core.specs.TermView.{branch}
+use Rattle.fx_core.specs.TermView.{core_branch}
 use Rattle.fx_typing.specs.WellTyped.{inside, plain}
-use Rattle.fx_eval.specs.Given.{IsGiven, given}
+use Rattle.fx_eval.specs.Given.{PartGives, argument_values}
 use Rattle.fx_value.specs.Fits.{fits_in}
 use Rattle.fx_core.proofs.Parts.{part_is_smaller}
 use Rattle.fx_eval.proofs.evaluate.+tree.Goals as goal
@@ -149,131 +149,131 @@ query-returns g t c = record {
 -- ---- nodes
 
 pub node-row-requires : goal.node-row-requires
-node-row-requires g t c = row_is _ _ c.in-Row.place _ (sym (ap branch c.in-Row.is) ∙ c.core.view_is) c.requires
+node-row-requires g t c = row_is _ _ c.in-Row.place _ (sym (ap core_branch c.in-Row.is) ∙ c.core.view_is) c.requires
 
 pub node-tree-requires : goal.node-tree-requires
 node-tree-requires g t c κs within =
-    let e = sym (ap branch c.in-Dot.is) ∙ c.core.view_is in
+    let e = sym (ap core_branch c.in-Dot.is) ∙ c.core.view_is in
     (let h = one_falls _ _ _ _ e c.deref.ensures in omega (arith, h), (within.0, (within.1, only_is _ _ _ _ _ _ refl e c.deref.ensures c.requires)))
 
 pub node-tree-requires-in-Coerce : goal.node-tree-requires-in-Coerce
 node-tree-requires-in-Coerce g t c κs within =
-    let e = sym (ap branch c.in-Coerce.is) ∙ c.core.view_is in
+    let e = sym (ap core_branch c.in-Coerce.is) ∙ c.core.view_is in
     (let h = one_falls _ _ _ _ e c.deref-in-Coerce.ensures in omega (arith, h), (within.0, (within.1, only_is _ _ _ _ _ _ refl e c.deref-in-Coerce.ensures c.requires)))
 
 pub node-coerce-requires : goal.node-coerce-requires
 node-coerce-requires g t c =
-    coerce_is _ _ _ _ _ _ _ (sym (ap branch c.in-Coerce.is) ∙ c.core.view_is) c.deref-in-Coerce.ensures c.requires c.in_ok-value-in-Coerce.ensures.fits
+    coerce_is _ _ _ _ _ _ _ (sym (ap core_branch c.in-Coerce.is) ∙ c.core.view_is) c.deref-in-Coerce.ensures c.requires c.in_ok-value-in-Coerce.ensures.fits
 
 pub node-go_through-requires : goal.node-go_through-requires
 node-go_through-requires g t c κs within =
-    let e = sym (ap branch c.in-All.is) ∙ c.core.view_is in (
+    let e = sym (ap core_branch c.in-All.is) ∙ c.core.view_is in (
       let h = parts_fall _ _ _ _ e c.as_slice.ensures in omega (arith, h),
       (within.0, (within.1, there (AreConditions _ _) _ _ _ _ _ _ (all_ready _ _ _) e c.as_slice.ensures c.requires)),
     )
 
 pub node-go_through-requires-in-Any : goal.node-go_through-requires-in-Any
 node-go_through-requires-in-Any g t c κs within =
-    let e = sym (ap branch c.in-Any.is) ∙ c.core.view_is in (
+    let e = sym (ap core_branch c.in-Any.is) ∙ c.core.view_is in (
       let h = parts_fall _ _ _ _ e c.as_slice-in-Any.ensures in omega (arith, h),
       (within.0, (within.1, there (AreConditions _ _) _ _ _ _ _ _ (any_ready _ _ _) e c.as_slice-in-Any.ensures c.requires)),
     )
 
 pub node-go_through-requires-in-If : goal.node-go_through-requires-in-If
 node-go_through-requires-in-If g t c κs within =
-    let e = sym (ap branch c.in-If.is) ∙ c.core.view_is in (
+    let e = sym (ap core_branch c.in-If.is) ∙ c.core.view_is in (
       let h = parts_fall _ _ _ _ e c.as_slice-in-If.ensures in omega (arith, h),
       (within.0, (within.1, there (AreBranches _ _) _ _ _ _ _ _ (if_ready _ _ _) e c.as_slice-in-If.ensures c.requires)),
     )
 
 pub node-go_through-requires-in-Switch : goal.node-go_through-requires-in-Switch
 node-go_through-requires-in-Switch g t c κs within =
-    let e = sym (ap branch c.in-Switch.is) ∙ c.core.view_is in (
+    let e = sym (ap core_branch c.in-Switch.is) ∙ c.core.view_is in (
       let h = parts_fall _ _ _ _ e c.as_slice-in-Switch.ensures in omega (arith, h),
       (within.0, (within.1, there (IsSwitched _ _) _ _ _ _ _ _ (switch_ready _ _ _) e c.as_slice-in-Switch.ensures c.requires)),
     )
 
 pub node-go_through-requires-in-IfError : goal.node-go_through-requires-in-IfError
 node-go_through-requires-in-IfError g t c κs within =
-    let e = sym (ap branch c.in-IfError.is) ∙ c.core.view_is in (
+    let e = sym (ap core_branch c.in-IfError.is) ∙ c.core.view_is in (
       let h = parts_fall _ _ _ _ e c.as_slice-in-IfError.ensures in omega (arith, h),
       (within.0, (within.1, there (AreRecoveries _ _) _ _ _ _ _ _ (recover_ready _ _ _) e c.as_slice-in-IfError.ensures c.requires)),
     )
 
 pub node-go_through-requires-in-Coalesce : goal.node-go_through-requires-in-Coalesce
 node-go_through-requires-in-Coalesce g t c κs within =
-    let e = ap (λ f. of (call f) (all c.in-Call.parts)) (sym c.in-Coalesce.is) ∙ sym (ap branch c.in-Call.is) ∙ c.core.view_is in (
+    let e = ap (λ f. of (call f) (all c.in-Call.parts)) (sym c.in-Coalesce.is) ∙ sym (ap core_branch c.in-Call.is) ∙ c.core.view_is in (
       let h = parts_fall _ _ _ _ e c.as_slice-in-Coalesce.ensures in omega (arith, h),
       (within.0, (within.1, there (AreFine _ _) _ _ _ _ _ _ (coalesce_ready _ _ _) e c.as_slice-in-Coalesce.ensures c.requires)),
     )
 
 pub node-part_values-requires : goal.node-part_values-requires
 node-part_values-requires g t c κs within =
-    let e = sym (ap branch c.in-Call.is) ∙ c.core.view_is in (
+    let e = sym (ap core_branch c.in-Call.is) ∙ c.core.view_is in (
       let h = parts_fall _ _ _ _ e c.as_slice-in_default.ensures in omega (arith, h),
       (within.0, (within.1, there (AreFine _ _) _ _ _ _ _ _ (call_fine _ _ _ _) e c.as_slice-in_default.ensures c.requires)),
     )
 
 pub node-apply-requires : goal.node-apply-requires
 node-apply-requires g t c =
-    apply_is c.values_fit.ensures c.fitting_can_apply.ensures _ None _ _ _ _ _ _ _ (sym (ap branch c.in-Call.is) ∙ c.core.view_is) c.as_slice-in_default.ensures c.requires
+    apply_is c.values_fit.ensures c.fitting_can_apply.ensures _ None _ _ _ _ _ _ _ (sym (ap core_branch c.in-Call.is) ∙ c.core.view_is) c.as_slice-in_default.ensures c.requires
     (c.in_ok-values-in_default.ensures.value None tt) c.as_slice-in_default-2.ensures.value
 
 pub node-returns-in_ok-apply-in_default : goal.node-returns-in_ok-apply-in_default
 node-returns-in_ok-apply-in_default g t c = record {
   went = c.part_values.ensures.went;
   keeper = λ e. absurd cc;
-  value = λ told h. called_is _ _ _ _ _ _ _ _ c.in_default.not-Coalesce (sym (ap branch c.in-Call.is) ∙ c.core.view_is) c.as_slice-in_default.ensures
+  value = λ told h. called_is _ _ _ _ _ _ _ _ c.in_default.not-Coalesce (sym (ap core_branch c.in-Call.is) ∙ c.core.view_is) c.as_slice-in_default.ensures
       (c.in_ok-values-in_default.ensures.value told h) c.as_slice-in_default-2.ensures.value c.in_ok-apply-in_default.ensures.answer;
-  visits = called_visited _ _ c.part_values.ensures.went _ _ _ _ c.in_default.not-Coalesce (sym (ap branch c.in-Call.is) ∙ c.core.view_is) c.as_slice-in_default.ensures c.in_ok-values-in_default.ensures.visits;
+  visits = called_visited _ _ c.part_values.ensures.went _ _ _ _ c.in_default.not-Coalesce (sym (ap core_branch c.in-Call.is) ∙ c.core.view_is) c.as_slice-in_default.ensures c.in_ok-values-in_default.ensures.visits;
 }
 
 pub node-field_values-requires : goal.node-field_values-requires
 node-field_values-requires g t c κs within =
-    let e = sym (ap branch c.in-Rec.is) ∙ c.core.view_is in (
+    let e = sym (ap core_branch c.in-Rec.is) ∙ c.core.view_is in (
       let h = fields_fall _ _ _ _ e c.as_slice-in-Rec.ensures in omega (arith, h),
       (within.0, (within.1, fields_there (λ fs. AreFine (g.E.Env.fixed c.args.env.now).types c.args.scope.now (terms_of fs)) _ _ _ _ _ (fields_ready _ _ _) e c.as_slice-in-Rec.ensures c.requires)),
     )
 
 pub node-from_rising-requires : goal.node-from_rising-requires
 node-from_rising-requires g t c =
-    fields_rise _ _ _ _ _ _ _ (sym (ap branch c.in-Rec.is) ∙ c.core.view_is) c.as_slice-in-Rec.ensures c.requires (c.in_ok-items-in-Rec.ensures.value None tt)
+    fields_rise _ _ _ _ _ _ _ (sym (ap core_branch c.in-Rec.is) ∙ c.core.view_is) c.as_slice-in-Rec.ensures c.requires (c.in_ok-items-in-Rec.ensures.value None tt)
 
 pub node-returns-in_ok-items-in-Rec-clause-value : goal.node-returns-in_ok-items-in-Rec-clause-value
 node-returns-in_ok-items-in-Rec-clause-value g t c = λ told h.
-    record_is _ _ _ _ _ _ (sym (ap branch c.in-Rec.is) ∙ c.core.view_is) c.as_slice-in-Rec.ensures (c.in_ok-items-in-Rec.ensures.value told h) c.from_rising.ensures
+    record_is _ _ _ _ _ _ (sym (ap core_branch c.in-Rec.is) ∙ c.core.view_is) c.as_slice-in-Rec.ensures (c.in_ok-items-in-Rec.ensures.value told h) c.from_rising.ensures
 
 pub node-over_table-requires : goal.node-over_table-requires
 node-over_table-requires g t c κs within =
-    let e = sym (ap branch c.in-Over.is) ∙ c.core.view_is in (
+    let e = sym (ap core_branch c.in-Over.is) ∙ c.core.view_is in (
       let h = table_falls _ _ _ _ _ _ e c.deref-in-Over.ensures c.as_slice-in-Over.ensures in omega (arith, h),
       (within.0, (within.1, over_is _ _ _ _ _ _ _ _ e c.deref-in-Over.ensures c.as_slice-in-Over.ensures c.requires)),
     )
 
 pub node-part_values-requires-in-List : goal.node-part_values-requires-in-List
 node-part_values-requires-in-List g t c κs within =
-    let e = sym (ap branch c.in-List.is) ∙ c.core.view_is in (
+    let e = sym (ap core_branch c.in-List.is) ∙ c.core.view_is in (
       let h = parts_fall _ _ _ _ e c.as_slice-in-List.ensures in omega (arith, h),
       (within.0, (within.1, there (AreFine _ _) _ _ _ _ _ _ (list_fine _ _ _ _) e c.as_slice-in-List.ensures c.requires)),
     )
 
 pub node-list-requires : goal.node-list-requires
 node-list-requires g t c =
-    list_is c.values_fit.ensures _ None _ _ _ _ _ _ (sym (ap branch c.in-List.is) ∙ c.core.view_is) c.as_slice-in-List.ensures c.requires (c.in_ok-values-in-List.ensures.value None tt)
+    list_is c.values_fit.ensures _ None _ _ _ _ _ _ (sym (ap core_branch c.in-List.is) ∙ c.core.view_is) c.as_slice-in-List.ensures c.requires (c.in_ok-values-in-List.ensures.value None tt)
 
 pub node-returns-in-Read-clause-visits : goal.node-returns-in-Read-clause-visits
 node-returns-in-Read-clause-visits g t c =
     ok_always c.read.result _
     (read_visited (g.E.Env.fixed c.args.env.now) c.args.scope.now (g.E.Env.told c.read.new.self) (g.E.Env.visited c.args.env.now) (g.E.Env.visited c.read.new.self) c.in-Read.source c.args.core.now
-    (sym (ap branch c.in-Read.is) ∙ c.core.view_is) c.read.ensures.most)
+    (sym (ap core_branch c.in-Read.is) ∙ c.core.view_is) c.read.ensures.most)
 
 pub node-returns-in-With-clause-visits : goal.node-returns-in-With-clause-visits
 node-returns-in-With-clause-visits g t c =
-    IfOk-weaker c.within.result _ _ (λ v k. within_visited _ _ c.within.ensures.went _ _ c.deref-in-With.result.now c.deref-in-With-2.result.now _ (sym (ap branch c.in-With.is) ∙ c.core.view_is) c.deref-in-With.ensures c.deref-in-With-2.ensures k) c.within.ensures.visits
+    IfOk-weaker c.within.result _ _ (λ v k. within_visited _ _ c.within.ensures.went _ _ c.deref-in-With.result.now c.deref-in-With-2.result.now _ (sym (ap core_branch c.in-With.is) ∙ c.core.view_is) c.deref-in-With.ensures c.deref-in-With-2.ensures k) c.within.ensures.visits
 
 pub node-returns-in_ok-items-in-Rec-clause-visits : goal.node-returns-in_ok-items-in-Rec-clause-visits
 node-returns-in_ok-items-in-Rec-clause-visits g t c =
-    fields_visited _ _ c.field_values.ensures.went _ _ _ (sym (ap branch c.in-Rec.is) ∙ c.core.view_is) c.as_slice-in-Rec.ensures c.in_ok-items-in-Rec.ensures.visits
+    fields_visited _ _ c.field_values.ensures.went _ _ _ (sym (ap core_branch c.in-Rec.is) ∙ c.core.view_is) c.as_slice-in-Rec.ensures c.in_ok-items-in-Rec.ensures.visits
 
 -- ---- With
 
@@ -305,7 +305,7 @@ pub catch_error-returns-clause-visits : goal.catch_error-returns-clause-visits
 catch_error-returns-clause-visits g t c =
     IfOk-weaker c.tree-value.result _ _
     (λ v k. caught_visited (g.E.Env.fixed c.args.env.now) c.args.scope.now _ (g.E.Env.told c.tree-value.new.env) (g.E.Env.visited c.args.env.now) (g.E.Env.visited c.tree-value.new.env) c.args.fault.kind c.args.fault.message c.args.formula.now
-    (ap (λ (s : Held). record s { caught = c.replace-outer.new.self }) c.scope.view_is ∙ ap (λ (z : Option Fault). record c.args.scope.now { caught = z }) c.replace-outer.ensures.after) k)
+    (ap (λ (s : ScopeValues). record s { caught = c.replace-outer.new.self }) c.scope.view_is ∙ ap (λ (z : Option Fault). record c.args.scope.now { caught = z }) c.replace-outer.ensures.after) k)
     c.tree-value.ensures.visits
 
 -- ---- fields, and parts one after another
@@ -360,7 +360,7 @@ pub go_through-returns-then-ends_here-clause-value : goal.go_through-returns-the
 go_through-returns-then-ends_here-clause-value g t c =
     let l = c.ends_here.ensures.last c.if-ends_here.true in
     IfOk-weaker c.tree.result _ _
-    (λ v k told h. end_step told _ _ (going c.args.course) _ c.args.parts.now _ c.in-Some.part.now c.in-Some.others.now c.loop-part.invariant.went
+    (λ v k told h. end_step told _ _ (course_going c.args.course) _ c.args.parts.now _ c.in-Some.part.now c.in-Some.others.now c.loop-part.invariant.went
     (c.loop-part.invariant.value told (heard_before _ _ c.tree.ensures.went told h)) c.in-Some.ensures.cases.0 l.0 l.1 (view v) (k told h))
     c.tree.ensures.value
 
@@ -371,13 +371,13 @@ go_through-turn-requires g t c =
 
 pub go_through-returns-in-Answer-clause-value : goal.go_through-returns-in-Answer-clause-value
 go_through-returns-in-Answer-clause-value g t c = λ told h.
-    then_step told _ _ (going c.args.course) _ c.args.parts.now _ c.in-Some.part.now c.in-Some.others.now _ (answers (view c.in-Answer.value)) c.loop-part.invariant.went (c.loop-part.invariant.value told (heard_before _ _ c.tree-in-Some.ensures.went told h)) c.in-Some.ensures.cases.0
+    then_step told _ _ (course_going c.args.course) _ c.args.parts.now _ c.in-Some.part.now c.in-Some.others.now _ (answers (view c.in-Answer.value)) c.loop-part.invariant.went (c.loop-part.invariant.value told (heard_before _ _ c.tree-in-Some.ensures.went told h)) c.in-Some.ensures.cases.0
     (c.ends_here.ensures.next c.if-ends_here.false) (c.in_ok-value.ensures.value told h) c.in-Answer.ensures (view c.in-Answer.value) refl
 
 pub go_through-returns-in-Branch-clause-value : goal.go_through-returns-in-Branch-clause-value
 go_through-returns-in-Branch-clause-value g t c =
     IfOk-weaker c.tree-in-Branch.result _ _
-    (λ v k told h. then_step told _ _ (going c.args.course) _ c.args.parts.now _ c.in-Some.part.now c.in-Some.others.now _ chooses c.loop-part.invariant.went
+    (λ v k told h. then_step told _ _ (course_going c.args.course) _ c.args.parts.now _ c.in-Some.part.now c.in-Some.others.now _ chooses c.loop-part.invariant.went
     (c.loop-part.invariant.value told (heard_before _ _ c.tree-in-Some.ensures.went told (heard_before _ _ c.tree-in-Branch.ensures.went told h))) c.in-Some.ensures.cases.0
     (c.ends_here.ensures.next c.if-ends_here.false) (c.in_ok-value.ensures.value told (heard_before _ _ c.tree-in-Branch.ensures.went told h)) c.in-Branch.ensures (view v)
     (branch_then _ _ _ _ _ c.split.ensures (meant_before told (meaning c.split.result.0.now) (λ s. s) _ _ (went_on _ _ _ c.loop-part.invariant.went c.tree-in-Some.ensures.went) _ (k told h))))
@@ -405,7 +405,7 @@ go_through-returns-in-Fallback-clause-value g t c =
     let k = c.in-Fallback.fault.kind in
     let cs = c.in-Fallback.fault.message in
     IfOk-weaker c.catch_error.result _ _
-    (λ v q told h. then_step told _ _ (going c.args.course) _ c.args.parts.now _ c.in-Some.part.now c.in-Some.others.now _ (catches k cs) c.loop-part.invariant.went
+    (λ v q told h. then_step told _ _ (course_going c.args.course) _ c.args.parts.now _ c.in-Some.part.now c.in-Some.others.now _ (catches k cs) c.loop-part.invariant.went
     (c.loop-part.invariant.value told (heard_before _ _ c.tree-in-Some.ensures.went told (heard_before _ _ c.catch_error.ensures.went told h))) c.in-Some.ensures.cases.0
     (c.ends_here.ensures.next c.if-ends_here.false) (c.in_ok-value.ensures.value told (heard_before _ _ c.catch_error.ensures.went told h)) c.in-Fallback.ensures (view v)
     (fallback_then _ _ _ _ _ _ _ c.split-in-Fallback.ensures
@@ -415,13 +415,13 @@ go_through-returns-in-Fallback-clause-value g t c =
 pub go_through-returns-then-ends_here-clause-visits : goal.go_through-returns-then-ends_here-clause-visits
 go_through-returns-then-ends_here-clause-visits g t c =
     ok_both c.tree.result _ _ _
-    (λ v worth k. end_passed _ _ _ _ (going c.args.course) c.args.parts.now _ c.in-Some.part.now c.in-Some.others.now (view v) c.loop-part.invariant.went c.tree.ensures.went c.loop-part.invariant.visits c.in-Some.ensures.cases.0
+    (λ v worth k. end_passed _ _ _ _ (course_going c.args.course) c.args.parts.now _ c.in-Some.part.now c.in-Some.others.now (view v) c.loop-part.invariant.went c.tree.ensures.went c.loop-part.invariant.visits c.in-Some.ensures.cases.0
     (c.ends_here.ensures.last c.if-ends_here.true).0 k worth)
     c.tree.ensures.value c.tree.ensures.visits
 
 pub go_through-returns-in-Answer-clause-visits : goal.go_through-returns-in-Answer-clause-visits
 go_through-returns-in-Answer-clause-visits g t c =
-    part_passed _ _ _ _ _ (going c.args.course) c.args.parts.now _ c.in-Some.part.now c.in-Some.others.now _ (answers (view c.in-Answer.value)) (λ w a n. n ≡ 0) c.loop-part.invariant.went c.tree-in-Some.ensures.went (stood _)
+    part_passed _ _ _ _ _ (course_going c.args.course) c.args.parts.now _ c.in-Some.part.now c.in-Some.others.now _ (answers (view c.in-Answer.value)) (λ w a n. n ≡ 0) c.loop-part.invariant.went c.tree-in-Some.ensures.went (stood _)
     c.loop-part.invariant.visits c.in-Some.ensures.cases.0 c.in_ok-value.ensures.visits c.in_ok-value.ensures.value c.in-Answer.ensures (λ w e. (0, refl, omega arith)) (λ w a l h. h)
 
 pub go_through-loop-part-init : goal.go_through-loop-part-init
@@ -432,17 +432,17 @@ go_through-loop-part-init g t c = record {
   small = omega arith;
   visits = none_passed
       (moment (g.E.Env.fixed c.args.env.now) (g.E.Env.told c.args.env.now) (g.E.Env.marks c.args.env.now) (g.E.Env.ticked c.args.env.now) (g.E.Env.visited c.args.env.now) c.args.scope.now c.args.steps.now)
-      (going c.args.course) c.args.parts.now;
+      (course_going c.args.course) c.args.parts.now;
 }
 
 pub go_through-returns-clause-visits : goal.go_through-returns-clause-visits
 go_through-returns-clause-visits g t c =
-    all_passed _ _ c.loop-part.invariant.went _ (going c.args.course) c.args.parts.now _ c.in_default.ensures.cases c.loop-part.invariant.visits
+    all_passed _ _ c.loop-part.invariant.went _ (course_going c.args.course) c.args.parts.now _ c.in_default.ensures.cases c.loop-part.invariant.visits
 
 pub go_through-returns-in-Branch-clause-visits : goal.go_through-returns-in-Branch-clause-visits
 go_through-returns-in-Branch-clause-visits g t c =
     IfOk-weaker c.tree-in-Branch.result _ _
-    (λ v k. part_passed _ _ _ _ _ (going c.args.course) c.args.parts.now _ c.in-Some.part.now c.in-Some.others.now _ chooses (λ w. Visits w c.split.result.0.now) c.loop-part.invariant.went c.tree-in-Some.ensures.went c.tree-in-Branch.ensures.went
+    (λ v k. part_passed _ _ _ _ _ (course_going c.args.course) c.args.parts.now _ c.in-Some.part.now c.in-Some.others.now _ chooses (λ w. Visits w c.split.result.0.now) c.loop-part.invariant.went c.tree-in-Some.ensures.went c.tree-in-Branch.ensures.went
     c.loop-part.invariant.visits c.in-Some.ensures.cases.0 c.in_ok-value.ensures.visits c.in_ok-value.ensures.value c.in-Branch.ensures k
     (λ w a l h. subst (λ zs. TurnVisits chooses (parts w (all zs)) a l) (sym c.split.ensures) h))
     c.tree-in-Branch.ensures.visits
@@ -452,7 +452,7 @@ go_through-returns-in-Fallback-clause-visits g t c =
     let k = c.in-Fallback.fault.kind in
     let cs = c.in-Fallback.fault.message in
     IfOk-weaker c.catch_error.result _ _
-    (λ v q. part_passed _ _ _ _ _ (going c.args.course) c.args.parts.now _ c.in-Some.part.now c.in-Some.others.now _ (catches k cs) (λ w a. Visits w c.split-in-Fallback.result.0.now (around_caught a k cs)) c.loop-part.invariant.went c.tree-in-Some.ensures.went c.catch_error.ensures.went
+    (λ v q. part_passed _ _ _ _ _ (course_going c.args.course) c.args.parts.now _ c.in-Some.part.now c.in-Some.others.now _ (catches k cs) (λ w a. Visits w c.split-in-Fallback.result.0.now (around_caught a k cs)) c.loop-part.invariant.went c.tree-in-Some.ensures.went c.catch_error.ensures.went
     c.loop-part.invariant.visits c.in-Some.ensures.cases.0 c.in_ok-value.ensures.visits c.in_ok-value.ensures.value c.in-Fallback.ensures q
     (λ w a l h. subst (λ zs. TurnVisits (catches k cs) (parts w (all zs)) a l) (sym c.split-in-Fallback.ensures) h))
     c.catch_error.ensures.visits
@@ -460,36 +460,36 @@ go_through-returns-in-Fallback-clause-visits g t c =
 pub go_through-loop-part-preserved-in-Further : goal.go_through-loop-part-preserved-in-Further
 go_through-loop-part-preserved-in-Further g t c = record {
   went = went_on _ _ _ c.loop-part.invariant.went c.tree-in-Some.ensures.went;
-  parts = next_step _ _ _ _ c.in-Some.part.now c.in-Some.others.now _ (goes (going c.in-Further.next)) c.loop-part.invariant.went c.loop-part.invariant.parts c.in-Some.ensures.cases.0
+  parts = next_step _ _ _ _ c.in-Some.part.now c.in-Some.others.now _ (goes (course_going c.in-Further.next)) c.loop-part.invariant.went c.loop-part.invariant.parts c.in-Some.ensures.cases.0
       (c.ends_here.ensures.next c.if-ends_here.false) c.in_ok-value.ensures.fits c.in-Further.ensures;
-  value = λ told h. then_step told _ _ (going c.args.course) _ c.args.parts.now _ c.in-Some.part.now c.in-Some.others.now _ (goes (going c.in-Further.next)) c.loop-part.invariant.went
+  value = λ told h. then_step told _ _ (course_going c.args.course) _ c.args.parts.now _ c.in-Some.part.now c.in-Some.others.now _ (goes (course_going c.in-Further.next)) c.loop-part.invariant.went
       (c.loop-part.invariant.value told (heard_before _ _ c.tree-in-Some.ensures.went told h)) c.in-Some.ensures.cases.0
       (c.ends_here.ensures.next c.if-ends_here.false) (c.in_ok-value.ensures.value told h) c.in-Further.ensures;
   small = let small = c.loop-part.invariant.small in let h = rest_falls _ _ _ c.in-Some.ensures.cases.0 in omega (arith, h, small);
-  visits = part_goes _ _ _ _ (going c.in-Further.next) (going c.args.course) c.args.parts.now _ c.in-Some.part.now c.in-Some.others.now c.in-Some.others.now _ (goes (going c.in-Further.next)) c.loop-part.invariant.went c.tree-in-Some.ensures.went
+  visits = part_goes _ _ _ _ (course_going c.in-Further.next) (course_going c.args.course) c.args.parts.now _ c.in-Some.part.now c.in-Some.others.now c.in-Some.others.now _ (goes (course_going c.in-Further.next)) c.loop-part.invariant.went c.tree-in-Some.ensures.went
       c.loop-part.invariant.visits c.in-Some.ensures.cases.0 c.in_ok-value.ensures.visits c.in_ok-value.ensures.value c.in-Further.ensures (λ w a l h. h);
 }
 
 pub go_through-split-requires-in-Beyond : goal.go_through-split-requires-in-Beyond
 go_through-split-requires-in-Beyond g t c =
-    some_there _ _ (passes (going c.in-Beyond.next)) _ tt
-    (next_step _ _ _ _ c.in-Some.part.now c.in-Some.others.now _ (passes (going c.in-Beyond.next)) c.loop-part.invariant.went c.loop-part.invariant.parts c.in-Some.ensures.cases.0
+    some_there _ _ (passes (course_going c.in-Beyond.next)) _ tt
+    (next_step _ _ _ _ c.in-Some.part.now c.in-Some.others.now _ (passes (course_going c.in-Beyond.next)) c.loop-part.invariant.went c.loop-part.invariant.parts c.in-Some.ensures.cases.0
     (c.ends_here.ensures.next c.if-ends_here.false) c.in_ok-value.ensures.fits c.in-Beyond.ensures)
 
 pub go_through-loop-part-preserved : goal.go_through-loop-part-preserved
 go_through-loop-part-preserved g t c =
-    let ready = next_step _ _ _ _ c.in-Some.part.now c.in-Some.others.now _ (passes (going c.in-Beyond.next)) c.loop-part.invariant.went c.loop-part.invariant.parts c.in-Some.ensures.cases.0
+    let ready = next_step _ _ _ _ c.in-Some.part.now c.in-Some.others.now _ (passes (course_going c.in-Beyond.next)) c.loop-part.invariant.went c.loop-part.invariant.parts c.in-Some.ensures.cases.0
     (c.ends_here.ensures.next c.if-ends_here.false) c.in_ok-value.ensures.fits c.in-Beyond.ensures in
     record {
       went = went_on _ _ _ c.loop-part.invariant.went c.tree-in-Some.ensures.went;
-      parts = subst (ThenSet (g.E.Env.fixed c.args.env.now).types c.args.scope.now (passes (going c.in-Beyond.next))) c.split-in-Beyond.ensures ready;
-      value = λ told h v k. then_step told _ _ (going c.args.course) _ c.args.parts.now _ c.in-Some.part.now c.in-Some.others.now _ (passes (going c.in-Beyond.next)) c.loop-part.invariant.went
+      parts = subst (ThenSet (g.E.Env.fixed c.args.env.now).types c.args.scope.now (passes (course_going c.in-Beyond.next))) c.split-in-Beyond.ensures ready;
+      value = λ told h v k. then_step told _ _ (course_going c.args.course) _ c.args.parts.now _ c.in-Some.part.now c.in-Some.others.now _ (passes (course_going c.in-Beyond.next)) c.loop-part.invariant.went
           (c.loop-part.invariant.value told (heard_before _ _ c.tree-in-Some.ensures.went told h)) c.in-Some.ensures.cases.0
           (c.ends_here.ensures.next c.if-ends_here.false) (c.in_ok-value.ensures.value told h) c.in-Beyond.ensures v (beyond_then _ _ _ _ _ _ c.split-in-Beyond.ensures k);
       small = let small = c.loop-part.invariant.small in let h = rest_falls _ _ _ c.in-Some.ensures.cases.0 in let k = rest_falls _ _ _ c.split-in-Beyond.ensures in omega (arith, h, k, small);
-      visits = part_goes _ _ _ _ (going c.in-Beyond.next) (going c.args.course) c.args.parts.now _ c.in-Some.part.now c.in-Some.others.now c.split-in-Beyond.result.1.now _ (passes (going c.in-Beyond.next)) c.loop-part.invariant.went c.tree-in-Some.ensures.went
+      visits = part_goes _ _ _ _ (course_going c.in-Beyond.next) (course_going c.args.course) c.args.parts.now _ c.in-Some.part.now c.in-Some.others.now c.split-in-Beyond.result.1.now _ (passes (course_going c.in-Beyond.next)) c.loop-part.invariant.went c.tree-in-Some.ensures.went
           c.loop-part.invariant.visits c.in-Some.ensures.cases.0 c.in_ok-value.ensures.visits c.in_ok-value.ensures.value c.in-Beyond.ensures
-          (λ w a l h. subst (λ zs. TurnVisits (passes (going c.in-Beyond.next)) (parts w (all zs)) a l) (sym c.split-in-Beyond.ensures) h);
+          (λ w a l h. subst (λ zs. TurnVisits (passes (course_going c.in-Beyond.next)) (parts w (all zs)) a l) (sym c.split-in-Beyond.ensures) h);
     }
 
 -- ---- calls over tables
@@ -598,7 +598,7 @@ part_answers-loop-part-preserved g t c =
       count = let e = ap length c.in_ok-push.ensures.items in let f = length-append c.loop-part.answers.items (c.in_ok-answer.answer ∷ []) in omega (arith, e, f, k);
       answers = λ told h. given_step _ _ c.args.parts.now _ _ c.loop-part.part-index _ c.part-item.result _ _ c.in_ok-answer.answer c.is_formula-in_rows.result c.loop-part-test.true c.part-item.is
           (c.loop-part.invariant.answers told (heard_before _ _ c.answer.ensures.went told h)) c.in_ok-push.ensures.items (omega (arith, k, l)) c.is_formula-in_rows.ensures
-          (held_before told (λ a. IsGiven (if c.is_formula-in_rows.result then inside else plain) (meaning c.part-item.result) a c.args.rows.now (given c.in_ok-answer.answer)) _ _ c.loop-part.invariant.went
+          (held_before told (λ a. PartGives (if c.is_formula-in_rows.result then inside else plain) (meaning c.part-item.result) a c.args.rows.now (argument_values c.in_ok-answer.answer)) _ _ c.loop-part.invariant.went
           (c.in_ok-answer.ensures.value told h));
       visits = parts_step _ _ _ c.args.fun _ c.args.rows.now c.args.parts.now c.loop-part.part-index _ c.part-item.result c.is_formula-in_rows.result c.loop-part-test.true c.part-item.is (omega (arith, k, l)) c.is_formula-in_rows.ensures
           c.loop-part.invariant.went c.answer.ensures.went c.loop-part.invariant.visits c.in_ok-answer.ensures.visits;

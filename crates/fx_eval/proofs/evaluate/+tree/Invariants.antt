@@ -1,16 +1,16 @@
 use Rattle.std.proofs.Common.{◌≡◌, ◌+◌, ◌*◌, ◌≤◌, Option, length, map, take}
 use Rattle.fx_types.specs.ValueView.{fields_view, view}
 use Rattle.fx_types.specs.Values.{Data}
-use Rattle.fx_eval.specs.Courses.{IsWorth, going}
+use Rattle.fx_eval.specs.Courses.{FormIsWorth, course_going}
 use Rattle.fx_eval.proofs.Visiting.{HasPassed}
-use Rattle.fx_eval.specs.Moments.{HasVisited, Went, moment}
+use Rattle.fx_eval.specs.EvalSteps.{HasVisited, Went, moment}
 use Rattle.fx_eval.specs.Visits.{AllVisit, EachVisits, PartsVisit, Visits, parts}
 use Rattle.fx_eval.specs.Parts.{AreFilled, AreSet, terms_of}
 use Rattle.fx_env.specs.Scopes.{around}
 use Rattle.fx_env.specs.Telling.{IsHeard, values_told}
 use Rattle.fx_semantics.specs.Around.{AreEach, AreValues}
 use Rattle.fx_semantics.specs.Fresh.{meaning, meanings}
-use Rattle.fx_eval.specs.Given.{AreGiven, given}
+use Rattle.fx_eval.specs.Given.{AreGiven, argument_values}
 use Rattle.fx_core.specs.declared.sources.Source.{Source}
 use Rattle.fx_core.specs.Term.{all, over, term_size, terms_size}
 use Rattle.fx_eval.proofs.evaluate.+tree.Given as goal
@@ -75,11 +75,11 @@ invariant-go_through-loop-part g l = record {
   went : Went
       (moment (g.E.Env.fixed l.fn.env) (g.E.Env.told l.fn.env) (g.E.Env.marks l.fn.env) (g.E.Env.ticked l.fn.env) (g.E.Env.visited l.fn.env) l.fn.scope l.fn.steps)
       (moment (g.E.Env.fixed l.env) (g.E.Env.told l.env) (g.E.Env.marks l.env) (g.E.Env.ticked l.env) (g.E.Env.visited l.env) l.scope l.steps);
-  parts : AreSet (g.E.Env.fixed l.fn.env).types l.fn.scope (going l.course) l.rest;
-  value : (told : Option (Source → Data)) → IsHeard (values_told (g.E.Env.told l.env)) told → (v : Data) → IsWorth (going l.course) (meanings (all l.rest)) (around (g.E.Env.fixed l.fn.env).types told l.fn.scope) v
-      → IsWorth (going l.fn.course) (meanings (all l.parts)) (around (g.E.Env.fixed l.fn.env).types told l.fn.scope) v;
+  parts : AreSet (g.E.Env.fixed l.fn.env).types l.fn.scope (course_going l.course) l.rest;
+  value : (told : Option (Source → Data)) → IsHeard (values_told (g.E.Env.told l.env)) told → (v : Data) → FormIsWorth (course_going l.course) (meanings (all l.rest)) (around (g.E.Env.fixed l.fn.env).types told l.fn.scope) v
+      → FormIsWorth (course_going l.fn.course) (meanings (all l.parts)) (around (g.E.Env.fixed l.fn.env).types told l.fn.scope) v;
   small : terms_size (all l.rest) ≤ terms_size (all l.parts);
-  visits : HasPassed (going l.course) l.rest (going l.fn.course) l.parts
+  visits : HasPassed (course_going l.course) l.rest (course_going l.fn.course) l.parts
       (moment (g.E.Env.fixed l.fn.env) (g.E.Env.told l.fn.env) (g.E.Env.marks l.fn.env) (g.E.Env.ticked l.fn.env) (g.E.Env.visited l.fn.env) l.fn.scope l.fn.steps)
       (moment (g.E.Env.fixed l.env) (g.E.Env.told l.env) (g.E.Env.marks l.env) (g.E.Env.ticked l.env) (g.E.Env.visited l.env) l.scope l.steps);
 }
@@ -116,7 +116,7 @@ invariant-part_answers-loop-part g l = record {
       (moment (g.E.Env.fixed l.env) (g.E.Env.told l.env) (g.E.Env.marks l.env) (g.E.Env.ticked l.env) (g.E.Env.visited l.env) l.scope l.steps);
   count : length l.answers.items ≡ l.part-index;
   answers : (told : Option (Source → Data)) → IsHeard (values_told (g.E.Env.told l.env)) told → AreGiven (over l.fun) (length l.parts + 1) 1 (meanings (all (take l.part-index l.parts))) (around (g.E.Env.fixed l.fn.env).types told l.fn.scope) l.rows
-      (map given l.answers.items);
+      (map argument_values l.answers.items);
   visits : HasVisited (λ w. PartsVisit l.fun (length l.parts + 1) 1 l.rows (parts w (all (take l.part-index l.parts))))
       (moment (g.E.Env.fixed l.fn.env) (g.E.Env.told l.fn.env) (g.E.Env.marks l.fn.env) (g.E.Env.ticked l.fn.env) (g.E.Env.visited l.fn.env) l.fn.scope l.fn.steps)
       (moment (g.E.Env.fixed l.env) (g.E.Env.told l.env) (g.E.Env.marks l.env) (g.E.Env.ticked l.env) (g.E.Env.visited l.env) l.scope l.steps);

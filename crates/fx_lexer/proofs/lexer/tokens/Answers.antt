@@ -2,12 +2,12 @@ use Rattle.std.proofs.Common.{ℕ, List, IfErr, Result, Ok, Err, ◌∙◌}
 use Rattle.std.specs.Str.{chars}
 use Rattle.fx_lexer.specs.declared.token.LexEnd.{LexEnd}
 use Rattle.fx_lexer.specs.declared.token.LexEnd.TheVariants.{Bad, Memory}
-use Rattle.fx_lexer.specs.Lexed.{IsBad, HasNoTokens}
+use Rattle.fx_lexer.specs.Lexed.{IsBadToken, HasNoTokens}
 use Rattle.fx_lexer.proofs.Cuts.{texts_of, slices_of}
 use Rattle.fx_lexer.proofs.Readings.{bad_none}
 use Rattle.fx_lexer.proofs.lexer.tokens.Goals as goal
 
-no_tokens : {V : Type 0} (cs : List ℕ) (r : Result V LexEnd) → IfErr r (IsBad cs) → IfErr r (HasNoTokens cs)
+no_tokens : {V : Type 0} (cs : List ℕ) (r : Result V LexEnd) → IfErr r (IsBadToken cs) → IfErr r (HasNoTokens cs)
 no_tokens cs (Ok v) h = h
 no_tokens cs (Err (Bad bad)) h = λ ts l. bad_none cs bad ts h l
 no_tokens cs (Err Memory) h = h

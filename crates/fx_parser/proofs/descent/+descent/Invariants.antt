@@ -4,7 +4,7 @@ use Rattle.fx_grammar.specs.declared.line.Left.TheVariants as left
 use Rattle.fx_grammar.specs.declared.line.Line.{Line}
 use Rattle.fx_grammar.specs.declared.line.Line.TheVariants.{Chain, Several, By, Alias, Prefix, Power, Percent, Access, Atom}
 use Rattle.fx_grammar.specs.declared.line.Separator.TheVariants.{Between}
-use Rattle.fx_grammar.specs.Grammar.{place, part_of, under}
+use Rattle.fx_grammar.specs.Grammar.{first_byte, part_of, operand_line}
 use Rattle.fx_grammar.specs.Reading.{line_at, loop_from, left_turn, parts_turn, parts_with, fields_turn, strands_turn, field_with, ◌>>=◌}
 use Rattle.fx_grammar.proofs.Turns.{Comes}
 use Rattle.fx_parser.proofs.descent.+descent.Given as goal
@@ -39,7 +39,7 @@ abbrev pub decreases-parts : goal.decreases-parts
 decreases-parts l = l.limit * 60 + line_rank (part_of l.separator) + 1
 
 abbrev pub decreases-by : goal.decreases-by
-decreases-by l = l.limit * 60 + line_rank (under l.left) + 1
+decreases-by l = l.limit * 60 + line_rank (operand_line l.left) + 1
 
 abbrev pub decreases-alias : goal.decreases-alias
 decreases-alias l = l.limit * 60 + 16

@@ -1,5 +1,5 @@
 use Rattle.std.proofs.Common.{◌≡◌, List, ◌++◌, map, length}
-use Rattle.fx_grammar.specs.Formulas.{Entry, AreEntriesOf, AreDeeper}
+use Rattle.fx_grammar.specs.Formulas.{NamedFormula, AreEntriesOf, AreDeeper}
 use Rattle.fx_parser.specs.Texts.{named_of}
 use Rattle.fx_parser.specs.Entries.{AreCuts}
 use Rattle.fx_parser.proofs.Firsts.{SoFar}

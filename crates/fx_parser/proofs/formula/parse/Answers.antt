@@ -1,6 +1,6 @@
 use Rattle.std.proofs.Common.{◌≡◌, ℕ, length, arith, ap, sym, ◌∙◌, Some}
 use Rattle.std.proofs.lemmas.Result.{err_from_is_err_and}
-use Rattle.fx_parser.specs.Answer.{Gives, seen, body}
+use Rattle.fx_parser.specs.Answer.{ParserAnswers, parsed_view, body}
 use Rattle.fx_parser.proofs.Whole.{refused_by, tree_by, refused_rest, zero_of, not_zero_of}
 use Rattle.fx_parser.proofs.formula.parse.Goals as goal
 

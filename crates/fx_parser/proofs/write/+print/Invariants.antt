@@ -1,5 +1,5 @@
 use Rattle.std.proofs.Common.{◌≡◌, ◌++◌, ◌+◌, ◌*◌, drop, false}
-use Rattle.fx_core.specs.Tree.{tree_size, forest_size, forest, names_of, parts_of}
+use Rattle.fx_core.specs.Tree.{tree_size, forest_size, forest, tree_field_names, field_trees}
 use Rattle.fx_parser.specs.Printing.{shown_further, shown_further_fields, shown_strands}
 use Rattle.fx_parser.proofs.write.+print.Given as goal
 
@@ -7,7 +7,7 @@ abbrev pub invariant-write_further-loop-part : goal.invariant-write_further-loop
 invariant-write_further-loop-part l = l.out ++ shown_further l.between l.line (forest (drop l.part-index l.parts)) ≡ l.initial.out ++ shown_further l.between l.line (forest l.parts)
 
 abbrev pub invariant-write_further_fields-loop-name : goal.invariant-write_further_fields-loop-name
-invariant-write_further_fields-loop-name l = l.out ++ shown_further_fields (names_of (drop l.name-index l.fields)) (parts_of (drop l.name-index l.fields)) ≡ l.initial.out ++ shown_further_fields (names_of l.fields) (parts_of l.fields)
+invariant-write_further_fields-loop-name l = l.out ++ shown_further_fields (tree_field_names (drop l.name-index l.fields)) (field_trees (drop l.name-index l.fields)) ≡ l.initial.out ++ shown_further_fields (tree_field_names l.fields) (field_trees l.fields)
 
 abbrev pub invariant-write_strands-loop-part : goal.invariant-write_strands-loop-part
 invariant-write_strands-loop-part l = l.out ++ shown_strands l.after_text (forest (drop l.part-index l.parts)) ≡ l.initial.out ++ shown_strands false (forest l.parts)
@@ -46,13 +46,13 @@ abbrev pub decreases-write_any : goal.decreases-write_any
 decreases-write_any l = 8 * forest_size (forest l.parts.now) + 5
 
 abbrev pub decreases-write_record : goal.decreases-write_record
-decreases-write_record l = 8 * forest_size (parts_of l.fields.now) + 4
+decreases-write_record l = 8 * forest_size (field_trees l.fields.now) + 4
 
 abbrev pub decreases-write_fields : goal.decreases-write_fields
-decreases-write_fields l = 8 * forest_size (parts_of l.fields.now) + 3
+decreases-write_fields l = 8 * forest_size (field_trees l.fields.now) + 3
 
 abbrev pub decreases-write_further_fields : goal.decreases-write_further_fields
-decreases-write_further_fields l = 8 * forest_size (parts_of l.fields.now) + 2
+decreases-write_further_fields l = 8 * forest_size (field_trees l.fields.now) + 2
 
 abbrev pub decreases-write_field : goal.decreases-write_field
 decreases-write_field l = 8 * tree_size l.part.now + 2

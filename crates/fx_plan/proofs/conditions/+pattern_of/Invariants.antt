@@ -1,5 +1,5 @@
 use Rattle.std.proofs.Common.{◌≡◌, drop}
-use Rattle.fx_plan.specs.QueryExpressions.{behind, patterns_of}
+use Rattle.fx_plan.specs.QueryExpressions.{patterns_behind, patterns_of}
 use Rattle.fx_core.specs.Term.{all, term_size, terms_size}
 use Rattle.fx_plan.proofs.conditions.+pattern_of.Given as goal
 
@@ -15,5 +15,5 @@ decreases-negation l = terms_size (all l.parts.now)
 -- the patterns so far, and behind them those of what is left
 abbrev pub invariant-patterns_of-loop-condition : goal.invariant-patterns_of-loop-condition
 invariant-patterns_of-loop-condition l =
-    behind l.patterns (patterns_of l.table l.scope (all (drop l.condition-index l.conditions)) l.constants)
-    ≡ behind l.fn.front (patterns_of l.table l.scope (all l.conditions) l.fn.constants)
+    patterns_behind l.patterns (patterns_of l.table l.scope (all (drop l.condition-index l.conditions)) l.constants)
+    ≡ patterns_behind l.fn.front (patterns_of l.table l.scope (all l.conditions) l.fn.constants)

@@ -1,5 +1,5 @@
 use Rattle.std.proofs.Common.{◌≡◌, ◌+◌, ◌*◌, ◌++◌, drop}
-use Rattle.fx_core.specs.Term.{all, parts_of, term_size, terms_size}
+use Rattle.fx_core.specs.Term.{all, field_terms, term_size, terms_size}
 use Rattle.fx_plan.specs.Limits.{depth_at, each_limited, fields_limited}
 use Rattle.fx_plan.proofs.limits.+limit_tree.Given as goal
 
@@ -22,7 +22,7 @@ abbrev pub decreases-limit_over : goal.decreases-limit_over
 decreases-limit_over l = 4 * (term_size l.table.now + terms_size (all l.parts.now)) + 3
 
 abbrev pub decreases-limit_record : goal.decreases-limit_record
-decreases-limit_record l = 4 * terms_size (parts_of l.fields.now) + 3
+decreases-limit_record l = 4 * terms_size (field_terms l.fields.now) + 3
 
 abbrev pub decreases-limit_act : goal.decreases-limit_act
 decreases-limit_act l = 4 * terms_size (all l.parts.now) + 3
@@ -46,7 +46,7 @@ abbrev pub decreases-limit_all : goal.decreases-limit_all
 decreases-limit_all l = 4 * terms_size (all l.parts.now)
 
 abbrev pub decreases-limit_fields : goal.decreases-limit_fields
-decreases-limit_fields l = 4 * terms_size (parts_of l.fields.now)
+decreases-limit_fields l = 4 * terms_size (field_terms l.fields.now)
 
 -- the parts so far, with what is left, are all
 abbrev pub invariant-limit_all-loop-at : goal.invariant-limit_all-loop-at

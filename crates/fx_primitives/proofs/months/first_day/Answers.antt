@@ -3,7 +3,7 @@ use Rattle.std.specs.Int.{w128}
 use Rattle.std.specs.Int.{int_div_euclid, int_rem_euclid}
 use Rattle.std.proofs.lemmas.Int.{to_z-of_z}
 use Rattle.jiff_core.proofs.SignedLemmas.{signed_arith, int_div_euclid-parts, int_rem_euclid-parts}
-use Rattle.fx_primitives.specs.Months.{first_of}
+use Rattle.fx_primitives.specs.Months.{first_day_of_month}
 use Rattle.fx_primitives.proofs.MonthLemmas.{first_of-cycle}
 use Rattle.fx_primitives.proofs.months.first_day.Goals as goal
 
@@ -23,5 +23,5 @@ returns-clause-value c =
     let first = simp to_z-of_z at c.early_first_day-first.ensures.value in
     let later = simp to_z-of_z at c.cycles_later.ensures.value in
     let whole : FitsSigned w128 c.cycles_later.result = omega (arith, signed_arith, c.cycles_later.ensures.bound) in
-    let e : c.cycles_later.result ≡ first_of c.args.month = later ∙ ap (λ (f : ℤ). (c.div_euclid-cycles.result *ℤ pos 146097) +ℤ f) first ∙ sym main in
+    let e : c.cycles_later.result ≡ first_day_of_month c.args.month = later ∙ ap (λ (f : ℤ). (c.div_euclid-cycles.result *ℤ pos 146097) +ℤ f) first ∙ sym main in
     simp to_z-of_z e

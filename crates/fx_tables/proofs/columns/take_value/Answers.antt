@@ -1,5 +1,5 @@
 use Rattle.std.proofs.Common.{◌≡◌, ◌∙◌, ap, ℕ, List, subst, None}
-use Rattle.fx_types.specs.Lookup.{item_of}
+use Rattle.fx_types.specs.Lookup.{item_named}
 use Rattle.fx_types.specs.ValueView.{fields_view}
 use Rattle.fx_types.specs.declared.values.Value.{Value}
 use Rattle.fx_tables.proofs.ColumnSteps.{IsNamed, taken_value, taken_rest, lacking_rest}
@@ -17,5 +17,5 @@ returns-in-Some-clause-others c =
 
 pub returns-in-None-clause-others : goal.returns-in-None-clause-others
 returns-in-None-clause-others c =
-    let P : List (List ℕ × Value) → Type 0 = λ zs. item_of c.args.name.now (fields_view zs) ≡ None in
+    let P : List (List ℕ × Value) → Type 0 = λ zs. item_named c.args.name.now (fields_view zs) ≡ None in
     lacking_rest c.args.name.now (fields_view c.args.items.now.items) (subst P c.as_slice.ensures.value c.in-None.ensures)

@@ -6,7 +6,7 @@ use Rattle.fx_types.specs.declared.values.Value.{Value}
 use Rattle.fx_value.specs.Coercion.{CanWiden, widened, widened_fields}
 use Rattle.fx_value.specs.Fits.{fits_in}
 use Rattle.fx_value.proofs.WideningSteps.{rows_fit_push}
-use Rattle.fx_tables.specs.Unions.{CanBeRow, fault_or, fields_in, is_fault, rows_of}
+use Rattle.fx_tables.specs.Unions.{CanBeRow, fault_or, fields_in, is_fault, values_as_rows}
 use Rattle.fx_tables.proofs.UnionSteps.{at_middle, can_widen, first_fault, no_fault, none_push, rows_of_push}
 use Rattle.fx_tables.proofs.unions.table_of.Goals as goal
 
@@ -15,7 +15,7 @@ returns-in-Fault-clause-value c =
     let done = c.loop-value.yielded in
     let v = c.in-Some.value in
     let rest = c.next.new.self.rest.items in
-    let table = tab (rows_of (column_list c.args.columns.now) (map view c.args.rows.items)) in
+    let table = tab (values_as_rows (column_list c.args.columns.now) (map view c.args.rows.items)) in
     let all : done ++ v ∷ rest ≡ c.args.rows.items = ap (λ z. done ++ z) (sym c.in-Some.ensures.steps.0) ∙ c.loop-value.invariant.all in
     ap view (sym c.in-Fault.is) ∙ sym (first_fault done v rest table c.loop-value.invariant.clear (ap (λ x. is_fault (view x)) c.in-Fault.is)) ∙ ap (λ zs. fault_or (map view zs) table) all
 

@@ -1,6 +1,6 @@
 use Rattle.std.proofs.Common.{◌≡◌, ap, sym, ◌∙◌}
 use Rattle.fx_types.specs.Types.{column_list}
-use Rattle.fx_core.specs.ColumnLists.{is_one_of, only}
+use Rattle.fx_core.specs.ColumnLists.{is_one_of, columns_only}
 use Rattle.fx_typing.proofs.ColumnLists.{listed, rising_some, kept_only}
 use Rattle.fx_typing.proofs.columns.only.Goals as goal
 
@@ -13,4 +13,4 @@ returns c =
     ap column_list c.from_rising.ensures
     ∙ ap listed c.select_columns.ensures
     ∙ kept_only c.args.names.now c.into_items.result.items
-    ∙ ap (λ cs. only c.args.names.now (column_list cs)) c.into_items.ensures.columns
+    ∙ ap (λ cs. columns_only c.args.names.now (column_list cs)) c.into_items.ensures.columns

@@ -1,6 +1,6 @@
 use Rattle.std.proofs.Common.{◌≡◌, ap, sym, ◌∙◌, not, bytes_eq, filter}
 use Rattle.fx_types.specs.Types.{column_list}
-use Rattle.fx_core.specs.ColumnLists.{without}
+use Rattle.fx_core.specs.ColumnLists.{columns_without}
 use Rattle.fx_typing.proofs.ColumnLists.{listed, rising_some, others_without}
 use Rattle.fx_typing.proofs.columns.without.Goals as goal
 
@@ -14,4 +14,4 @@ returns c =
     ap column_list c.from_rising.ensures
     ∙ ap listed c.others.ensures
     ∙ others_without c.args.name.now c.into_items.result.items r
-    ∙ ap (λ cs. without c.args.name.now (column_list cs)) c.into_items.ensures.columns
+    ∙ ap (λ cs. columns_without c.args.name.now (column_list cs)) c.into_items.ensures.columns

@@ -3,7 +3,7 @@ use Rattle.fx_types.specs.Types.{column_list, shape_size, columns_size}
 use Rattle.fx_types.specs.TypeView.{shape, columns_view}
 use Rattle.fx_types.specs.Values.{field_list, row_list}
 use Rattle.fx_types.specs.ValueView.{fields_view}
-use Rattle.fx_value.specs.Coercion.{widened_fields, rows_by}
+use Rattle.fx_value.specs.Coercion.{widened_fields, rows_mapped}
 use Rattle.fx_value.specs.Fits.{fields_fit, rows_fit}
 use Rattle.fx_value.proofs.WideningSteps.{Stand}
 use Rattle.fx_value.proofs.widening.+widen.Given as goal
@@ -27,6 +27,6 @@ invariant-widen_record-loop-name l = record {
 abbrev pub invariant-widen_table-loop-row : goal.invariant-widen_table-loop-row
 invariant-widen_table-loop-row l = record {
   all : l.yielded ++ l.row-iterator.rest.items ≡ l.fn.rows;
-  value : row_list l.wide.items ≡ rows_by (λ fs. widened_fields fs (column_list l.columns)) (row_list l.yielded);
+  value : row_list l.wide.items ≡ rows_mapped (λ fs. widened_fields fs (column_list l.columns)) (row_list l.yielded);
   fits : rows_fit (row_list l.wide.items) (column_list l.columns) ≡ true;
 }

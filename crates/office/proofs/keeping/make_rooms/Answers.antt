@@ -1,5 +1,5 @@
 use Rattle.std.proofs.Common.{◌<◌, ◌≤◌, length, arith, ap, refl}
-use Rattle.recalc.specs.Kept.{Kept}
+use Rattle.recalc.specs.Kept.{CacheState}
 use Rattle.office.proofs.GoingOver.{IsRoomMade, made_room, rooms_all, rooms_before, rooms_there}
 use Rattle.office.proofs.Places.{item_at}
 use Rattle.office.proofs.Rounds.{so_far_all, so_far_more, so_far_none}
@@ -22,7 +22,7 @@ returns-in_err-make_room-clause-rooms c =
     let within : c.loop-at.at < length c.loop-at.caches.items = omega (arith, c.loop-at-test.true, c.len-at-end.ensures, c.args.caches.now.ok.0, c.loop-at.invariant.long) in
     let there = item_at c.loop-at.caches.items c.loop-at.at item within c.index_mut.ensures.value in
     rooms_before c.args.app.now c.loop-at.at c.args.caches.now.items c.loop-at.caches.items _ item (record { name = item.name; it = c.make_room.new.self }) c.loop-at.invariant there
-    (ap (λ (k : Kept). record { name = item.name; it = k }) c.in_err-make_room.ensures.stopped) refl
+    (ap (λ (k : CacheState). record { name = item.name; it = k }) c.in_err-make_room.ensures.stopped) refl
 
 pub returns-clause-rooms : goal.returns-clause-rooms
 returns-clause-rooms c =

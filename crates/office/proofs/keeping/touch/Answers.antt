@@ -1,6 +1,6 @@
 use Rattle.std.proofs.Common.{◌≡◌, ◌+◌, ◌∙◌, arith, get_or, length, sym, subst}
 use Rattle.fx_core.specs.declared.sources.Source.TheVariants.{Cell}
-use Rattle.recalc.specs.Kept.{Kept}
+use Rattle.recalc.specs.Kept.{CacheState}
 use Rattle.office.proofs.Rounds.{IsAt, at_among, at_end, at_other, at_start, at_table, plain_table}
 use Rattle.office.proofs.keeping.touch.Goals.{then-is_table, else-is_table}
 use Rattle.office.proofs.keeping.touch.Goals as goal
@@ -22,10 +22,10 @@ loop-source-preserved c =
     elim c.if-is_table.branch [
       | then-is_table w ↦
           let table = sym c.is_table.ensures ∙ w.if-is_table.true in
-          subst (λ (k : Kept). IsAt app wrote (i + 1) c.args.cache.now k) (sym w.cache-is)
+          subst (λ (k : CacheState). IsAt app wrote (i + 1) c.args.cache.now k) (sym w.cache-is)
           (at_table app wrote i (Cell 0) c.args.cache.now c.loop-source.cache w.touched.new.self c.loop-source-test.true table c.loop-source.invariant (w.touched.ensures.told app (plain_table s table)))
       | else-is_table w ↦
-          subst (λ (k : Kept). IsAt app wrote (i + 1) c.args.cache.now k) (sym w.cache-is)
+          subst (λ (k : CacheState). IsAt app wrote (i + 1) c.args.cache.now k) (sym w.cache-is)
           (at_other app wrote i (Cell 0) c.args.cache.now c.loop-source.cache c.loop-source-test.true (sym c.is_table.ensures ∙ w.if-is_table.false) c.loop-source.invariant)
     ]
 

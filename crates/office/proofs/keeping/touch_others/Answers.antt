@@ -1,8 +1,8 @@
 use Rattle.std.proofs.Common.{◌≡◌, ◌<◌, ◌+◌, ◌∙◌, length, ap, refl, sym, subst, arith, true, false, Vec, vec_capacity}
 use Rattle.std.specs.declared.alloc.Global.{Global}
-use Rattle.recalc.specs.Kept.{Kept}
+use Rattle.recalc.specs.Kept.{CacheState}
 use Rattle.numbered_requests.specs.declared.directory.Named.{Named}
-use Rattle.office.specs.Caches.{IsToldAside, is_other, tables_in}
+use Rattle.office.specs.Caches.{IsToldAside, is_other_place, tables_in}
 use Rattle.office.proofs.Places.{item_at}
 use Rattle.office.proofs.Rounds.{IsSoFar, so_far_here, so_far_more, so_far_skip}
 use Rattle.office.proofs.keeping.touch_others.Goals.{then-is_other, else-is_other}
@@ -29,14 +29,14 @@ loop-at-preserved c =
           let there = item_at now at item within w.index_mut.ensures.value in
           record {
             told = so_far_more R at old now c.if-is_other.caches.items item (record { name = item.name; it = w.touch.new.cache }) c.loop-at.invariant.told there refl
-                (record { same = λ here. absurd (let no : true ≡ false = sym other ∙ here in cc); told = λ far. w.touch.ensures }) (ap (λ (v : Vec (Named Kept) Global). v.items) w.caches-is);
-            capacity = ap (λ (v : Vec (Named Kept) Global). vec_capacity v) w.caches-is ∙ c.loop-at.invariant.capacity;
+                (record { same = λ here. absurd (let no : true ≡ false = sym other ∙ here in cc); told = λ far. w.touch.ensures }) (ap (λ (v : Vec (Named CacheState) Global). v.items) w.caches-is);
+            capacity = ap (λ (v : Vec (Named CacheState) Global). vec_capacity v) w.caches-is ∙ c.loop-at.invariant.capacity;
           }
       | else-is_other w ↦
           let here = sym c.is_other.ensures ∙ w.if-is_other.false in
           record {
-            told = subst (λ (v : Vec (Named Kept) Global). IsSoFar R (at + 1) old v.items) (sym w.caches-is)
+            told = subst (λ (v : Vec (Named CacheState) Global). IsSoFar R (at + 1) old v.items) (sym w.caches-is)
                 (so_far_skip R at old now c.loop-at.invariant.told within (λ k. record { same = λ e. refl; told = λ far. absurd (let no : true ≡ false = sym far ∙ here in cc) }));
-            capacity = ap (λ (v : Vec (Named Kept) Global). vec_capacity v) w.caches-is ∙ c.loop-at.invariant.capacity;
+            capacity = ap (λ (v : Vec (Named CacheState) Global). vec_capacity v) w.caches-is ∙ c.loop-at.invariant.capacity;
           }
     ]

@@ -4,7 +4,7 @@ use Rattle.std.proofs.lemmas.List.{length-append}
 use Rattle.fx_types.specs.ValueView.{view}
 use Rattle.fx_types.specs.declared.values.Value.{Value}
 use Rattle.fx_scalar.specs.ScalarFunctions.{IsToday}
-use Rattle.recalc.specs.Kept.{Kept}
+use Rattle.recalc.specs.Kept.{CacheState}
 use Rattle.office.specs.Caches.{IsTurned}
 use Rattle.office.proofs.Places.{item_at}
 use Rattle.office.proofs.Rounds.{every_front, every_last, so_far_all, so_far_here, so_far_more}

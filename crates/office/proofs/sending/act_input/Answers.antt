@@ -1,17 +1,17 @@
 use Rattle.std.proofs.Common.{◌≡◌, ◌<◌, ◌∙◌, List, length, Some, arith, subst, sym}
 use Rattle.std.specs.List.{position}
-use Rattle.fx_base.specs.Silence.{Goes, IsLost}
+use Rattle.fx_base.specs.Silence.{MayFallSilent, SilenceCause}
 use Rattle.fx_core.specs.declared.sources.Source.{Source}
 use Rattle.numbered_requests.specs.Directory.{is_named}
 use Rattle.numbered_requests.specs.Replies.{said}
 use Rattle.numbered_requests.specs.declared.directory.Named.{Named}
-use Rattle.row_requests.specs.Written.{AreTablesBut}
+use Rattle.row_requests.specs.Written.{SameTablesExcept}
 use Rattle.session_state.specs.Sessions.{SessionState}
 use Rattle.std.specs.Prelude.{slice_set}
 use Rattle.office.specs.Leaving.{AreStopped, InputCutOff, any_table, nothing}
-use Rattle.session_requests.specs.Whole.{InputPerforms, IsInAll}
-use Rattle.session_requests.specs.Writable.{AreAll, InputMayWrite}
-use Rattle.recalc.specs.Changes.{IsLeftBut}
+use Rattle.session_requests.specs.WrittenWhole.{InputWritesWhole, IsInAll}
+use Rattle.session_requests.specs.Writable.{AllSources, InputMayWrite}
+use Rattle.recalc.specs.Changes.{StaysCleanExcept}
 use Rattle.session_requests.specs.Posting.{SendsInputWriting}
 use Rattle.office.proofs.Leaving.{acted_told, at_stopped, at_told, beside_any, beside_stopped, beside_told, err_always, still_all, still_told}
 use Rattle.office.proofs.Caching.{one_place}
@@ -34,7 +34,7 @@ pub returns-in_err-reply-in-Some-clause-kept : goal.returns-in_err-reply-in-Some
 returns-in_err-reply-in-Some-clause-kept g c =
     let name = c.args.name.now in
     let told = g.K.Keeper.told in
-    let lost = IsLost (g.K.Keeper.marks c.args.keeper.now) (g.K.Keeper.marks c.send_input.new.keeper) in
+    let lost = SilenceCause (g.K.Keeper.marks c.args.keeper.now) (g.K.Keeper.marks c.send_input.new.keeper) in
     let place = subst (λ (l : List (Named SessionState)). Some c.in-Some.place ≡ position (is_named name) l) c.deref.ensures.value c.in-Some.ensures.place in
     kept_stopped c.args.app.now c.args.moment lost (told c.args.keeper.now) (told c.send_input.new.keeper) name c.args.sessions.now.items c.send_input.new.sessions.items c.args.caches.now.items c.in-Some.place c.index_mut.result.now c.send_input.new.cache
     c.requires.kept (sym place) c.index_mut.ensures.value c.in_err-reply-in-Some.ensures.left c.in_err-reply-in-Some.ensures.stopped c.send_input.ensures.cached
@@ -43,7 +43,7 @@ pub touch_others-requires-clause-order : goal.touch_others-requires-clause-order
 touch_others-requires-clause-order g c =
     let name = c.args.name.now in
     let told = g.K.Keeper.told in
-    let lost = IsLost (g.K.Keeper.marks c.args.keeper.now) (g.K.Keeper.marks c.send_input.new.keeper) in
+    let lost = SilenceCause (g.K.Keeper.marks c.args.keeper.now) (g.K.Keeper.marks c.send_input.new.keeper) in
     let ss = c.args.sessions.now.items in
     let rs = c.send_input.new.sessions.items in
     let place = subst (λ (l : List (Named SessionState)). Some c.in-Some.place ≡ position (is_named name) l) c.deref.ensures.value c.in-Some.ensures.place in
@@ -54,7 +54,7 @@ pub returns-clause-kept : goal.returns-clause-kept
 returns-clause-kept g c =
     let name = c.args.name.now in
     let told = g.K.Keeper.told in
-    let lost = IsLost (g.K.Keeper.marks c.args.keeper.now) (g.K.Keeper.marks c.send_input.new.keeper) in
+    let lost = SilenceCause (g.K.Keeper.marks c.args.keeper.now) (g.K.Keeper.marks c.send_input.new.keeper) in
     let app = c.args.app.now in
     let m = c.args.moment in
     let ss = c.args.sessions.now.items in
@@ -63,7 +63,7 @@ returns-clause-kept g c =
     let place = subst (λ (l : List (Named SessionState)). Some c.in-Some.place ≡ position (is_named name) l) c.deref.ensures.value c.in-Some.ensures.place in
     let changes = sends_input lost app m name c.args.body.now c.args.input (told c.args.keeper.now) ss (said c.in_ok-reply-in-Some.reply) (told c.send_input.new.keeper) rs c.in_ok-reply-in-Some.ensures.done in
     kept_sent app m lost c.deref-in-Some.result.now (told c.args.keeper.now) (told c.send_input.new.keeper) name ss rs cs c.touch_others.new.caches.items c.in-Some.place c.index_mut.result.now c.send_input.new.cache
-    c.requires.sound (subst (λ (ws : List Source). Goes lost (AreTablesBut ws) (told c.args.keeper.now) (told c.send_input.new.keeper)) (sym c.deref-in-Some.ensures.value) c.send_input.ensures.tables) c.requires.kept (sym place) c.index_mut.ensures.value
+    c.requires.sound (subst (λ (ws : List Source). MayFallSilent lost (SameTablesExcept ws) (told c.args.keeper.now) (told c.send_input.new.keeper)) (sym c.deref-in-Some.ensures.value) c.send_input.ensures.tables) c.requires.kept (sym place) c.index_mut.ensures.value
     changes c.send_input.ensures.cached c.touch_others.ensures.told
 
 pub returns-in_err-reply-in-Some-clause-clean : goal.returns-in_err-reply-in-Some-clause-clean
@@ -103,12 +103,12 @@ returns-clause-own g c =
     let beside = one_place c.args.app.now told c.args.moment name ss cs c.requires.kept ∙ sym place in
     let ws = c.deref-in-Some.result.now in
     let ds = c.touch_others.new.caches.items in
-    let lost = IsLost (g.K.Keeper.marks c.args.keeper.now) (g.K.Keeper.marks c.send_input.new.keeper) in (
+    let lost = SilenceCause (g.K.Keeper.marks c.args.keeper.now) (g.K.Keeper.marks c.send_input.new.keeper) in (
       ws,
       subst (λ (l : List Source). SendsInputWriting lost c.args.app.now c.args.moment name c.args.body.now c.args.input told ss (said c.in_ok-reply-in-Some.reply) (g.K.Keeper.told c.send_input.new.keeper) c.send_input.new.sessions.items l) (sym c.deref-in-Some.ensures.value) c.in_ok-reply-in-Some.ensures.wrote,
       acted_told c.args.app.now name ws cs ds
           (at_told c.args.app.now name ws cs ds c.in-Some.place c.index_mut.result.now c.send_input.new.cache here c.index_mut.ensures.value beside c.touch_others.ensures.told
-          (subst (λ (l : List Source). IsLeftBut c.args.app.now l c.index_mut.result.now.it c.send_input.new.cache) (sym c.deref-in-Some.ensures.value) c.send_input.ensures.clean))
+          (subst (λ (l : List Source). StaysCleanExcept c.args.app.now l c.index_mut.result.now.it c.send_input.new.cache) (sym c.deref-in-Some.ensures.value) c.send_input.ensures.clean))
           (beside_told c.args.app.now name ws cs ds c.in-Some.place c.index_mut.result.now c.send_input.new.cache here c.index_mut.ensures.value beside c.touch_others.ensures.told),
     )
 
@@ -124,7 +124,7 @@ returns-in_err-reply-in-Some-clause-cut g c =
     let here = place_within app (told c.args.keeper.now) c.args.moment ss cs c.in-Some.place c.requires.kept within in
     let beside = one_place app (told c.args.keeper.now) c.args.moment name ss cs c.requires.kept ∙ sym place in
     let ws = c.send_input.new.wrote.items in
-    let lost = IsLost (g.K.Keeper.marks c.args.keeper.now) (g.K.Keeper.marks c.send_input.new.keeper) in
+    let lost = SilenceCause (g.K.Keeper.marks c.args.keeper.now) (g.K.Keeper.marks c.send_input.new.keeper) in
     let was = told c.args.keeper.now in
     let now = told c.send_input.new.keeper in
     let wrote = InputCutOff app c.args.moment name c.args.input was ss in
@@ -132,8 +132,8 @@ returns-in_err-reply-in-Some-clause-cut g c =
       (λ still.
           at_stopped app name wrote ws cs c.in-Some.place c.index_mut.result.now c.send_input.new.cache here c.index_mut.ensures.value beside
           (λ x among. (
-            still_told lost (AreAll (InputMayWrite app c.args.input) ws) was now still c.send_input.ensures.only x among,
-            still_all lost (λ t. IsInAll (InputPerforms app c.args.moment name c.args.input t ss)) ws was now still c.in_err-reply-in-Some.ensures.cut x among,
+            still_told lost (AllSources (InputMayWrite app c.args.input) ws) was now still c.send_input.ensures.only x among,
+            still_all lost (λ t. IsInAll (InputWritesWhole app c.args.moment name c.args.input t ss)) ws was now still c.in_err-reply-in-Some.ensures.cut x among,
           )) c.send_input.ensures.clean),
       beside_stopped app name nothing cs c.in-Some.place c.index_mut.result.now c.send_input.new.cache here c.index_mut.ensures.value beside,
     )

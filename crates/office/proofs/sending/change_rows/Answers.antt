@@ -1,8 +1,8 @@
 use Rattle.std.proofs.Common.{[], List, subst, sym}
-use Rattle.fx_base.specs.Silence.{Goes, IsLost}
+use Rattle.fx_base.specs.Silence.{MayFallSilent, SilenceCause}
 use Rattle.fx_core.specs.Reads.{IsAmong}
 use Rattle.fx_core.specs.declared.sources.Source.{Source}
-use Rattle.row_requests.specs.Written.{AreTablesBut, IsNamedBy}
+use Rattle.row_requests.specs.Written.{SameTablesExcept, IsNamedBy}
 use Rattle.office.specs.Caches.{tables_in}
 use Rattle.office.proofs.Leaving.{among_tables, each_same, each_told, left_none}
 use Rattle.office.proofs.Sent.{kept_still, kept_told, named_sources}
@@ -10,7 +10,7 @@ use Rattle.office.proofs.sending.change_rows.Goals as goal
 
 pub returns-in_err-reply-clause-kept : goal.returns-in_err-reply-clause-kept
 returns-in_err-reply-clause-kept g c = λ m sessions kept.
-    kept_still c.args.app.now m (IsLost (g.K.Keeper.marks c.args.keeper.now) (g.K.Keeper.marks c.post_rows.new.keeper)) (g.K.Keeper.told c.args.keeper.now) (g.K.Keeper.told c.post_rows.new.keeper) sessions c.args.caches.now.items c.in_err-reply.ensures.stopped kept
+    kept_still c.args.app.now m (SilenceCause (g.K.Keeper.marks c.args.keeper.now) (g.K.Keeper.marks c.post_rows.new.keeper)) (g.K.Keeper.told c.args.keeper.now) (g.K.Keeper.told c.post_rows.new.keeper) sessions c.args.caches.now.items c.in_err-reply.ensures.stopped kept
 
 pub touch_others-requires-clause-sources : goal.touch_others-requires-clause-sources
 touch_others-requires-clause-sources g c = λ x among.
@@ -20,9 +20,9 @@ touch_others-requires-clause-sources g c = λ x among.
 pub returns-clause-kept : goal.returns-clause-kept
 returns-clause-kept g c = λ m sessions kept.
     let told = g.K.Keeper.told in
-    let lost = IsLost (g.K.Keeper.marks c.args.keeper.now) (g.K.Keeper.marks c.post_rows.new.keeper) in
+    let lost = SilenceCause (g.K.Keeper.marks c.args.keeper.now) (g.K.Keeper.marks c.post_rows.new.keeper) in
     kept_told c.args.app.now m lost c.deref.result.now (told c.args.keeper.now) (told c.post_rows.new.keeper) sessions c.args.caches.now.items c.touch_others.new.caches.items c.requires.sound
-    (subst (λ (ws : List Source). Goes lost (AreTablesBut ws) (told c.args.keeper.now) (told c.post_rows.new.keeper)) (sym c.deref.ensures.value) c.in_ok-reply.ensures.wrote) kept c.touch_others.ensures.told
+    (subst (λ (ws : List Source). MayFallSilent lost (SameTablesExcept ws) (told c.args.keeper.now) (told c.post_rows.new.keeper)) (sym c.deref.ensures.value) c.in_ok-reply.ensures.wrote) kept c.touch_others.ensures.told
 
 pub returns-in_err-reply-clause-clean : goal.returns-in_err-reply-clause-clean
 returns-in_err-reply-clause-clean g c =

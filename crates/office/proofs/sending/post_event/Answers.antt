@@ -1,7 +1,7 @@
 use Rattle.std.proofs.Common.{◌≡◌, ℕ, List, Result, Ok, Err, subst, sym}
 use Rattle.std.specs.Prelude.{IsSome}
 use Rattle.std.proofs.lemmas.Result.{IfOk-weaker, on_err_weaker}
-use Rattle.fx_base.specs.Silence.{IsLost}
+use Rattle.fx_base.specs.Silence.{SilenceCause}
 use Rattle.numbered_requests.specs.Checks.{checks, session_of}
 use Rattle.numbered_requests.specs.Directory.{find}
 use Rattle.numbered_requests.specs.Replies.{said}
@@ -25,7 +25,7 @@ pub returns-in-Acts-clause-done : goal.returns-in-Acts-clause-done
 returns-in-Acts-clause-done g c =
     let told = g.K.Keeper.told in
     let name = c.args.name.now in
-    let lost = IsLost (g.K.Keeper.marks c.args.keeper.now) (g.K.Keeper.marks c.act_event.new.keeper) in
+    let lost = SilenceCause (g.K.Keeper.marks c.args.keeper.now) (g.K.Keeper.marks c.act_event.new.keeper) in
     let passed = rw c.in-Acts.is at c.in_ok-reply.ensures.is in
     let is = subst (λ (l : List (Named SessionState)). checks event_in (λ (e : Event). e.seq) (session_of name l) c.args.body.now ≡ Ok c.in-Acts.event) c.deref.ensures.value passed in
     IfOk-weaker c.act_event.result _ _ (λ r sends.
@@ -40,7 +40,7 @@ pub returns-in-Acts-clause-own : goal.returns-in-Acts-clause-own
 returns-in-Acts-clause-own g c =
     let told = g.K.Keeper.told in
     let name = c.args.name.now in
-    let lost = IsLost (g.K.Keeper.marks c.args.keeper.now) (g.K.Keeper.marks c.act_event.new.keeper) in
+    let lost = SilenceCause (g.K.Keeper.marks c.args.keeper.now) (g.K.Keeper.marks c.act_event.new.keeper) in
     let passed = rw c.in-Acts.is at c.in_ok-reply.ensures.is in
     let is = subst (λ (l : List (Named SessionState)). checks event_in (λ (e : Event). e.seq) (session_of name l) c.args.body.now ≡ Ok c.in-Acts.event) c.deref.ensures.value passed in
     IfOk-weaker c.act_event.result _ _ (λ r own.
@@ -50,7 +50,7 @@ pub returns-in-Says-clause-own : goal.returns-in-Says-clause-own
 returns-in-Says-clause-own g c =
     let told = g.K.Keeper.told c.args.keeper.now in
     let name = c.args.name.now in
-    let lost = IsLost (g.K.Keeper.marks c.args.keeper.now) (g.K.Keeper.marks c.args.keeper.now) in
+    let lost = SilenceCause (g.K.Keeper.marks c.args.keeper.now) (g.K.Keeper.marks c.args.keeper.now) in
     let passed = rw c.in-Says.is at c.in_ok-reply.ensures.is in
     let is = subst (λ (l : List (Named SessionState)). checks event_in (λ (e : Event). e.seq) (session_of name l) c.args.body.now ≡ Err (said c.in-Says.reply)) c.deref.ensures.value passed in
     subst (λ (x : Result Event (List ℕ)). EventLeaves lost c.args.app.now c.args.moment name nothing c.args.body.now x told c.args.sessions.now.items (said c.in-Says.reply) told c.args.sessions.now.items c.args.caches.now.items c.args.caches.now.items) (sym is)

@@ -7,7 +7,7 @@ use Rattle.session_requests.specs.Bodies.{input_in}
 use Rattle.session_requests.specs.declared.input.Input.{Input}
 use Rattle.session_state.specs.Sessions.{SessionState}
 use Rattle.std.proofs.lemmas.Result.{IfOk-weaker, on_err_weaker}
-use Rattle.fx_base.specs.Silence.{IsLost}
+use Rattle.fx_base.specs.Silence.{SilenceCause}
 use Rattle.numbered_requests.specs.Checks.{checks, session_of}
 use Rattle.numbered_requests.specs.Replies.{said}
 use Rattle.office.specs.Leaving.{AreStopped, InputLeaves, input_cut, nothing}
@@ -24,7 +24,7 @@ pub returns-in-Acts-clause-own : goal.returns-in-Acts-clause-own
 returns-in-Acts-clause-own g c =
     let told = g.K.Keeper.told in
     let name = c.args.name.now in
-    let lost = IsLost (g.K.Keeper.marks c.args.keeper.now) (g.K.Keeper.marks c.act_input.new.keeper) in
+    let lost = SilenceCause (g.K.Keeper.marks c.args.keeper.now) (g.K.Keeper.marks c.act_input.new.keeper) in
     let passed = rw c.in-Acts.is at c.in_ok-reply.ensures.is in
     let is = subst (λ (l : List (Named SessionState)). checks input_in (λ (i : Input). i.seq) (session_of name l) c.args.body.now ≡ Ok c.in-Acts.input) c.deref.ensures.value passed in
     IfOk-weaker c.act_input.result _ _ (λ r own.
@@ -34,7 +34,7 @@ pub returns-in-Says-clause-own : goal.returns-in-Says-clause-own
 returns-in-Says-clause-own g c =
     let told = g.K.Keeper.told c.args.keeper.now in
     let name = c.args.name.now in
-    let lost = IsLost (g.K.Keeper.marks c.args.keeper.now) (g.K.Keeper.marks c.args.keeper.now) in
+    let lost = SilenceCause (g.K.Keeper.marks c.args.keeper.now) (g.K.Keeper.marks c.args.keeper.now) in
     let passed = rw c.in-Says.is at c.in_ok-reply.ensures.is in
     let is = subst (λ (l : List (Named SessionState)). checks input_in (λ (i : Input). i.seq) (session_of name l) c.args.body.now ≡ Err (said c.in-Says.reply)) c.deref.ensures.value passed in
     subst (λ (x : Result Input (List ℕ)). InputLeaves lost c.args.app.now c.args.moment name nothing c.args.body.now x told c.args.sessions.now.items (said c.in-Says.reply) told c.args.sessions.now.items c.args.caches.now.items c.args.caches.now.items) (sym is)

@@ -3,7 +3,7 @@ use Rattle.std.specs.Prelude.{IsSome}
 use Rattle.std.proofs.lemmas.Result.{IfOk-weaker}
 use Rattle.session_views.specs.Galleries.{gallery_named}
 use Rattle.session_views.specs.Shows.{ShowsItemsTo}
-use Rattle.fx_base.specs.Silence.{IsLost}
+use Rattle.fx_base.specs.Silence.{SilenceCause}
 use Rattle.numbered_requests.specs.Replies.{said}
 use Rattle.session_state.specs.Sessions.{SessionState}
 use Rattle.office.proofs.Costs.{costs_there, ok_all}
@@ -32,7 +32,7 @@ show_items-requires-clause-right g c =
 pub returns-clause-done : goal.returns-clause-done
 returns-clause-done g c =
     let told = g.K.Keeper.told in
-    let lost = IsLost (g.K.Keeper.marks c.args.keeper.now) (g.K.Keeper.marks c.show_items.new.keeper) in
+    let lost = SilenceCause (g.K.Keeper.marks c.args.keeper.now) (g.K.Keeper.marks c.show_items.new.keeper) in
     let found = found_here c.args.name.now c.args.sessions.now c.in-Some.place c.index-sessions-place.result c.in-Some.ensures.place c.in-Some.ensures.within in
     IfOk-weaker c.show_items.result _ _ (λ r h. subst (λ (o : Option SessionState). ShowsItemsTo lost c.args.app.now c.args.moment c.args.gallery.now c.args.from o (told c.args.keeper.now) (said r) (told c.show_items.new.keeper)) (sym found) h) c.show_items.ensures.done
 
@@ -44,7 +44,7 @@ returns-clause-reached g c failed =
 pub returns-clause-kept : goal.returns-clause-kept
 returns-clause-kept g c =
     let told = g.K.Keeper.told in
-    kept_after c.args.app.now c.args.moment (IsLost (g.K.Keeper.marks c.args.keeper.now) (g.K.Keeper.marks c.show_items.new.keeper)) (told c.args.keeper.now) (told c.show_items.new.keeper)
+    kept_after c.args.app.now c.args.moment (SilenceCause (g.K.Keeper.marks c.args.keeper.now) (g.K.Keeper.marks c.show_items.new.keeper)) (told c.args.keeper.now) (told c.show_items.new.keeper)
     c.args.sessions.now c.args.caches.now.items c.in-Some.place c.index-sessions-place.result c.index_mut.result.now c.show_items.new.cache
     c.requires.kept c.in-Some.ensures.within c.index_mut.ensures.value c.show_items.ensures.read.told c.show_items.ensures.order c.show_items.ensures.right c.show_items.ensures.day
 

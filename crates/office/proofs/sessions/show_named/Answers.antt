@@ -1,7 +1,7 @@
 use Rattle.std.proofs.Common.{[], ◌<◌, Option, ap, arith, length, refl, string_bytes, subst, sym, ◌∙◌}
 use Rattle.std.specs.Prelude.{IsSome}
 use Rattle.app_wire.specs.ReplyBytes.{reply}
-use Rattle.fx_base.specs.Silence.{IsLost}
+use Rattle.fx_base.specs.Silence.{SilenceCause}
 use Rattle.numbered_requests.specs.Replies.{said}
 use Rattle.row_keeper.specs.Tables.{rows_told}
 use Rattle.recalc.proofs.Asked.{heard_told}
@@ -16,7 +16,7 @@ use Rattle.office.proofs.sessions.show_named.Goals as goal
 pub returns-clause-done : goal.returns-clause-done
 returns-clause-done g c =
     let told = g.K.Keeper.told c.named_body.new.keeper in
-    let lost = IsLost (g.K.Keeper.marks c.args.keeper.now) (g.K.Keeper.marks c.named_body.new.keeper) in
+    let lost = SilenceCause (g.K.Keeper.marks c.args.keeper.now) (g.K.Keeper.marks c.named_body.new.keeper) in
     subst (λ (o : Option SessionState). ShowsNamedTo lost c.args.app.now c.args.moment o (g.K.Keeper.told c.args.keeper.now) (said c.in_ok-accept.field-0) told)
     (sym (found_here c.args.name.now c.args.sessions.now c.in-Some.place c.index-sessions-place.result c.in-Some.ensures.place c.in-Some.ensures.within))
     ((string_bytes c.in_ok-body.body, c.in_ok-body.ensures.body (rows_told told) (heard_told told), c.in_ok-accept.ensures.said ∙ ap (reply 200) c.deref.ensures), c.in_ok-body.ensures.read.told)
@@ -46,21 +46,21 @@ returns-in_err-body-clause-reached g c failed =
 pub returns-in_err-body-clause-kept : goal.returns-in_err-body-clause-kept
 returns-in_err-body-clause-kept g c =
     let told = g.K.Keeper.told in
-    kept_after c.args.app.now c.args.moment (IsLost (g.K.Keeper.marks c.args.keeper.now) (g.K.Keeper.marks c.named_body.new.keeper)) (told c.args.keeper.now) (told c.named_body.new.keeper)
+    kept_after c.args.app.now c.args.moment (SilenceCause (g.K.Keeper.marks c.args.keeper.now) (g.K.Keeper.marks c.named_body.new.keeper)) (told c.args.keeper.now) (told c.named_body.new.keeper)
     c.args.sessions.now c.args.caches.now.items c.in-Some.place c.index-sessions-place.result c.index_mut.result.now c.named_body.new.cache
     c.requires.kept c.in-Some.ensures.within c.index_mut.ensures.value c.named_body.ensures.read.told c.named_body.ensures.order c.named_body.ensures.right c.named_body.ensures.day
 
 pub returns-in_err-accept-clause-kept : goal.returns-in_err-accept-clause-kept
 returns-in_err-accept-clause-kept g c =
     let told = g.K.Keeper.told in
-    kept_after c.args.app.now c.args.moment (IsLost (g.K.Keeper.marks c.args.keeper.now) (g.K.Keeper.marks c.named_body.new.keeper)) (told c.args.keeper.now) (told c.named_body.new.keeper)
+    kept_after c.args.app.now c.args.moment (SilenceCause (g.K.Keeper.marks c.args.keeper.now) (g.K.Keeper.marks c.named_body.new.keeper)) (told c.args.keeper.now) (told c.named_body.new.keeper)
     c.args.sessions.now c.args.caches.now.items c.in-Some.place c.index-sessions-place.result c.index_mut.result.now c.named_body.new.cache
     c.requires.kept c.in-Some.ensures.within c.index_mut.ensures.value c.named_body.ensures.read.told c.named_body.ensures.order c.named_body.ensures.right c.named_body.ensures.day
 
 pub returns-clause-kept : goal.returns-clause-kept
 returns-clause-kept g c =
     let told = g.K.Keeper.told in
-    kept_after c.args.app.now c.args.moment (IsLost (g.K.Keeper.marks c.args.keeper.now) (g.K.Keeper.marks c.named_body.new.keeper)) (told c.args.keeper.now) (told c.named_body.new.keeper)
+    kept_after c.args.app.now c.args.moment (SilenceCause (g.K.Keeper.marks c.args.keeper.now) (g.K.Keeper.marks c.named_body.new.keeper)) (told c.args.keeper.now) (told c.named_body.new.keeper)
     c.args.sessions.now c.args.caches.now.items c.in-Some.place c.index-sessions-place.result c.index_mut.result.now c.named_body.new.cache
     c.requires.kept c.in-Some.ensures.within c.index_mut.ensures.value c.named_body.ensures.read.told c.named_body.ensures.order c.named_body.ensures.right c.named_body.ensures.day
 

@@ -2,7 +2,7 @@ use Rattle.std.proofs.Common.{[], ◌<◌, length, Option, Some, arith, get_or, 
 use Rattle.std.specs.Prelude.{IsSome}
 use Rattle.std.proofs.lemmas.Result.{IfOk-weaker}
 use Rattle.session_views.specs.Shows.{ShowsViewTo}
-use Rattle.fx_base.specs.Silence.{IsLost}
+use Rattle.fx_base.specs.Silence.{SilenceCause}
 use Rattle.numbered_requests.specs.Replies.{said}
 use Rattle.session_state.specs.Sessions.{SessionState}
 use Rattle.office.proofs.Costs.{costs_there, ok_all}
@@ -31,7 +31,7 @@ show_view-requires-clause-right g c =
 pub returns-clause-done : goal.returns-clause-done
 returns-clause-done g c =
     let told = g.K.Keeper.told in
-    let lost = IsLost (g.K.Keeper.marks c.args.keeper.now) (g.K.Keeper.marks c.show_view.new.keeper) in
+    let lost = SilenceCause (g.K.Keeper.marks c.args.keeper.now) (g.K.Keeper.marks c.show_view.new.keeper) in
     let found = found_here c.args.name.now c.args.sessions.now c.in-Some.place c.index-sessions-place.result c.in-Some.ensures.place c.in-Some.ensures.within in
     IfOk-weaker c.show_view.result _ _ (λ r h. subst (λ (o : Option SessionState). ShowsViewTo lost c.args.app.now c.args.moment o (told c.args.keeper.now) (said r) (told c.show_view.new.keeper)) (sym found) h) c.show_view.ensures.done
 
@@ -43,7 +43,7 @@ returns-clause-reached g c failed =
 pub returns-clause-kept : goal.returns-clause-kept
 returns-clause-kept g c =
     let told = g.K.Keeper.told in
-    kept_after c.args.app.now c.args.moment (IsLost (g.K.Keeper.marks c.args.keeper.now) (g.K.Keeper.marks c.show_view.new.keeper)) (told c.args.keeper.now) (told c.show_view.new.keeper)
+    kept_after c.args.app.now c.args.moment (SilenceCause (g.K.Keeper.marks c.args.keeper.now) (g.K.Keeper.marks c.show_view.new.keeper)) (told c.args.keeper.now) (told c.show_view.new.keeper)
     c.args.sessions.now c.args.caches.now.items c.in-Some.place c.index-sessions-place.result c.index_mut.result.now c.show_view.new.cache
     c.requires.kept c.in-Some.ensures.within c.index_mut.ensures.value c.show_view.ensures.read.told c.show_view.ensures.order c.show_view.ensures.right c.show_view.ensures.day
 

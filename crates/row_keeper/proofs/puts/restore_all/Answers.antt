@@ -1,10 +1,10 @@
 use Rattle.std.proofs.Common.{◌∙◌, ap, sym}
 use Rattle.std.specs.Prelude.{set}
 use Rattle.std.proofs.lemmas.List.Edits.{map_over_more}
-use Rattle.row_keeper.specs.OneTable.{restored}
+use Rattle.row_keeper.specs.OneTable.{view_restored}
 use Rattle.row_keeper.proofs.puts.restore_all.Goals as goal
 
 pub loop-table-preserved : goal.loop-table-preserved
 loop-table-preserved c =
-    ap (set c.loop-table.tables c.loop-table.table-index) (c.restore.ensures ∙ ap restored (sym c.table-item.is))
-    ∙ map_over_more restored c.args.tables.now c.loop-table.tables c.loop-table.table-index c.table-item.result c.loop-table-test.true c.loop-table.invariant c.table-item.is
+    ap (set c.loop-table.tables c.loop-table.table-index) (c.restore.ensures ∙ ap view_restored (sym c.table-item.is))
+    ∙ map_over_more view_restored c.args.tables.now c.loop-table.tables c.loop-table.table-index c.table-item.result c.loop-table-test.true c.loop-table.invariant c.table-item.is

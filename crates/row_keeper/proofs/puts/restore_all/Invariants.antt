@@ -1,6 +1,6 @@
 use Rattle.std.proofs.Common.{◌≡◌, ◌++◌, drop, map, take}
-use Rattle.row_keeper.specs.OneTable.{restored}
+use Rattle.row_keeper.specs.OneTable.{view_restored}
 use Rattle.row_keeper.proofs.puts.restore_all.Given as goal
 
 abbrev pub invariant-loop-table : goal.invariant-loop-table
-invariant-loop-table l = l.tables ≡ map restored (take l.table-index l.initial.tables) ++ drop l.table-index l.initial.tables
+invariant-loop-table l = l.tables ≡ map view_restored (take l.table-index l.initial.tables) ++ drop l.table-index l.initial.tables

@@ -5,7 +5,7 @@ use Rattle.fx_core.specs.declared.schema.TableShape.{TableShape}
 use Rattle.row_queries.specs.TableRows.{IsRowOf}
 use Rattle.row_queries.specs.declared.queries.Query.{Query}
 use Rattle.row_keeper.specs.Tables.{shapes_of}
-use Rattle.fx_base.specs.Silence.{IsLost}
+use Rattle.fx_base.specs.Silence.{SilenceCause}
 use Rattle.fx_base.proofs.Silences.{goes_weaker}
 use Rattle.row_keeper.specs.Changes.{Scans}
 use Rattle.row_requests.specs.Queries.{FindsRow}
@@ -14,7 +14,7 @@ use Rattle.row_requests.proofs.finding.find_row.Goals as goal
 
 pub returns-in-Ok-clause-found : goal.returns-in-Ok-clause-found
 returns-in-Ok-clause-found g c =
-    goes_weaker (IsLost (g.K.Keeper.marks c.args.keeper.now) (g.K.Keeper.marks c.scan.new.self)) (Scans c.in_ok-query.query c.in-Ok.answer) (FindsRow c.args.table c.args.id c.pop.result)
+    goes_weaker (SilenceCause (g.K.Keeper.marks c.args.keeper.now) (g.K.Keeper.marks c.scan.new.self)) (Scans c.in_ok-query.query c.in-Ok.answer) (FindsRow c.args.table c.args.id c.pop.result)
     (λ a b h. finds_row c.asked_once.ensures c.args.table c.args.id c.in-Ok.answer c.pop.result c.pop.new.self.items
     (vec_len c.into_items-rows.result) (vec_len c.pop.new.self) (c.into_items-rows.result.ok.0 ∙ ap length c.into_items-rows.ensures) c.pop.new.self.ok.0
     (sym c.into_items-rows.ensures ∙ c.pop.ensures.items) c.pop.ensures.cases a b (subst (λ q. Scans q c.in-Ok.answer a b) c.in_ok-query.ensures h))

@@ -1,7 +1,7 @@
 use Rattle.std.proofs.Common.{◌<◌, ◌^◌, rules, subst, sym}
 use Rattle.std.specs.Prelude.{IsSomeAnd, List, slice_get}
 use Rattle.std.specs.List.{All}
-use Rattle.fx_base.specs.Silence.{IsLost}
+use Rattle.fx_base.specs.Silence.{SilenceCause}
 use Rattle.fx_base.proofs.Silences.{goes_weaker}
 use Rattle.fx_core.specs.declared.schema.TableShape.{TableShape}
 use Rattle.row_queries.specs.TableRows.{IsRowOf}
@@ -20,7 +20,7 @@ returns-in_err-query-clause-visits g c = visits_none c.args.table c.args.after (
 pub returns-in-Ok-clause-found : goal.returns-in-Ok-clause-found
 returns-in-Ok-clause-found g c =
     let most : c.args.after < 2 ^ 32 = search rules in
-    goes_weaker (IsLost (g.K.Keeper.marks c.args.keeper.now) (g.K.Keeper.marks c.scan.new.self)) (Scans c.in_ok-query.query c.in-Ok.answer) (FindsRows c.args.table c.args.after c.into_items.result.items)
+    goes_weaker (SilenceCause (g.K.Keeper.marks c.args.keeper.now) (g.K.Keeper.marks c.scan.new.self)) (Scans c.in_ok-query.query c.in-Ok.answer) (FindsRows c.args.table c.args.after c.into_items.result.items)
     (λ a b h. subst (λ rows. FindsRows c.args.table c.args.after rows a b) (sym c.into_items.ensures)
     (finds_rows c.asked_once.ensures c.keys_order.ensures.order c.args.table c.args.after most c.in-Ok.answer a b (subst (λ q. Scans q c.in-Ok.answer a b) c.in_ok-query.ensures h)))
     (g.K.Keeper.told c.args.keeper.now) (g.K.Keeper.told c.scan.new.self) c.in-Ok.ensures.rows

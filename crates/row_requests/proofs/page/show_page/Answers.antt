@@ -1,5 +1,5 @@
 use Rattle.std.proofs.Common.{◌∙◌, ◌≡◌, ap, subst}
-use Rattle.fx_base.specs.Silence.{IsLost}
+use Rattle.fx_base.specs.Silence.{SilenceCause}
 use Rattle.row_keeper.specs.Tables.{columns_at}
 use Rattle.row_requests.specs.Page.{ShowsTable, VisitsTable, page_reply}
 use Rattle.numbered_requests.specs.Replies.{said}
@@ -9,7 +9,7 @@ use Rattle.row_requests.proofs.page.show_page.Goals as goal
 
 pub returns-in_ok-reply-in-Ok-clause-done : goal.returns-in_ok-reply-in-Ok-clause-done
 returns-in_ok-reply-in-Ok-clause-done g c =
-    let lost = IsLost (g.K.Keeper.marks c.args.keeper.now) (g.K.Keeper.marks c.find_rows.new.keeper) in
+    let lost = SilenceCause (g.K.Keeper.marks c.args.keeper.now) (g.K.Keeper.marks c.find_rows.new.keeper) in
     let before = g.K.Keeper.told c.args.keeper.now in
     let now = g.K.Keeper.told c.find_rows.new.keeper in
     let tables = c.args.schema.now.tables in

@@ -1,5 +1,5 @@
 use Rattle.std.proofs.Common.{◌≡◌, true}
-use Rattle.fx_base.specs.Silence.{Goes, IsLater, IsLost}
+use Rattle.fx_base.specs.Silence.{MayFallSilent, IsLater, SilenceCause}
 use Rattle.fx_base.specs.Telling.{Stays}
 use Rattle.row_requests.specs.Sound.{AreSound}
 use Rattle.row_requests.proofs.AnyKeepers.{MayLead}
@@ -13,10 +13,10 @@ invariant-loop-change g l =
     let marks = g.K.Keeper.marks in
     record {
       at : l.at ≡ l.change-index;
-      goes : Goes (IsLost (marks l.fn.keeper) (marks l.keeper)) (Leads l.schema.tables l.changes l.change-index l.ids) (told l.fn.keeper) (told l.keeper);
+      goes : MayFallSilent (SilenceCause (marks l.fn.keeper) (marks l.keeper)) (Leads l.schema.tables l.changes l.change-index l.ids) (told l.fn.keeper) (told l.keeper);
       sound : AreSound l.schema (told l.keeper);
       may : MayLead l.schema.tables l.changes l.change-index l.ids;
-      stays : Goes (IsLost (marks l.fn.keeper) (marks l.keeper)) Stays (began l.fn.keeper) (began l.keeper);
+      stays : MayFallSilent (SilenceCause (marks l.fn.keeper) (marks l.keeper)) Stays (began l.fn.keeper) (began l.keeper);
       later : IsLater (marks l.fn.keeper) (marks l.keeper);
       begun : g.K.Keeper.in_transaction l.keeper ≡ true;
       shaped : g.K.Keeper.shaped l.keeper ≡ g.K.Keeper.shaped l.fn.keeper;

@@ -1,6 +1,6 @@
 use Rattle.std.proofs.Common.{map}
 use Rattle.app_wire.specs.Framing.{asked}
-use Rattle.sample_app.specs.Sample.{opens as opens_of}
+use Rattle.sample_app.specs.Sample.{open_request as opens_of}
 use Rattle.sample_app.proofs.Pushed.{more}
 use Rattle.sample_app.proofs.making.push_opens.Goals as goal
 

@@ -1,6 +1,6 @@
 use Rattle.std.proofs.Common.{map}
 use Rattle.app_wire.specs.Framing.{asked}
-use Rattle.sample_app.specs.Sample.{views as views_of}
+use Rattle.sample_app.specs.Sample.{view_request as views_of}
 use Rattle.sample_app.proofs.Pushed.{more}
 use Rattle.sample_app.proofs.making.push_views.Goals as goal
 

@@ -1,7 +1,7 @@
 use Rattle.std.proofs.Common.{ap, map, flat_map}
 use Rattle.std.specs.List.{range_with_len}
 use Rattle.app_wire.specs.Framing.{asked}
-use Rattle.sample_app.specs.Sample.{adds as adds_of, opens as opens_of, page as page_of, views as views_of, works as works_of}
+use Rattle.sample_app.specs.Sample.{adds as adds_of, open_request as opens_of, page as page_of, view_request as views_of, works as works_of}
 use Rattle.sample_app.proofs.Pushed.{joined}
 use Rattle.sample_app.proofs.making.requests.Goals as goal
 

@@ -1,5 +1,5 @@
 use Rattle.std.proofs.Common.{◌≡◌, drop}
-use Rattle.sample_app.specs.Summary.{body_of as body_in}
+use Rattle.sample_app.specs.Summary.{reply_body as body_in}
 use Rattle.sample_app.proofs.telling.body_of.Given as goal
 
 abbrev pub invariant-loop-at : goal.invariant-loop-at

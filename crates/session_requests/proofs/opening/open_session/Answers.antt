@@ -1,5 +1,5 @@
 use Rattle.std.proofs.Common.{Option, refl, subst}
-use Rattle.fx_base.specs.Silence.{Goes, IsLost}
+use Rattle.fx_base.specs.Silence.{MayFallSilent, SilenceCause}
 use Rattle.fx_base.specs.Telling.{Stays}
 use Rattle.row_keeper.specs.Tables.{Tables}
 use Rattle.session_state.specs.Sessions.{opened}
@@ -13,13 +13,13 @@ pub prepare_session-requires-clause-cached : goal.prepare_session-requires-claus
 prepare_session-requires-clause-cached g c =
     let told = g.K.Keeper.told in
     let marks = g.K.Keeper.marks in
-    cached_stays c.args.app.now (opened c.args.app.now.names) (IsLost (marks c.args.keeper.now) (marks c.begin.new.self)) (told c.args.keeper.now) (told c.begin.new.self) c.args.moment c.args.cache.now c.begin.ensures.tables c.requires.cached
+    cached_stays c.args.app.now (opened c.args.app.now.names) (SilenceCause (marks c.args.keeper.now) (marks c.begin.new.self)) (told c.args.keeper.now) (told c.begin.new.self) c.args.moment c.args.cache.now c.begin.ensures.tables c.requires.cached
 
 pub returns-in-Ok-settle-clause-cached : goal.returns-in-Ok-settle-clause-cached
 returns-in-Ok-settle-clause-cached g c =
     let told = g.K.Keeper.told in
     let marks = g.K.Keeper.marks in
-    cached_stays c.args.app.now c.in-Ok-prepare_session.session (IsLost (marks c.prepare_session.new.keeper) (marks c.settle.new.keeper)) (told c.prepare_session.new.keeper) (told c.settle.new.keeper) c.args.moment c.prepare_session.new.cache
+    cached_stays c.args.app.now c.in-Ok-prepare_session.session (SilenceCause (marks c.prepare_session.new.keeper) (marks c.settle.new.keeper)) (told c.prepare_session.new.keeper) (told c.settle.new.keeper) c.args.moment c.prepare_session.new.cache
     (c.in-Ok-settle.ensures.kept refl) c.in-Ok-prepare_session.ensures.cached
 
 pub returns-in-Ok-settle-clause-tables : goal.returns-in-Ok-settle-clause-tables
@@ -35,7 +35,7 @@ returns-in-Ok-settle-clause-tables g c =
     (λ (t u : Tables). Opens c.args.app.now c.args.moment (scene t (opened c.args.app.now.names)) (scene u c.in-Ok-prepare_session.ensures.wrote.0.end)) (told old) (told first) (told second) (told third) (began second)
     c.begin.ensures.cause.later c.prepare_session.ensures.cause.later c.settle.ensures.cause.later
     c.begin.ensures.tables c.in-Ok-prepare_session.ensures.wrote.0.opens (c.in-Ok-settle.ensures.kept refl)
-    (subst (λ (z : Option Tables). Goes (IsLost (marks first) (marks second)) Stays z (began second)) c.in-Ok.ensures.ok.1 c.prepare_session.ensures.goes_on.began)
+    (subst (λ (z : Option Tables). MayFallSilent (SilenceCause (marks first) (marks second)) Stays z (began second)) c.in-Ok.ensures.ok.1 c.prepare_session.ensures.goes_on.began)
     (g.met.K.Keeper.heard second) c.prepare_session.ensures.undoable.later
 
 pub returns-in-Ok-settle-clause-opens : goal.returns-in-Ok-settle-clause-opens

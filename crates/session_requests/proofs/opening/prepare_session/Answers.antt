@@ -1,10 +1,10 @@
 use Rattle.std.proofs.Common.{List, Option, [], drop, length, subst, sym, ◌∙◌}
-use Rattle.fx_base.specs.Silence.{Goes, IsLost}
+use Rattle.fx_base.specs.Silence.{MayFallSilent, SilenceCause}
 use Rattle.fx_core.specs.declared.sources.Source.{Source}
 use Rattle.row_keeper.specs.Tables.{Tables}
 use Rattle.session_state.specs.Changes.{FitsNames}
 use Rattle.session_state.specs.Sessions.{SessionState, opened}
-use Rattle.session_requests.specs.Caching.{AreSessionsBut, AreSources, IsCached}
+use Rattle.session_requests.specs.Caching.{SameSessionExcept, AreSources, IsCached}
 use Rattle.session_requests.specs.Running.{Opens, OpensWriting}
 use Rattle.session_requests.specs.Scenes.{scene}
 use Rattle.session_requests.specs.Transactions.{CanGoBack}
@@ -24,7 +24,7 @@ open-requires-clause-under_way g c =
       rows = c.requires.rows;
       begun = c.requires.begun;
       cached = subst (λ (s : SessionState). IsCached c.args.app.now s (g.K.Keeper.told c.args.keeper.now) c.args.moment c.args.cache.now) (sym c.in_ok-session.ensures.opened) c.requires.cached;
-      but = subst (AreSessionsBut c.args.app.now.names c.args.wrote.now.items c.in_ok-before.before) (c.in_ok-before.ensures.opened ∙ sym c.in_ok-session.ensures.opened) (no_change c.args.app.now.names c.args.wrote.now.items c.in_ok-before.before);
+      but = subst (SameSessionExcept c.args.app.now.names c.args.wrote.now.items c.in_ok-before.before) (c.in_ok-before.ensures.opened ∙ sym c.in_ok-session.ensures.opened) (no_change c.args.app.now.names c.args.wrote.now.items c.in_ok-before.before);
       later = later_first c.args.wrote.now.items (g.K.Keeper.began c.args.keeper.now) (g.K.Keeper.told c.args.keeper.now) c.requires.began;
       sources = subst (AreSources c.args.app.now.names) (sym c.requires.wrote) (λ x l. absurd l);
     }
@@ -32,14 +32,14 @@ open-requires-clause-under_way g c =
 pub returns-clause-wrote : goal.returns-clause-wrote
 returns-clause-wrote g c =
     let told = g.K.Keeper.told in
-    let lost = IsLost (g.K.Keeper.marks c.args.keeper.now) (g.K.Keeper.marks c.open.new.keeper) in
+    let lost = SilenceCause (g.K.Keeper.marks c.args.keeper.now) (g.K.Keeper.marks c.open.new.keeper) in
     let a = c.args.app.now in
     let ws = c.open.new.wrote.items in
     let end = c.open.new.session in
     let left = is_unasked end c.take_notices.new.self c.keep.new.self c.new-3.result.items c.new-4.result.items c.take_notices.ensures.none c.keep.ensures c.new-3.ensures.items c.new-4.ensures.items in
-    let opens : Goes lost (λ (t u : Tables). OpensWriting a c.args.moment (scene t (opened a.names)) (scene u end) ws) (told c.args.keeper.now) (told c.open.new.keeper) =
-    subst (λ (s : SessionState). Goes lost (λ (t u : Tables). OpensWriting a c.args.moment (scene t s) (scene u end) ws) (told c.args.keeper.now) (told c.open.new.keeper)) c.in_ok-session.ensures.opened
-    (subst (λ (l : List Source). Goes lost (λ (t u : Tables). OpensWriting a c.args.moment (scene t c.in_ok-session.session) (scene u end) (drop (length l) ws)) (told c.args.keeper.now) (told c.open.new.keeper)) c.requires.wrote c.in_ok-open.ensures.wrote) in (
+    let opens : MayFallSilent lost (λ (t u : Tables). OpensWriting a c.args.moment (scene t (opened a.names)) (scene u end) ws) (told c.args.keeper.now) (told c.open.new.keeper) =
+    subst (λ (s : SessionState). MayFallSilent lost (λ (t u : Tables). OpensWriting a c.args.moment (scene t s) (scene u end) ws) (told c.args.keeper.now) (told c.open.new.keeper)) c.in_ok-session.ensures.opened
+    (subst (λ (l : List Source). MayFallSilent lost (λ (t u : Tables). OpensWriting a c.args.moment (scene t c.in_ok-session.session) (scene u end) (drop (length l) ws)) (told c.args.keeper.now) (told c.open.new.keeper)) c.requires.wrote c.in_ok-open.ensures.wrote) in (
       record {
         end = end;
         opens = goes_as lost (λ (t u : Tables). OpensWriting a c.args.moment (scene t (opened a.names)) (scene u end) ws) (λ (t u : Tables). Opens a c.args.moment (scene t (opened a.names)) (scene u end)) (λ t u h. h.0) (told c.args.keeper.now) (told c.open.new.keeper) opens;

@@ -5,11 +5,11 @@ use Rattle.numbered_requests.specs.declared.directory.Named.{Named}
 use Rattle.session_state.specs.Sessions.{SessionState}
 use Rattle.session_requests.specs.Acting.{IsAt}
 use Rattle.session_requests.proofs.Endings.{find_at}
-use Rattle.fx_base.specs.Silence.{IsLost}
+use Rattle.fx_base.specs.Silence.{SilenceCause}
 use Rattle.session_requests.proofs.Writable.{only_none}
 use Rattle.session_requests.specs.Writable.{EventMayWrite}
 use Rattle.session_requests.proofs.WholeSent.{cut_none, on_err}
-use Rattle.session_requests.specs.Whole.{EventPerforms}
+use Rattle.session_requests.specs.WrittenWhole.{EventWritesWhole}
 use Rattle.session_requests.proofs.posting.send_event.Goals as goal
 
 pub act_event-requires-clause-found : goal.act_event-requires-clause-found
@@ -35,9 +35,9 @@ act_event-requires-clause-cached g c =
 
 pub returns-in_err-session-in-Some-clause-only : goal.returns-in_err-session-in-Some-clause-only
 returns-in_err-session-in-Some-clause-only g c =
-    only_none (IsLost (g.K.Keeper.marks c.args.keeper.now) (g.K.Keeper.marks c.args.keeper.now)) (EventMayWrite c.args.app.now c.args.event.now) c.args.wrote.now.items (g.K.Keeper.told c.args.keeper.now) c.requires.wrote
+    only_none (SilenceCause (g.K.Keeper.marks c.args.keeper.now) (g.K.Keeper.marks c.args.keeper.now)) (EventMayWrite c.args.app.now c.args.event.now) c.args.wrote.now.items (g.K.Keeper.told c.args.keeper.now) c.requires.wrote
 
 pub returns-in_err-session-in-Some-clause-cut : goal.returns-in_err-session-in-Some-clause-cut
 returns-in_err-session-in-Some-clause-cut g c =
     on_err _
-    (cut_none (IsLost (g.K.Keeper.marks c.args.keeper.now) (g.K.Keeper.marks c.args.keeper.now)) (λ t. EventPerforms c.args.app.now c.args.moment c.args.name.now c.args.event.now t c.args.sessions.now.items) c.args.wrote.now.items (g.K.Keeper.told c.args.keeper.now) c.requires.wrote)
+    (cut_none (SilenceCause (g.K.Keeper.marks c.args.keeper.now) (g.K.Keeper.marks c.args.keeper.now)) (λ t. EventWritesWhole c.args.app.now c.args.moment c.args.name.now c.args.event.now t c.args.sessions.now.items) c.args.wrote.now.items (g.K.Keeper.told c.args.keeper.now) c.requires.wrote)

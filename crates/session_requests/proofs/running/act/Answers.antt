@@ -1,6 +1,6 @@
 use Rattle.std.proofs.Common.{drop, length, option_map, sym}
 use Rattle.std.proofs.lemmas.Result.{IfOk-weaker, on_err_weaker}
-use Rattle.fx_base.specs.Silence.{IsLost}
+use Rattle.fx_base.specs.Silence.{SilenceCause}
 use Rattle.fx_types.specs.ValueView.{view}
 use Rattle.session_requests.proofs.Written.{none_written, some_written}
 use Rattle.session_requests.specs.Triggers.{cell_at}
@@ -11,7 +11,7 @@ use Rattle.session_requests.specs.Writable.{TriggerMayWrite}
 use Rattle.row_keeper.specs.Tables.{Tables}
 use Rattle.session_requests.proofs.Cuts.{cut_more, trigger_in}
 use Rattle.session_requests.specs.Scenes.{scene}
-use Rattle.session_requests.specs.Whole.{FormulaWrites, IsInAll, TriggerWrites}
+use Rattle.session_requests.specs.WrittenWhole.{FormulaWrites, IsInAll, TriggerWrites}
 use Rattle.session_requests.proofs.Transactions.{goes_on_here}
 use Rattle.session_requests.proofs.running.act.Goals as goal
 
@@ -32,7 +32,7 @@ returns-in-Some-clause-wrote g c =
     let marks = g.K.Keeper.marks in
     IfOk-weaker c.perform.result _ _ (λ v h.
     some_written c.args.app.now c.args.moment (cell_at c.args.trigger c.args.app.now) (option_map view c.args.item) c.in-Some.place c.index-as_slice-place.result c.args.session.now c.perform.new.session
-    (view v) (drop (length c.args.wrote.now.items) c.perform.new.wrote.items) (IsLost (marks c.args.keeper.now) (marks c.perform.new.keeper)) (told c.args.keeper.now) (told c.perform.new.keeper)
+    (view v) (drop (length c.args.wrote.now.items) c.perform.new.wrote.items) (SilenceCause (marks c.args.keeper.now) (marks c.perform.new.keeper)) (told c.args.keeper.now) (told c.perform.new.keeper)
     (sym c.in-Some.ensures.place)
     (there_at c.args.app.now.cells c.as_slice.result.now c.in-Some.place c.index-as_slice-place.result c.as_slice.ensures c.in-Some.ensures.within c.index-as_slice-place.is)
     h) c.perform.ensures.acted
@@ -40,20 +40,20 @@ returns-in-Some-clause-wrote g c =
 pub returns-in-None-clause-wrote : goal.returns-in-None-clause-wrote
 returns-in-None-clause-wrote g c =
     none_written c.args.app.now c.args.moment (cell_at c.args.trigger c.args.app.now) (option_map view c.args.item) c.args.session.now c.args.wrote.now.items
-    (IsLost (g.K.Keeper.marks c.args.keeper.now) (g.K.Keeper.marks c.args.keeper.now)) (g.K.Keeper.told c.args.keeper.now) (sym c.in-None.ensures.place)
+    (SilenceCause (g.K.Keeper.marks c.args.keeper.now) (g.K.Keeper.marks c.args.keeper.now)) (g.K.Keeper.told c.args.keeper.now) (sym c.in-None.ensures.place)
 
 pub returns-in-Some-clause-only : goal.returns-in-Some-clause-only
 returns-in-Some-clause-only g c =
     let told = g.K.Keeper.told in
     let marks = g.K.Keeper.marks in
     let info = c.index-as_slice-place.result in
-    only_more (IsLost (marks c.args.keeper.now) (marks c.perform.new.keeper)) (MayWrite info.core) (TriggerMayWrite c.args.app.now c.args.trigger) (drop (length c.args.wrote.now.items) c.perform.new.wrote.items) (told c.args.keeper.now) (told c.perform.new.keeper)
+    only_more (SilenceCause (marks c.args.keeper.now) (marks c.perform.new.keeper)) (MayWrite info.core) (TriggerMayWrite c.args.app.now c.args.trigger) (drop (length c.args.wrote.now.items) c.perform.new.wrote.items) (told c.args.keeper.now) (told c.perform.new.keeper)
     (trigger_may c.args.app.now (cell_at c.args.trigger c.args.app.now) c.in-Some.place info (sym c.in-Some.ensures.place)
     (there_at c.args.app.now.cells c.as_slice.result.now c.in-Some.place info c.as_slice.ensures c.in-Some.ensures.within c.index-as_slice-place.is)) c.perform.ensures.only
 
 pub returns-in-None-clause-only : goal.returns-in-None-clause-only
 returns-in-None-clause-only g c =
-    only_same (IsLost (g.K.Keeper.marks c.args.keeper.now) (g.K.Keeper.marks c.args.keeper.now)) (TriggerMayWrite c.args.app.now c.args.trigger) c.args.wrote.now.items (g.K.Keeper.told c.args.keeper.now)
+    only_same (SilenceCause (g.K.Keeper.marks c.args.keeper.now) (g.K.Keeper.marks c.args.keeper.now)) (TriggerMayWrite c.args.app.now c.args.trigger) c.args.wrote.now.items (g.K.Keeper.told c.args.keeper.now)
 
 pub returns-in-Some-clause-cut : goal.returns-in-Some-clause-cut
 returns-in-Some-clause-cut g c =
@@ -62,7 +62,7 @@ returns-in-Some-clause-cut g c =
     let info = c.index-as_slice-place.result in
     let item = option_map view c.args.item in
     on_err_weaker c.perform.result
-    (cut_more (IsLost (marks c.args.keeper.now) (marks c.perform.new.keeper)) (λ (t : Tables). IsInAll (FormulaWrites c.args.app.now c.args.moment info item t c.args.session.now))
+    (cut_more (SilenceCause (marks c.args.keeper.now) (marks c.perform.new.keeper)) (λ (t : Tables). IsInAll (FormulaWrites c.args.app.now c.args.moment info item t c.args.session.now))
     (λ (t : Tables). IsInAll (TriggerWrites c.args.app.now c.args.moment c.args.trigger item (scene t c.args.session.now))) (drop (length c.args.wrote.now.items) c.perform.new.wrote.items) (told c.args.keeper.now) (told c.perform.new.keeper)
     (trigger_in c.args.app.now c.args.moment c.args.trigger item c.in-Some.place info c.args.session.now (sym c.in-Some.ensures.place)
     (there_at c.args.app.now.cells c.as_slice.result.now c.in-Some.place info c.as_slice.ensures c.in-Some.ensures.within c.index-as_slice-place.is))) c.perform.ensures.cut

@@ -1,6 +1,6 @@
 use Rattle.std.proofs.Common.{List, subst, sym}
 use Rattle.fx_core.specs.declared.sources.Source.{Source}
-use Rattle.recalc.specs.Changes.{IsLeftBut}
+use Rattle.recalc.specs.Changes.{StaysCleanExcept}
 use Rattle.session_requests.specs.Caching.{AreSources, IsPending}
 use Rattle.session_requests.proofs.Transactions.{ended_touched}
 use Rattle.session_requests.proofs.Undone.{pending_touched}
@@ -20,4 +20,4 @@ pub returns-in-Err-clause-ended : goal.returns-in-Err-clause-ended
 returns-in-Err-clause-ended g c =
     let own = subst (AreSources c.args.app.now.names) (sym c.as_slice.ensures.value) c.transact.ensures.ended.sources in
     ended_touched g.K.Keeper c.args.app.now c.args.cache.now c.transact.new.cache c.touch_all.new.cache c.args.keeper.now c.transact.new.keeper c.args.wrote.now.items c.transact.new.wrote.items c.transact.ensures.ended
-    (subst (λ (xs : List Source). IsLeftBut c.args.app.now xs c.transact.new.cache c.touch_all.new.cache) c.as_slice.ensures.value (c.touch_all.ensures c.args.app.now own).but)
+    (subst (λ (xs : List Source). StaysCleanExcept c.args.app.now xs c.transact.new.cache c.touch_all.new.cache) c.as_slice.ensures.value (c.touch_all.ensures c.args.app.now own).but)

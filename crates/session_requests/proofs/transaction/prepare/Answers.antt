@@ -1,12 +1,12 @@
 use Rattle.std.proofs.Common.{[], drop, length, option_map, subst}
-use Rattle.fx_base.specs.Silence.{Goes, IsLost}
+use Rattle.fx_base.specs.Silence.{MayFallSilent, SilenceCause}
 use Rattle.fx_types.specs.ValueView.{view}
 use Rattle.row_keeper.specs.Tables.{Tables}
 use Rattle.session_state.specs.Sessions.{SessionState}
 use Rattle.session_requests.specs.Running.{Runs, RunsWriting}
 use Rattle.session_requests.specs.Scenes.{begun, scene}
-use Rattle.session_requests.specs.Whole.{IsInAll, RequestWrites}
-use Rattle.session_requests.specs.Writable.{AreAll}
+use Rattle.session_requests.specs.WrittenWhole.{IsInAll, RequestWrites}
+use Rattle.session_requests.specs.Writable.{AllSources}
 use Rattle.session_requests.proofs.Chains.{goes_as}
 use Rattle.session_requests.proofs.Cuts.{cut_whole, on_any}
 use Rattle.session_requests.proofs.RequestFitting.{fits_quiet, is_begun}
@@ -30,8 +30,8 @@ returns-clause-accepted g c =
     let value = view c.in_ok-value.value in
     let left = c.in_ok-accept_reply.field-0.session in
     let ws = drop (length c.args.wrote.now.items) c.run.new.wrote.items in
-    let runs : Goes (IsLost (marks c.args.keeper.now) (marks c.run.new.keeper)) (λ (t u : Tables). RunsWriting a c.args.moment c.args.trigger item (scene t (begun c.args.session)) value (scene u end) ws) (told c.args.keeper.now) (told c.run.new.keeper) =
-    subst (λ (s : SessionState). Goes (IsLost (marks c.args.keeper.now) (marks c.run.new.keeper)) (λ (t u : Tables). RunsWriting a c.args.moment c.args.trigger item (scene t s) value (scene u end) ws) (told c.args.keeper.now) (told c.run.new.keeper))
+    let runs : MayFallSilent (SilenceCause (marks c.args.keeper.now) (marks c.run.new.keeper)) (λ (t u : Tables). RunsWriting a c.args.moment c.args.trigger item (scene t (begun c.args.session)) value (scene u end) ws) (told c.args.keeper.now) (told c.run.new.keeper) =
+    subst (λ (s : SessionState). MayFallSilent (SilenceCause (marks c.args.keeper.now) (marks c.run.new.keeper)) (λ (t u : Tables). RunsWriting a c.args.moment c.args.trigger item (scene t s) value (scene u end) ws) (told c.args.keeper.now) (told c.run.new.keeper))
     (is_begun c.args.session c.take_notices.new.self c.take_navigated.new.self c.take_notices.ensures.none c.take_navigated.ensures.taken) c.in_ok-value.ensures.wrote in
     record {
       accepts = record {
@@ -65,16 +65,16 @@ pub returns-in_err-value-clause-cut : goal.returns-in_err-value-clause-cut
 returns-in_err-value-clause-cut g c =
     let told = g.K.Keeper.told in
     let marks = g.K.Keeper.marks in
-    on_any _ (subst (λ (s : SessionState). Goes (IsLost (marks c.args.keeper.now) (marks c.run.new.keeper))
-    (λ (t u : Tables). AreAll (IsInAll (RequestWrites c.args.app.now c.args.moment c.args.trigger (option_map view c.args.item) (scene t s))) (drop (length c.args.wrote.now.items) c.run.new.wrote.items)) (told c.args.keeper.now) (told c.run.new.keeper))
+    on_any _ (subst (λ (s : SessionState). MayFallSilent (SilenceCause (marks c.args.keeper.now) (marks c.run.new.keeper))
+    (λ (t u : Tables). AllSources (IsInAll (RequestWrites c.args.app.now c.args.moment c.args.trigger (option_map view c.args.item) (scene t s))) (drop (length c.args.wrote.now.items) c.run.new.wrote.items)) (told c.args.keeper.now) (told c.run.new.keeper))
     (is_begun c.args.session c.take_notices.new.self c.take_navigated.new.self c.take_notices.ensures.none c.take_navigated.ensures.taken) c.in_err-value.ensures.cut)
 
 pub returns-in_err-accept_reply-clause-cut : goal.returns-in_err-accept_reply-clause-cut
 returns-in_err-accept_reply-clause-cut g c =
     let told = g.K.Keeper.told in
     let marks = g.K.Keeper.marks in
-    on_any _ (subst (λ (s : SessionState). Goes (IsLost (marks c.args.keeper.now) (marks c.run.new.keeper))
-    (λ (t u : Tables). AreAll (IsInAll (RequestWrites c.args.app.now c.args.moment c.args.trigger (option_map view c.args.item) (scene t s))) (drop (length c.args.wrote.now.items) c.run.new.wrote.items)) (told c.args.keeper.now) (told c.run.new.keeper))
+    on_any _ (subst (λ (s : SessionState). MayFallSilent (SilenceCause (marks c.args.keeper.now) (marks c.run.new.keeper))
+    (λ (t u : Tables). AllSources (IsInAll (RequestWrites c.args.app.now c.args.moment c.args.trigger (option_map view c.args.item) (scene t s))) (drop (length c.args.wrote.now.items) c.run.new.wrote.items)) (told c.args.keeper.now) (told c.run.new.keeper))
     (is_begun c.args.session c.take_notices.new.self c.take_navigated.new.self c.take_notices.ensures.none c.take_navigated.ensures.taken)
-    (cut_whole c.one_acting.ensures (IsLost (marks c.args.keeper.now) (marks c.run.new.keeper)) c.args.app.now c.args.moment c.args.trigger (option_map view c.args.item) c.take_navigated.new.self c.run.new.session (view c.in_ok-value.value)
+    (cut_whole c.one_acting.ensures (SilenceCause (marks c.args.keeper.now) (marks c.run.new.keeper)) c.args.app.now c.args.moment c.args.trigger (option_map view c.args.item) c.take_navigated.new.self c.run.new.session (view c.in_ok-value.value)
     (drop (length c.args.wrote.now.items) c.run.new.wrote.items) (told c.args.keeper.now) (told c.run.new.keeper) c.in_ok-value.ensures.wrote))

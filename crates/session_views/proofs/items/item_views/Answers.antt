@@ -1,7 +1,7 @@
 use Rattle.session_views.proofs.Visiting.{all_visited, none_visited, one_visited}
 use Rattle.session_views.specs.Visits.{ItemAtVisits}
 use Rattle.recalc.proofs.CellVisits.{told_back}
-use Rattle.row_keeper.specs.Tables.{rows_of}
+use Rattle.row_keeper.specs.Tables.{rows_of_tables}
 use Rattle.std.proofs.Common.{◌*◌, Some, arith, length, refl}
 use Rattle.recalc.specs.app_semantics.Present.{present}
 use Rattle.session_views.specs.Bounds.{formulas_for}
@@ -19,7 +19,7 @@ loop-row-init g c = record {
   at = omega arith;
   ticks = at_least c.args.steps.now (length c.new-list.result * formulas_for c.args.app.now.names (is_it c.args.gallery));
   given = λ moment tables today heard. none_given (IsItemAt (present c.args.app.now c.args.session.now tables moment) (value_of c.args.valued.now) c.args.gallery) c.args.first 0 c.args.rows.now c.new-list.result refl c.new-list.ensures;
-  visits = λ moment today t told. none_visited (ItemAtVisits c.args.app.now c.args.session.now (rows_of t.states) moment (value_of c.args.valued.now) c.args.gallery) c.args.first 0 c.args.rows.now c.new-list.result (g.K.Keeper.visited c.args.keeper.now) refl c.new-list.ensures;
+  visits = λ moment today t told. none_visited (ItemAtVisits c.args.app.now c.args.session.now (rows_of_tables t.states) moment (value_of c.args.valued.now) c.args.gallery) c.args.first 0 c.args.rows.now c.new-list.result (g.K.Keeper.visited c.args.keeper.now) refl c.new-list.ensures;
   read = read_none (keeping (g.K.Keeper.told c.args.keeper.now) (g.K.Keeper.began c.args.keeper.now) (g.K.Keeper.shaped c.args.keeper.now) (g.K.Keeper.in_transaction c.args.keeper.now) (g.K.Keeper.marks c.args.keeper.now) (g.K.Keeper.visited c.args.keeper.now) (g.K.Keeper.loan c.args.keeper.now));
 }
 
@@ -40,7 +40,7 @@ loop-row-preserved g c =
           one_given (IsItemAt (present c.args.app.now c.args.session.now tables moment) (value_of c.args.valued.now) c.args.gallery) c.args.first c.loop-row.at c.loop-row.row-index c.args.rows.now c.args.rows.now c.row-item.result (Some c.in_ok-item.item) c.loop-row.list c.push.new.self
           c.loop-row.invariant.at refl c.loop-row-test.true c.row-item.is (c.in_ok-item.ensures.shows moment tables today heard) c.in_ok-push.ensures.ok (c.loop-row.invariant.given moment tables today (heard_before before after c.in_ok-item.ensures.read tables heard));
       visits = λ moment today t told.
-          one_visited (ItemAtVisits c.args.app.now c.args.session.now (rows_of t.states) moment (value_of c.args.valued.now) c.args.gallery) c.args.first c.loop-row.at c.loop-row.row-index c.args.rows.now c.args.rows.now c.row-item.result (Some c.in_ok-item.item) c.loop-row.list c.push.new.self (g.K.Keeper.visited c.args.keeper.now) (g.K.Keeper.visited c.loop-row.keeper) (g.K.Keeper.visited c.item_view.new.keeper)
+          one_visited (ItemAtVisits c.args.app.now c.args.session.now (rows_of_tables t.states) moment (value_of c.args.valued.now) c.args.gallery) c.args.first c.loop-row.at c.loop-row.row-index c.args.rows.now c.args.rows.now c.row-item.result (Some c.in_ok-item.item) c.loop-row.list c.push.new.self (g.K.Keeper.visited c.args.keeper.now) (g.K.Keeper.visited c.loop-row.keeper) (g.K.Keeper.visited c.item_view.new.keeper)
           c.loop-row.invariant.at refl c.loop-row-test.true c.row-item.is (c.in_ok-item.ensures.visits moment today t told) c.in_ok-push.ensures.ok (c.loop-row.invariant.visits moment today t (told_back before after c.in_ok-item.ensures.read t told));
       read = read_on first before after c.loop-row.invariant.read c.in_ok-item.ensures.read;
     }
@@ -51,4 +51,4 @@ returns-clause-shows g c = λ moment tables today heard.
 
 pub returns-clause-visits : goal.returns-clause-visits
 returns-clause-visits g c = λ moment today t told.
-    all_visited (ItemAtVisits c.args.app.now c.args.session.now (rows_of t.states) moment (value_of c.args.valued.now) c.args.gallery) c.args.first c.loop-row.row-index c.args.rows.now c.args.rows.now c.loop-row.list (g.K.Keeper.visited c.args.keeper.now) (g.K.Keeper.visited c.loop-row.keeper) refl c.loop-row-test.false (c.loop-row.invariant.visits moment today t told)
+    all_visited (ItemAtVisits c.args.app.now c.args.session.now (rows_of_tables t.states) moment (value_of c.args.valued.now) c.args.gallery) c.args.first c.loop-row.row-index c.args.rows.now c.args.rows.now c.loop-row.list (g.K.Keeper.visited c.args.keeper.now) (g.K.Keeper.visited c.loop-row.keeper) refl c.loop-row-test.false (c.loop-row.invariant.visits moment today t told)

@@ -1,5 +1,5 @@
 use Rattle.session_views.proofs.Visiting.{fault_visits, rows_visits}
-use Rattle.row_keeper.specs.Tables.{rows_of}
+use Rattle.row_keeper.specs.Tables.{rows_of_tables}
 use Rattle.std.proofs.lemmas.Result.{IfOk-weaker}
 use Rattle.recalc.specs.app_semantics.Present.{items_of, present}
 use Rattle.fx_types.specs.ValueView.{view}
@@ -27,12 +27,12 @@ returns-clause-shows g c =
 
 pub returns-in-Some-clause-visits : goal.returns-in-Some-clause-visits
 returns-in-Some-clause-visits g c = λ moment today t told.
-    fault_visits c.args.app.now c.args.session.now (rows_of t.states) moment (value_of c.args.valued.now) c.args.gallery c.args.from (view c.in_ok-items.items) c.in_ok-error.error c.items_with.result (g.K.Keeper.visited c.args.keeper.now) (g.K.Keeper.visited c.args.keeper.now) c.in_ok-items.ensures c.in_ok-error.ensures
+    fault_visits c.args.app.now c.args.session.now (rows_of_tables t.states) moment (value_of c.args.valued.now) c.args.gallery c.args.from (view c.in_ok-items.items) c.in_ok-error.error c.items_with.result (g.K.Keeper.visited c.args.keeper.now) (g.K.Keeper.visited c.args.keeper.now) c.in_ok-items.ensures c.in_ok-error.ensures
     c.in-Some.fault c.in-Some.is
 
 pub returns-clause-visits : goal.returns-clause-visits
 returns-clause-visits g c =
     IfOk-weaker c.table_items.result _ _ (λ i h moment today t told.
-    rows_visits c.args.app.now c.args.session.now (rows_of t.states) moment (value_of c.args.valued.now) c.args.gallery c.args.from (view c.in_ok-items.items) c.in_ok-error.error i (g.K.Keeper.visited c.args.keeper.now) (g.K.Keeper.visited c.table_items.new.keeper) c.in_ok-items.ensures c.in_ok-error.ensures
+    rows_visits c.args.app.now c.args.session.now (rows_of_tables t.states) moment (value_of c.args.valued.now) c.args.gallery c.args.from (view c.in_ok-items.items) c.in_ok-error.error i (g.K.Keeper.visited c.args.keeper.now) (g.K.Keeper.visited c.table_items.new.keeper) c.in_ok-items.ensures c.in_ok-error.ensures
     c.rows_in-rows.result.now c.in-None.is c.rows_in-rows.ensures (h moment today t told))
     c.table_items.ensures.visits

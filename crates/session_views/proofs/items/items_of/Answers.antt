@@ -1,12 +1,12 @@
 use Rattle.recalc.proofs.CellVisits.{told_back}
-use Rattle.row_keeper.specs.Tables.{rows_of, rows_told}
+use Rattle.row_keeper.specs.Tables.{rows_of_tables, rows_told}
 use Rattle.std.proofs.Common.{[], subst, sym, Some, ap}
 use Rattle.std.proofs.lemmas.Result.{IfOk-weaker}
 use Rattle.std.specs.List.{Contains}
 use Rattle.recalc.proofs.Asked.{heard_before}
 use Rattle.recalc.proofs.Leaving.{left_same}
 use Rattle.recalc.specs.Asking.{Keeping, keeping}
-use Rattle.recalc.specs.Values.{Values, value_of}
+use Rattle.recalc.specs.Values.{CellValues, value_of}
 use Rattle.recalc.specs.app_semantics.Present.{Present, present}
 use Rattle.fx_scalar.specs.ScalarFunctions.{IsToday}
 use Rattle.session_views.proofs.Needing.{fresh_for, lent, made_for}
@@ -18,13 +18,13 @@ returns-clause-shows g c =
     let before : Keeping = keeping (g.K.Keeper.told c.refresh.new.keeper) (g.K.Keeper.began c.refresh.new.keeper) (g.K.Keeper.shaped c.refresh.new.keeper) (g.K.Keeper.in_transaction c.refresh.new.keeper) (g.K.Keeper.marks c.refresh.new.keeper) (g.K.Keeper.visited c.refresh.new.keeper) (g.K.Keeper.loan c.refresh.new.keeper) in
     let after : Keeping = keeping (g.K.Keeper.told c.items_by.new.keeper) (g.K.Keeper.began c.items_by.new.keeper) (g.K.Keeper.shaped c.items_by.new.keeper) (g.K.Keeper.in_transaction c.items_by.new.keeper) (g.K.Keeper.marks c.items_by.new.keeper) (g.K.Keeper.visited c.items_by.new.keeper) (g.K.Keeper.loan c.items_by.new.keeper) in
     let looked : AreLookedAt c.args.app.now (is_it c.args.gallery) c.in_ok-roots.roots.items = c.in_ok-roots.ensures in
-    let today : IsToday c.args.moment c.values.result.now.day = subst (λ (v : Values). IsToday c.args.moment v.day) (sym c.values.ensures) (subst (IsToday c.args.moment) (sym c.refresh.ensures.day) c.requires.day) in
+    let today : IsToday c.args.moment c.values.result.now.day = subst (λ (v : CellValues). IsToday c.args.moment v.day) (sym c.values.ensures) (subst (IsToday c.args.moment) (sym c.refresh.ensures.day) c.requires.day) in
     IfOk-weaker c.items_by.result _ _ (λ v h right tables heard.
     let p : Present = present c.args.app.now c.args.session.now tables c.args.moment in
     let fresh = c.in_ok-refresh.ensures.fresh right in
     record {
       values = value_of c.values.result.now;
-      fresh = subst (λ (v : Values). AreFreshFor p (value_of v) (is_it c.args.gallery)) (sym c.values.ensures)
+      fresh = subst (λ (v : CellValues). AreFreshFor p (value_of v) (is_it c.args.gallery)) (sym c.values.ensures)
           (fresh_for p c.refresh.new.self (is_it c.args.gallery) c.in_ok-roots.roots.items c.refresh.ensures.order looked (λ k among. fresh tables k (heard_before before after c.items_by.ensures.read tables heard) (subst (λ ks. Contains ks k) (sym c.deref.ensures.value) among)));
       are = h c.args.moment tables today heard;
     })
@@ -62,9 +62,9 @@ returns-clause-visits g c =
     let before : Keeping = keeping (g.K.Keeper.told c.refresh.new.keeper) (g.K.Keeper.began c.refresh.new.keeper) (g.K.Keeper.shaped c.refresh.new.keeper) (g.K.Keeper.in_transaction c.refresh.new.keeper) (g.K.Keeper.marks c.refresh.new.keeper) (g.K.Keeper.visited c.refresh.new.keeper) (g.K.Keeper.loan c.refresh.new.keeper) in
     let after : Keeping = keeping (g.K.Keeper.told c.items_by.new.keeper) (g.K.Keeper.began c.items_by.new.keeper) (g.K.Keeper.shaped c.items_by.new.keeper) (g.K.Keeper.in_transaction c.items_by.new.keeper) (g.K.Keeper.marks c.items_by.new.keeper) (g.K.Keeper.visited c.items_by.new.keeper) (g.K.Keeper.loan c.items_by.new.keeper) in
     let looked : AreLookedAt c.args.app.now (is_it c.args.gallery) c.in_ok-roots.roots.items = c.in_ok-roots.ensures in
-    let today : IsToday c.args.moment c.values.result.now.day = subst (λ (v : Values). IsToday c.args.moment v.day) (sym c.values.ensures) (subst (IsToday c.args.moment) (sym c.refresh.ensures.day) c.requires.day) in
+    let today : IsToday c.args.moment c.values.result.now.day = subst (λ (v : CellValues). IsToday c.args.moment v.day) (sym c.values.ensures) (subst (IsToday c.args.moment) (sym c.refresh.ensures.day) c.requires.day) in
     IfOk-weaker c.items_by.result _ _ (λ v h right room t told.
-    let p : Present = present c.args.app.now c.args.session.now (Some (rows_of t.states)) c.args.moment in
+    let p : Present = present c.args.app.now c.args.session.now (Some (rows_of_tables t.states)) c.args.moment in
     let fresh = c.in_ok-refresh.ensures.fresh right in
     record {
       roots = c.deref.result.now;
@@ -73,9 +73,9 @@ returns-clause-visits g c =
       mid = g.K.Keeper.visited c.refresh.new.keeper;
       cells = c.in_ok-refresh.ensures.visits right room t (told_back before after c.items_by.ensures.read t told);
       values = value_of c.values.result.now;
-      fresh = subst (λ (v : Values). AreFreshFor p (value_of v) (is_it c.args.gallery)) (sym c.values.ensures)
+      fresh = subst (λ (v : CellValues). AreFreshFor p (value_of v) (is_it c.args.gallery)) (sym c.values.ensures)
           (fresh_for p c.refresh.new.self (is_it c.args.gallery) c.in_ok-roots.roots.items c.refresh.ensures.order looked
-          (λ k among. fresh (Some (rows_of t.states)) k (heard_before before after c.items_by.ensures.read (Some (rows_of t.states)) (ap rows_told told)) (subst (λ ks. Contains ks k) (sym c.deref.ensures.value) among)));
+          (λ k among. fresh (Some (rows_of_tables t.states)) k (heard_before before after c.items_by.ensures.read (Some (rows_of_tables t.states)) (ap rows_told told)) (subst (λ ks. Contains ks k) (sym c.deref.ensures.value) among)));
       items = h c.args.moment today t told;
     })
     c.items_by.ensures.visits

@@ -1,6 +1,6 @@
 use Rattle.session_views.proofs.Visiting.{paged_visits}
 use Rattle.session_views.specs.Visits.{ItemAtVisits}
-use Rattle.row_keeper.specs.Tables.{rows_of}
+use Rattle.row_keeper.specs.Tables.{rows_of_tables}
 use Rattle.std.proofs.Common.{◌-◌, arith, refl}
 use Rattle.recalc.specs.app_semantics.Present.{present}
 use Rattle.session_views.specs.Views.{IsItemAt}
@@ -26,5 +26,5 @@ returns-clause-shows g c = λ moment tables today heard. (
 
 pub returns-clause-visits : goal.returns-clause-visits
 returns-clause-visits g c = λ moment today t told.
-    paged_visits (ItemAtVisits c.args.app.now c.args.session.now (rows_of t.states) moment (value_of c.args.valued.now) c.args.gallery) c.args.from c.max-first.result c.from.result c.page-shown.result.now c.args.rows.now c.in_ok-list.list (g.K.Keeper.visited c.args.keeper.now) (g.K.Keeper.visited c.item_views.new.keeper) c.max-first.ensures c.from.ensures c.page-shown.ensures
+    paged_visits (ItemAtVisits c.args.app.now c.args.session.now (rows_of_tables t.states) moment (value_of c.args.valued.now) c.args.gallery) c.args.from c.max-first.result c.from.result c.page-shown.result.now c.args.rows.now c.in_ok-list.list (g.K.Keeper.visited c.args.keeper.now) (g.K.Keeper.visited c.item_views.new.keeper) c.max-first.ensures c.from.ensures c.page-shown.ensures
     (c.in_ok-list.ensures.visits moment today t told)

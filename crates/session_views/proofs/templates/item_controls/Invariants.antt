@@ -4,7 +4,7 @@ use Rattle.recalc.specs.fx_eval.Visits.{AtMost}
 use Rattle.recalc.specs.Visits.{WhereTold}
 use Rattle.std.proofs.Common.{◌≡◌, ◌+◌, ◌≤◌, ℕ}
 use Rattle.recalc.specs.app_semantics.Present.{present}
-use Rattle.session_views.specs.Views.{IsShownFor}
+use Rattle.session_views.specs.Views.{IsItemControlShown}
 use Rattle.session_views.proofs.Counts.{formulas_before}
 use Rattle.session_views.proofs.Giving.{GivenUpTo}
 use Rattle.fx_scalar.specs.ScalarFunctions.{IsToday}
@@ -17,7 +17,7 @@ abbrev pub invariant-loop-control : goal.invariant-loop-control
 invariant-loop-control g l = record {
   number : l.number ≡ l.control-index;
   ticks : l.steps ≤ l.fn.steps + formulas_before l.app.names l.gallery l.control-index;
-  given : (moment : ℕ) (tables : ToldRows) → IsToday moment l.valued.day → IsHeardOf (g.K.Keeper.told l.keeper) tables → GivenUpTo (IsShownFor (present l.app l.session tables moment) (value_of l.valued) l.gallery (record_of l.row)) 0 l.app.names.controls l.control-index l.shown;
+  given : (moment : ℕ) (tables : ToldRows) → IsToday moment l.valued.day → IsHeardOf (g.K.Keeper.told l.keeper) tables → GivenUpTo (IsItemControlShown (present l.app l.session tables moment) (value_of l.valued) l.gallery (record_of l.row)) 0 l.app.names.controls l.control-index l.shown;
   visits : (moment : ℕ) → IsToday moment l.valued.day → WhereTold (g.K.Keeper.told l.keeper) (λ told. AtMost (VisitedUpTo (TemplateVisits l.app l.session told moment (value_of l.valued) l.gallery (record_of l.row)) 0 l.app.names.controls l.control-index l.shown) (g.K.Keeper.visited l.fn.keeper) (g.K.Keeper.visited l.keeper));
   read : HasRead (keeping (g.K.Keeper.told l.fn.keeper) (g.K.Keeper.began l.fn.keeper) (g.K.Keeper.shaped l.fn.keeper) (g.K.Keeper.in_transaction l.fn.keeper) (g.K.Keeper.marks l.fn.keeper) (g.K.Keeper.visited l.fn.keeper) (g.K.Keeper.loan l.fn.keeper))
       (keeping (g.K.Keeper.told l.keeper) (g.K.Keeper.began l.keeper) (g.K.Keeper.shaped l.keeper) (g.K.Keeper.in_transaction l.keeper) (g.K.Keeper.marks l.keeper) (g.K.Keeper.visited l.keeper) (g.K.Keeper.loan l.keeper));

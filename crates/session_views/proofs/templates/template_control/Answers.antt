@@ -1,7 +1,7 @@
 use Rattle.session_views.proofs.Visiting.{both_most}
 use Rattle.session_views.specs.Visits.{PropertyVisits}
 use Rattle.recalc.proofs.CellVisits.{told_back}
-use Rattle.row_keeper.specs.Tables.{rows_of}
+use Rattle.row_keeper.specs.Tables.{rows_of_tables}
 use Rattle.recalc.specs.Values.{value_of}
 use Rattle.recalc.specs.fx_semantics.Around.{record_of}
 use Rattle.std.proofs.Common.{arith, sym, ◌∙◌, codes}
@@ -48,7 +48,7 @@ pub returns-in_ok-shown-clause-visits : goal.returns-in_ok-shown-clause-visits
 returns-in_ok-shown-clause-visits g c = λ moment today t told.
     let before : Keeping = keeping (g.K.Keeper.told c.is_visible_for_item.new.keeper) (g.K.Keeper.began c.is_visible_for_item.new.keeper) (g.K.Keeper.shaped c.is_visible_for_item.new.keeper) (g.K.Keeper.in_transaction c.is_visible_for_item.new.keeper) (g.K.Keeper.marks c.is_visible_for_item.new.keeper) (g.K.Keeper.visited c.is_visible_for_item.new.keeper) (g.K.Keeper.loan c.is_visible_for_item.new.keeper) in
     let after : Keeping = keeping (g.K.Keeper.told c.text_for.new.keeper) (g.K.Keeper.began c.text_for.new.keeper) (g.K.Keeper.shaped c.text_for.new.keeper) (g.K.Keeper.in_transaction c.text_for.new.keeper) (g.K.Keeper.marks c.text_for.new.keeper) (g.K.Keeper.visited c.text_for.new.keeper) (g.K.Keeper.loan c.text_for.new.keeper) in
-    both_most (PropertyVisits c.args.app.now c.args.session.now (rows_of t.states) moment (value_of c.args.valued.now) (record_of c.args.row.now) c.args.number (codes "Visible")) (PropertyVisits c.args.app.now c.args.session.now (rows_of t.states) moment (value_of c.args.valued.now) (record_of c.args.row.now) c.args.number (codes "Text"))
+    both_most (PropertyVisits c.args.app.now c.args.session.now (rows_of_tables t.states) moment (value_of c.args.valued.now) (record_of c.args.row.now) c.args.number (codes "Visible")) (PropertyVisits c.args.app.now c.args.session.now (rows_of_tables t.states) moment (value_of c.args.valued.now) (record_of c.args.row.now) c.args.number (codes "Text"))
     (g.K.Keeper.visited c.args.keeper.now) (g.K.Keeper.visited c.is_visible_for_item.new.keeper) (g.K.Keeper.visited c.text_for.new.keeper)
     (c.in_ok-visible.ensures.visits moment today t (told_back before after c.in_ok-text.ensures.read t told)) (c.in_ok-text.ensures.visits moment today t told)
 

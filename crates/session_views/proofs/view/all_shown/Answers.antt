@@ -1,7 +1,7 @@
 use Rattle.session_views.proofs.Visiting.{all_visited, none_visited, one_visited}
 use Rattle.session_views.specs.Visits.{ShownVisits}
 use Rattle.recalc.proofs.CellVisits.{told_back}
-use Rattle.row_keeper.specs.Tables.{rows_of}
+use Rattle.row_keeper.specs.Tables.{rows_of_tables}
 use Rattle.std.proofs.Common.{◌≡◌, ◌+◌, ap, arith, length, refl}
 use Rattle.recalc.specs.app_semantics.Present.{present}
 use Rattle.session_views.specs.Bounds.{shown_steps}
@@ -18,7 +18,7 @@ loop-control-init g c = record {
   number = refl;
   ticks = at_least c.args.steps.now (shown_steps c.args.app.now.names c.new-shown.result);
   given = λ moment tables today heard. none_given (IsShown (present c.args.app.now c.args.session.now tables moment) (value_of c.args.valued.now)) 0 0 c.args.app.now.names.controls c.new-shown.result refl c.new-shown.ensures;
-  visits = λ moment today t told. none_visited (ShownVisits c.args.app.now c.args.session.now (rows_of t.states) moment (value_of c.args.valued.now)) 0 0 c.args.app.now.names.controls c.new-shown.result (g.K.Keeper.visited c.args.keeper.now) refl c.new-shown.ensures;
+  visits = λ moment today t told. none_visited (ShownVisits c.args.app.now c.args.session.now (rows_of_tables t.states) moment (value_of c.args.valued.now)) 0 0 c.args.app.now.names.controls c.new-shown.result (g.K.Keeper.visited c.args.keeper.now) refl c.new-shown.ensures;
   read = read_none (keeping (g.K.Keeper.told c.args.keeper.now) (g.K.Keeper.began c.args.keeper.now) (g.K.Keeper.shaped c.args.keeper.now) (g.K.Keeper.in_transaction c.args.keeper.now) (g.K.Keeper.marks c.args.keeper.now) (g.K.Keeper.visited c.args.keeper.now) (g.K.Keeper.loan c.args.keeper.now));
 }
 
@@ -45,7 +45,7 @@ loop-control-preserved g c =
           one_given (IsShown (present c.args.app.now c.args.session.now tables moment) (value_of c.args.valued.now)) 0 c.loop-control.number c.loop-control.control-index c.as_slice-controls.result.now c.args.app.now.names.controls c.control-item.result c.in_ok-given.given c.loop-control.shown c.add.new.list
           place c.as_slice-controls.ensures c.loop-control-test.true c.control-item.is (c.in_ok-given.ensures.shows moment tables today heard) c.in_ok-add.ensures (c.loop-control.invariant.given moment tables today (heard_before before after c.in_ok-given.ensures.read tables heard));
       visits = λ moment today t told.
-          one_visited (ShownVisits c.args.app.now c.args.session.now (rows_of t.states) moment (value_of c.args.valued.now)) 0 c.loop-control.number c.loop-control.control-index c.as_slice-controls.result.now c.args.app.now.names.controls c.control-item.result c.in_ok-given.given c.loop-control.shown c.add.new.list (g.K.Keeper.visited c.args.keeper.now) (g.K.Keeper.visited c.loop-control.keeper) (g.K.Keeper.visited c.shown_control.new.keeper)
+          one_visited (ShownVisits c.args.app.now c.args.session.now (rows_of_tables t.states) moment (value_of c.args.valued.now)) 0 c.loop-control.number c.loop-control.control-index c.as_slice-controls.result.now c.args.app.now.names.controls c.control-item.result c.in_ok-given.given c.loop-control.shown c.add.new.list (g.K.Keeper.visited c.args.keeper.now) (g.K.Keeper.visited c.loop-control.keeper) (g.K.Keeper.visited c.shown_control.new.keeper)
           place c.as_slice-controls.ensures c.loop-control-test.true c.control-item.is (c.in_ok-given.ensures.visits moment today t told) c.in_ok-add.ensures (c.loop-control.invariant.visits moment today t (told_back before after c.in_ok-given.ensures.read t told));
       read = read_on first before after c.loop-control.invariant.read c.in_ok-given.ensures.read;
     }
@@ -56,5 +56,5 @@ returns-clause-shows g c = λ moment tables today heard.
 
 pub returns-clause-visits : goal.returns-clause-visits
 returns-clause-visits g c = λ moment today t told.
-    all_visited (ShownVisits c.args.app.now c.args.session.now (rows_of t.states) moment (value_of c.args.valued.now)) 0 c.loop-control.control-index c.as_slice-controls.result.now c.args.app.now.names.controls c.loop-control.shown (g.K.Keeper.visited c.args.keeper.now) (g.K.Keeper.visited c.loop-control.keeper)
+    all_visited (ShownVisits c.args.app.now c.args.session.now (rows_of_tables t.states) moment (value_of c.args.valued.now)) 0 c.loop-control.control-index c.as_slice-controls.result.now c.args.app.now.names.controls c.loop-control.shown (g.K.Keeper.visited c.args.keeper.now) (g.K.Keeper.visited c.loop-control.keeper)
     c.as_slice-controls.ensures c.loop-control-test.false (c.loop-control.invariant.visits moment today t told)

@@ -1,7 +1,7 @@
 use Rattle.session_views.proofs.Visiting.{heard_at, most_as}
 use Rattle.session_views.specs.Visits.{GivenItemsVisit, ShownVisits}
 use Rattle.recalc.specs.Values.{value_of}
-use Rattle.row_keeper.specs.Tables.{rows_of}
+use Rattle.row_keeper.specs.Tables.{rows_of_tables}
 use Rattle.std.proofs.Common.{Some, sym, ◌∙◌, arith, refl}
 use Rattle.session_views.proofs.view.shown_control.Goals as goal
 
@@ -13,7 +13,7 @@ returns-else-is_shown-clause-shows g c = λ moment tables today heard. sym c.is_
 
 pub returns-in_ok-shown-clause-visits : goal.returns-in_ok-shown-clause-visits
 returns-in_ok-shown-clause-visits g c = λ moment today t told.
-    let rows = rows_of t.states in
+    let rows = rows_of_tables t.states in
     let values = value_of c.args.valued.now in
     let shown = c.in_ok-shown.shown in
     most_as (GivenItemsVisit c.args.app.now c.args.session.now rows moment values c.args.number 1 shown.items) (ShownVisits c.args.app.now c.args.session.now rows moment values c.args.number c.args.control.now (Some shown)) (g.K.Keeper.visited c.args.keeper.now) (g.K.Keeper.visited c.shown_with.new.keeper)

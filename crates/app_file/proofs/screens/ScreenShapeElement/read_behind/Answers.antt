@@ -3,7 +3,7 @@ use Rattle.std.proofs.lemmas.Result.{err_from_is_err_and}
 use Rattle.serde_json.specs.Find.{get}
 use Rattle.serde_json.specs.View.{view}
 use Rattle.app_file.specs.declared.keys.Object.TheVariants as object
-use Rattle.app_file.specs.Contents.{all, at, control_shape, words}
+use Rattle.app_file.specs.Contents.{all_elements, member_at, control_shape, words}
 use Rattle.app_file.specs.FormOfApp.{control_form, name, screen_fields, text}
 use Rattle.app_file.specs.Forms.{first, in_turn, later}
 use Rattle.app_file.specs.Keys.{keys_of}
@@ -38,6 +38,6 @@ returns-clause-ok c =
       fine_members (keys_of object.Screen) screen_fields d keys_of_screen c.in_ok-check_keys.ensures.ok
           (c.in_ok-name.ensures.ok.0, (c.in_ok-on_visible.ensures.ok.0, (c.in_ok-controls.ensures.ok.0, tt))),
       ap3 (λ n v cs. record { name = n; on_visible = v; controls = cs }) (name_held (get (codes "name") d) c.in_ok-name.name c.in_ok-name.ensures.ok.1)
-          (c.in_ok-on_visible.ensures.ok.1 ∙ ap (λ e. at words (codes "onVisible") e d) none)
-          (at_held (all control_shape) (codes "controls") d c.in_ok-controls.controls [] c.in_ok-controls.ensures.ok.1),
+          (c.in_ok-on_visible.ensures.ok.1 ∙ ap (λ e. member_at words (codes "onVisible") e d) none)
+          (at_held (all_elements control_shape) (codes "controls") d c.in_ok-controls.controls [] c.in_ok-controls.ensures.ok.1),
     )

@@ -4,7 +4,7 @@ use Rattle.serde_json.specs.Find.{get}
 use Rattle.serde_json.specs.View.{view}
 use Rattle.fx_types.specs.declared.types.Ty.TheVariants as ty
 use Rattle.app_file.specs.declared.keys.Object.TheVariants as object
-use Rattle.app_file.specs.Contents.{column_type}
+use Rattle.app_file.specs.Contents.{column_ty}
 use Rattle.app_file.specs.FormOfApp.{column_fields, column_type_of, flag, leaf, name}
 use Rattle.app_file.specs.Forms.{first, later}
 use Rattle.app_file.specs.Keys.{keys_of}
@@ -48,5 +48,5 @@ returns-clause-ok c =
       fine_members (keys_of object.Column) column_fields d keys_of_column c.in_ok-check_keys.ensures.ok
           (c.in_ok-name.ensures.ok.0, (c.in_ok-ty.ensures.ok.0, (c.in_ok-required.ensures.ok.0, (c.in_ok-unique.ensures.ok.0, (c.in_ok-indexed.ensures.ok.0, tt))))),
       ap5 (λ n t r u i. record { name = n; ty = t; required = r; unique = u; indexed = i }) (name_held (get (codes "name") d) c.in_ok-name.name c.in_ok-name.ensures.ok.1)
-          (at_held column_type (codes "type") d c.in_ok-ty.ty ty.Blank c.in_ok-ty.ensures.ok.1) c.in_ok-required.ensures.ok.1 c.in_ok-unique.ensures.ok.1 c.in_ok-indexed.ensures.ok.1,
+          (at_held column_ty (codes "type") d c.in_ok-ty.ty ty.Blank c.in_ok-ty.ensures.ok.1) c.in_ok-required.ensures.ok.1 c.in_ok-unique.ensures.ok.1 c.in_ok-indexed.ensures.ok.1,
     )

@@ -3,7 +3,7 @@ use Rattle.std.proofs.lemmas.Result.{err_from_is_err_and}
 use Rattle.serde_json.specs.Find.{get}
 use Rattle.serde_json.specs.View.{view}
 use Rattle.app_file.specs.declared.keys.Object.TheVariants as object
-use Rattle.app_file.specs.Contents.{all, column}
+use Rattle.app_file.specs.Contents.{all_elements, column}
 use Rattle.app_file.specs.FormOfApp.{column_fields, each, name, table_fields}
 use Rattle.app_file.specs.Forms.{first, later, members}
 use Rattle.app_file.specs.Keys.{keys_of}
@@ -31,5 +31,5 @@ returns-clause-ok c =
     let d = view c.args.part.now in (
       fine_members (keys_of object.Table) table_fields d keys_of_table c.in_ok-check_keys.ensures.ok (c.in_ok-name.ensures.ok.0, (c.in_ok-columns.ensures.ok.0, tt)),
       ap2 (λ n cs. record { name = n; columns = cs }) (name_held (get (codes "name") d) c.in_ok-name.name c.in_ok-name.ensures.ok.1)
-          (at_held (all column) (codes "columns") d c.in_ok-columns.columns [] c.in_ok-columns.ensures.ok.1),
+          (at_held (all_elements column) (codes "columns") d c.in_ok-columns.columns [] c.in_ok-columns.ensures.ok.1),
     )

@@ -3,7 +3,7 @@ use denote.Enum.Bare.{differs_true}
 use Rattle.std.specs.Str.{IsUtf8}
 use Rattle.std.proofs.lemmas.Result.{err_from_is_err_and}
 use Rattle.app_wire.specs.Routing.{HasPath, Routing, method_of}
-use Rattle.app_wire.specs.RouteTable.{place_of}
+use Rattle.app_wire.specs.RouteTable.{route_index}
 use Rattle.app_wire.specs.declared.route.RouteEnd.TheVariants.{WrongMethod}
 use Rattle.app_wire.specs.contracts.head.Method.{the_type}
 use Rattle.app_wire.proofs.RoutePlaces.{ends_known, ends_wrong, path_placed, route_text}
@@ -15,7 +15,7 @@ returns-in_default c = λ r h. c.in_default.ensures.cases.0 (subst IsUtf8 (sym c
 pub returns-in_default-place_of : goal.returns-in_default-place_of
 returns-in_default-place_of c =
     let here : c.in-Ok.path.now ≡ c.args.request.now.path.items = c.in-Ok.ensures.cases.0 ∙ c.deref.ensures.value in
-    λ r h. c.in_default-place_of.ensures (place_of r) (path_placed c.in-Ok.path.now r (subst (λ p. HasPath p r) (sym here) h))
+    λ r h. c.in_default-place_of.ensures (route_index r) (path_placed c.in-Ok.path.now r (subst (λ p. HasPath p r) (sym here) h))
 
 pub returns-in_err-route : goal.returns-in_err-route
 returns-in_err-route c =

@@ -3,7 +3,7 @@ use Rattle.fx_base.proofs.Silences.{later_then}
 use Rattle.app_wire.specs.Framing.{asked}
 use Rattle.app_wire.specs.ReplyBytes.{refusal}
 use Rattle.office.specs.Answers.{Exchange, most_requests}
-use Rattle.office.specs.Step.{Answered}
+use Rattle.office.specs.Step.{AnswersRequest}
 use Rattle.office.specs.declared.converse.ConvEnd.TheVariants.{Ended, Faulted}
 use Rattle.office.proofs.Plays.{breaks_off, breaks_reading, count_answered, count_one, count_saying, ends_one, ends_quiet, ends_saying, fills, goes_first, goes_on, goes_on_before, is_number, length_more, plays_more, three, ticks_more, two}
 use Rattle.office.proofs.machine.Office.converse.Goals as goal
@@ -25,7 +25,7 @@ pub loop-answered-preserved : goal.loop-answered-preserved
 loop-answered-preserved g c =
     let inv = c.loop-answered.invariant.told in
     let x : Exchange = record { asked = asked c.in-Whole.request; moment = c.now-moment.result; said = c.whole.result.now; marks = c.answer-reply.new.self.marks; state = c.answer-reply.new.self.state } in
-    let answered = subst (λ t. Answered c.loop-answered.self.state c.loop-answered.self.marks x.moment x.asked t x.marks x.state) (sym c.whole.ensures) c.answer-reply.ensures.answered in
+    let answered = subst (λ t. AnswersRequest c.loop-answered.self.state c.loop-answered.self.marks x.moment x.asked t x.marks x.state) (sym c.whole.ensures) c.answer-reply.ensures.answered in
     let same = c.in-Ok.ensures.single ∙ c.in-Whole.ensures.single ∙ c.loop-answered.invariant.single in
     record {
       told = (
@@ -46,7 +46,7 @@ pub returns-in-Err-clause-talked : goal.returns-in-Err-clause-talked
 returns-in-Err-clause-talked g c =
     let inv = c.loop-answered.invariant.told in
     let x : Exchange = record { asked = asked c.in-Whole.request; moment = c.now-moment.result; said = c.whole.result.now; marks = c.answer-reply.new.self.marks; state = c.answer-reply.new.self.state } in
-    let answered = subst (λ t. Answered c.loop-answered.self.state c.loop-answered.self.marks x.moment x.asked t x.marks x.state) (sym c.whole.ensures) c.answer-reply.ensures.answered in (
+    let answered = subst (λ t. AnswersRequest c.loop-answered.self.state c.loop-answered.self.marks x.moment x.asked t x.marks x.state) (sym c.whole.ensures) c.answer-reply.ensures.answered in (
       inv.0 ++ x ∷ [],
       ticks_more _ inv.0 _ _ x inv.1 c.now-moment.ensures,
       plays_more c.args.self.now.state c.args.self.now.marks inv.0 c.loop-answered.self.state c.loop-answered.self.marks inv.2 x c.answer-reply.ensures.later answered,
@@ -58,7 +58,7 @@ pub returns-then-one-clause-talked : goal.returns-then-one-clause-talked
 returns-then-one-clause-talked g c =
     let inv = c.loop-answered.invariant.told in
     let x : Exchange = record { asked = asked c.in-Whole.request; moment = c.now-moment.result; said = c.whole.result.now; marks = c.answer-reply.new.self.marks; state = c.answer-reply.new.self.state } in
-    let answered = subst (λ t. Answered c.loop-answered.self.state c.loop-answered.self.marks x.moment x.asked t x.marks x.state) (sym c.whole.ensures) c.answer-reply.ensures.answered in
+    let answered = subst (λ t. AnswersRequest c.loop-answered.self.state c.loop-answered.self.marks x.moment x.asked t x.marks x.state) (sym c.whole.ensures) c.answer-reply.ensures.answered in
     let single = sym (c.in-Ok.ensures.single ∙ c.in-Whole.ensures.single ∙ c.loop-answered.invariant.single) ∙ sym c.one.ensures ∙ c.if-one.true in (
       inv.0 ++ x ∷ [],
       ticks_more _ inv.0 _ _ x inv.1 c.now-moment.ensures,

@@ -1,6 +1,6 @@
 use Rattle.std.proofs.Common.{[], ℕ, List, ap, refl, subst, sym, ◌∙◌}
 use Rattle.std.proofs.lemmas.Result.{IfOk-weaker, on_err_weaker}
-use Rattle.fx_base.specs.Silence.{IsLost}
+use Rattle.fx_base.specs.Silence.{SilenceCause}
 use Rattle.fx_core.specs.declared.schema.Schema.{Schema}
 use Rattle.numbered_requests.specs.Replies.{said}
 use Rattle.numbered_requests.specs.declared.directory.Named.{Named}
@@ -19,14 +19,14 @@ use Rattle.office.proofs.Edits.{ready_edited}
 use Rattle.office.proofs.Sent.{kept_order, kept_still}
 use Rattle.office.specs.Caches.{AreKept}
 use Rattle.office.specs.Costs.{CostOfItems, CostOfNamed, CostOfView, CostsTo, counts}
-use Rattle.office.specs.State.{Seen}
+use Rattle.office.specs.State.{OfficeView}
 use Rattle.office.proofs.StepLemmas.{does_event, does_input, left_read, reaches_event, reaches_input, reaches_items, reaches_named, reaches_page, reaches_view, still_ready, stopped}
 use Rattle.office.proofs.machine.Office.take.Goals as goal
 
 pub returns-in-Page-clause-reached : goal.returns-in-Page-clause-reached
 returns-in-Page-clause-reached g c failed =
     reaches_page c.args.self.now.state c.self.inside.app c.args.request.now.body.items c.args.route.now c.in-Page.table c.in-Page.after c.schema_of.result.now
-    c.in-Page.is c.schema_of.ensures (sym (ap (λ (s : Seen). s.state.app) c.self.view_is)) (c.show_page.ensures.reached failed)
+    c.in-Page.is c.schema_of.ensures (sym (ap (λ (s : OfficeView). s.state.app) c.self.view_is)) (c.show_page.ensures.reached failed)
 
 pub invariant_of-self-in-End : goal.invariant_of-self-in-End
 invariant_of-self-in-End g c = record {
@@ -45,27 +45,27 @@ invariant_of-self-in-End g c = record {
 pub returns-in-View-clause-reached : goal.returns-in-View-clause-reached
 returns-in-View-clause-reached g c failed =
     reaches_view c.args.self.now.state c.deref.result.now c.args.request.now.body.items c.args.route.now c.in-View.name c.in-View.is
-    (sym (ap (λ (s : Seen). s.state.sessions) c.self.view_is) ∙ sym c.deref.ensures.value) (c.show_view_to.ensures.reached failed)
+    (sym (ap (λ (s : OfficeView). s.state.sessions) c.self.view_is) ∙ sym c.deref.ensures.value) (c.show_view_to.ensures.reached failed)
 
 pub returns-in-Named-clause-reached : goal.returns-in-Named-clause-reached
 returns-in-Named-clause-reached g c failed =
     reaches_named c.args.self.now.state c.deref-in-Named.result.now c.args.request.now.body.items c.args.route.now c.in-Named.name c.in-Named.is
-    (sym (ap (λ (s : Seen). s.state.sessions) c.self.view_is) ∙ sym c.deref-in-Named.ensures.value) (c.show_named.ensures.reached failed)
+    (sym (ap (λ (s : OfficeView). s.state.sessions) c.self.view_is) ∙ sym c.deref-in-Named.ensures.value) (c.show_named.ensures.reached failed)
 
 pub returns-in-Items-clause-reached : goal.returns-in-Items-clause-reached
 returns-in-Items-clause-reached g c failed =
     reaches_items c.args.self.now.state c.self.inside.app c.deref-in-Items.result.now c.args.request.now.body.items c.args.route.now c.in-Items.name c.in-Items.gallery c.in-Items.from c.in-Items.is
-    (sym (ap (λ (s : Seen). s.state.app) c.self.view_is)) (sym (ap (λ (s : Seen). s.state.sessions) c.self.view_is) ∙ sym c.deref-in-Items.ensures.value) (c.show_items_to.ensures.reached failed)
+    (sym (ap (λ (s : OfficeView). s.state.app) c.self.view_is)) (sym (ap (λ (s : OfficeView). s.state.sessions) c.self.view_is) ∙ sym c.deref-in-Items.ensures.value) (c.show_items_to.ensures.reached failed)
 
 pub returns-in-Event-clause-reached : goal.returns-in-Event-clause-reached
 returns-in-Event-clause-reached g c failed =
     reaches_event c.args.self.now.state c.self.inside.sessions.items c.args.request.now.body.items c.deref-in-Event.result.now c.args.route.now c.in-Event.name c.in-Event.is
-    (sym (ap (λ (s : Seen). s.state.sessions) c.self.view_is)) c.deref-in-Event.ensures.value (c.post_event.ensures.reached failed)
+    (sym (ap (λ (s : OfficeView). s.state.sessions) c.self.view_is)) c.deref-in-Event.ensures.value (c.post_event.ensures.reached failed)
 
 pub returns-in-Input-clause-reached : goal.returns-in-Input-clause-reached
 returns-in-Input-clause-reached g c failed =
     reaches_input c.args.self.now.state c.self.inside.sessions.items c.args.request.now.body.items c.deref-in-Input.result.now c.args.route.now c.in-Input.name c.in-Input.is
-    (sym (ap (λ (s : Seen). s.state.sessions) c.self.view_is)) c.deref-in-Input.ensures.value (c.post_input.ensures.reached failed)
+    (sym (ap (λ (s : OfficeView). s.state.sessions) c.self.view_is)) c.deref-in-Input.ensures.value (c.post_input.ensures.reached failed)
 
 pub returns-in-View-clause-stopped : goal.returns-in-View-clause-stopped
 returns-in-View-clause-stopped g c =
@@ -119,7 +119,7 @@ invariant_of-self-in-Page g c =
       opens = ready.opens;
       fit = ready.fit;
       replies = ready.replies;
-      cached = kept_still c.self.inside.app c.self.inside.moment (IsLost (g.K.Keeper.marks c.self.inside.keeper) (g.K.Keeper.marks keeper)) (g.K.Keeper.told c.self.inside.keeper) (g.K.Keeper.told keeper)
+      cached = kept_still c.self.inside.app c.self.inside.moment (SilenceCause (g.K.Keeper.marks c.self.inside.keeper) (g.K.Keeper.marks keeper)) (g.K.Keeper.told c.self.inside.keeper) (g.K.Keeper.told keeper)
           c.self.inside.sessions.items c.self.inside.caches.items c.show_page.ensures.still ready.cached;
     }
 

@@ -1,11 +1,11 @@
 use Rattle.std.proofs.Common.{[], List, subst, sym}
 use Rattle.fx_core.specs.declared.sources.Source.TheVariants.{Today}
-use Rattle.recalc.specs.Changes.{IsLeftBut}
-use Rattle.recalc.specs.Kept.{Kept}
+use Rattle.recalc.specs.Changes.{StaysCleanExcept}
+use Rattle.recalc.specs.Kept.{CacheState}
 use Rattle.numbered_requests.specs.declared.directory.Named.{Named}
-use Rattle.office.specs.Caches.{AreEach}
-use Rattle.office.specs.Leaving.{AreEachLeft, turned}
-use Rattle.office.specs.State.{Seen}
+use Rattle.office.specs.Caches.{EachCacheBecame}
+use Rattle.office.specs.Leaving.{AreEachLeft, day_turned}
+use Rattle.office.specs.State.{OfficeView}
 use Rattle.office.proofs.Leaving.{each_same, each_turned, left_none}
 use Rattle.office.proofs.Sent.{kept_order}
 use Rattle.office.proofs.StepLemmas.{ready_then}
@@ -36,9 +36,9 @@ pub returns-in_err-turn_all-clause-clean : goal.returns-in_err-turn_all-clause-c
 returns-in_err-turn_all-clause-clean g c =
     let app = c.self.inside.app in
     let caches = c.self.inside.caches.items in
-    subst (λ (s : Seen). AreEachLeft s.state.app (turned s.moment c.args.moment) s.caches c.turn_all.new.caches.items) c.self.view_is
-    (left_none app (turned c.self.inside.moment c.args.moment) caches c.turn_all.new.caches.items
-    (subst (λ (l : List (Named Kept)). AreEach (λ k. IsLeftBut app []) caches l) (sym c.in_err-turn_all.ensures.stopped) (each_same app [] caches)))
+    subst (λ (s : OfficeView). AreEachLeft s.state.app (day_turned s.moment c.args.moment) s.caches c.turn_all.new.caches.items) c.self.view_is
+    (left_none app (day_turned c.self.inside.moment c.args.moment) caches c.turn_all.new.caches.items
+    (subst (λ (l : List (Named CacheState)). EachCacheBecame (λ k. StaysCleanExcept app []) caches l) (sym c.in_err-turn_all.ensures.stopped) (each_same app [] caches)))
 
 pub returns-clause-clean : goal.returns-clause-clean
 returns-clause-clean g c =
@@ -46,9 +46,9 @@ returns-clause-clean g c =
     let caches = c.self.inside.caches.items in
     elim c.if-moment-self.branch [
       | then-moment-self+in_ok-turn_all w ↦
-          rw w.self-inside-is (subst (λ (s : Seen). AreEachLeft s.state.app (turned s.moment c.args.moment) s.caches w.turn_all.new.caches.items) c.self.view_is
+          rw w.self-inside-is (subst (λ (s : OfficeView). AreEachLeft s.state.app (day_turned s.moment c.args.moment) s.caches w.turn_all.new.caches.items) c.self.view_is
           (each_turned app c.self.inside.moment c.args.moment caches w.turn_all.new.caches.items w.if-moment-self.true w.in_ok-turn_all.ensures.turned))
       | else-moment-self w ↦
-          rw w.self-inside-is (subst (λ (s : Seen). AreEachLeft s.state.app (turned s.moment c.args.moment) s.caches caches) c.self.view_is
-          (left_none app (turned c.self.inside.moment c.args.moment) caches caches (each_same app [] caches)))
+          rw w.self-inside-is (subst (λ (s : OfficeView). AreEachLeft s.state.app (day_turned s.moment c.args.moment) s.caches caches) c.self.view_is
+          (left_none app (day_turned c.self.inside.moment c.args.moment) caches caches (each_same app [] caches)))
     ]

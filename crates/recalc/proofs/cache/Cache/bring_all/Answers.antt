@@ -5,11 +5,11 @@ use Rattle.recalc.specs.Asking.{Keeping, keeping}
 use Rattle.recalc.specs.app_cells.declared.app.App.{App}
 use Rattle.recalc.proofs.Marking.{at}
 use Rattle.recalc.proofs.CellVisits.{Visited, all_visits, told_back, visited_more}
-use Rattle.row_keeper.specs.Tables.{rows_of}
+use Rattle.row_keeper.specs.Tables.{rows_of_tables}
 use Rattle.recalc.proofs.Turns.{ticks_more, ticks_start}
 use Rattle.recalc.proofs.Turns.{all_made, all_ticks, brought_more, brought_start, has_next, may_rise, parts_clean, steps_rise}
-use Rattle.recalc.specs.Kept.{Kept}
-use Rattle.recalc.specs.Steps.{Leaves}
+use Rattle.recalc.specs.Kept.{CacheState}
+use Rattle.recalc.specs.Steps.{KeepsClean}
 use Rattle.recalc.proofs.cache.Cache.bring_all.Goals as goal
 
 -- a lent order
@@ -36,7 +36,7 @@ pub bring-requires-clause-leans : goal.bring-requires-clause-leans
 bring-requires-clause-leans g c =
     let xs : List ℕ = c.as_slice-order.result.now in
     let i : ℕ = c.loop-number.number-index in
-    let now : Kept = c.loop-number.self in
+    let now : CacheState = c.loop-number.self in
     parts_clean c.args.app.now c.args.roots.now c.args.marks.now c.args.self.now i (get_or xs i 0) now now c.args.steps.now c.loop-number.steps c.loop-number.steps c.requires.sound
     (lent c.args.app.now xs i c.as_slice-order.ensures c.loop-number-test.true) (item c.args.app.now xs i c.as_slice-order.ensures) c.requires.marks c.loop-number.invariant.brought
 
@@ -48,7 +48,7 @@ loop-number-init g c = record {
   read = read_none (keeping (g.K.Keeper.told c.args.keeper.now) (g.K.Keeper.began c.args.keeper.now) (g.K.Keeper.shaped c.args.keeper.now) (g.K.Keeper.in_transaction c.args.keeper.now) (g.K.Keeper.marks c.args.keeper.now) (g.K.Keeper.visited c.args.keeper.now) (g.K.Keeper.loan c.args.keeper.now));
   alone = λ none. refl;
   idle = λ same. refl;
-  visits = λ right t told. ticks_start (Visited c.args.app.now c.args.session.now (rows_of t.states) c.args.moment (g.K.Keeper.visited c.args.keeper.now) (g.K.Keeper.visited c.args.keeper.now)) c.args.app.now c.args.roots.now c.args.self.now c.args.steps.now
+  visits = λ right t told. ticks_start (Visited c.args.app.now c.args.session.now (rows_of_tables t.states) c.args.moment (g.K.Keeper.visited c.args.keeper.now) (g.K.Keeper.visited c.args.keeper.now)) c.args.app.now c.args.roots.now c.args.self.now c.args.steps.now
       (0, refl, omega arith);
 }
 
@@ -71,7 +71,7 @@ loop-number-preserved g c =
           let more = may_rise c.args.app.now c.args.marks.now (get_or xs i 0) c.loop-number.self c.bring.new.self c.loop-number.steps c.bring.new.steps c.in_ok-bring.ensures.ticks in
           c.in_ok-bring.ensures.idle (omega (arith, same, risen, more)) ∙ c.loop-number.invariant.idle (omega (arith, same, risen, more));
       visits = λ right t told.
-          let rows = rows_of t.states in
+          let rows = rows_of_tables t.states in
           let there = told_back before after c.in_ok-bring.ensures.read t told in
           let step = visited_more c.args.app.now c.args.session.now rows c.args.moment (get_or xs i 0) c.loop-number.steps c.bring.new.steps (g.K.Keeper.visited c.args.keeper.now) (g.K.Keeper.visited c.loop-number.keeper) (g.K.Keeper.visited c.bring.new.keeper)
           (c.in_ok-bring.ensures.visits (c.loop-number.invariant.right right) t told) in
@@ -83,7 +83,7 @@ loop-number-preserved g c =
     }
 
 pub returns-in_err-bring-clause-left : goal.returns-in_err-bring-clause-left
-returns-in_err-bring-clause-left g c = subst (λ (x : Kept). Leaves c.args.app.now c.args.self.now x) (sym c.in_err-bring.ensures.stopped) c.loop-number.invariant.brought.left
+returns-in_err-bring-clause-left g c = subst (λ (x : CacheState). KeepsClean c.args.app.now c.args.self.now x) (sym c.in_err-bring.ensures.stopped) c.loop-number.invariant.brought.left
 
 pub returns-clause-made : goal.returns-clause-made
 returns-clause-made g c =
@@ -101,5 +101,5 @@ returns-in_err-bring-clause-right g c = λ h. c.in_err-bring.ensures.right (c.lo
 
 pub returns-clause-visits : goal.returns-clause-visits
 returns-clause-visits g c = λ right t told.
-    all_visits c.args.app.now c.args.session.now (rows_of t.states) c.args.moment c.args.roots.now c.args.self.now c.loop-number.self c.loop-number.number-index c.args.steps.now c.loop-number.steps (g.K.Keeper.visited c.args.keeper.now) (g.K.Keeper.visited c.loop-number.keeper)
+    all_visits c.args.app.now c.args.session.now (rows_of_tables t.states) c.args.moment c.args.roots.now c.args.self.now c.loop-number.self c.loop-number.number-index c.args.steps.now c.loop-number.steps (g.K.Keeper.visited c.args.keeper.now) (g.K.Keeper.visited c.loop-number.keeper)
     (c.loop-number.invariant.visits right t told)

@@ -2,7 +2,7 @@ use Rattle.std.proofs.Common.{◌≡◌, ◌<◌, ◌∙◌, ℕ, List, ap, arit
 use Rattle.recalc.proofs.Filling.{carried_is, filling_end, filling_start}
 use Rattle.recalc.proofs.Marking.{contains_at}
 use Rattle.recalc.specs.Filling.{IsFilling}
-use Rattle.recalc.specs.Kept.{Kept, stamp_of}
+use Rattle.recalc.specs.Kept.{CacheState, stamp_of}
 use Rattle.recalc.specs.Outcomes.{IsRestarted}
 use Rattle.recalc.proofs.cache.Cache.carry.Goals as goal
 
@@ -13,7 +13,7 @@ pub restart-from-requires-clause-values : goal.restart-from-requires-clause-valu
 restart-from-requires-clause-values c = let room = c.requires.room.values in let long = c.len.ensures in omega (arith, room, long)
 
 pub loop-number-init : goal.loop-number-init
-loop-number-init c = subst (λ (w : Kept). IsFilling c.args.old.now c.args.new.now c.args.self.now w 0 c.restart-from.new.self) (sym c.restart-from.ensures.out)
+loop-number-init c = subst (λ (w : CacheState). IsFilling c.args.old.now c.args.new.now c.args.self.now w 0 c.restart-from.new.self) (sym c.restart-from.ensures.out)
     (filling_start c.args.old.now c.args.new.now c.args.self.now c.restart-from.new.self c.requires.was_in_order c.requires.room
     (subst (λ n. IsRestarted n c.args.self.now c.restart-from.new.self) c.len.ensures c.restart-from.ensures.new))
 

@@ -1,8 +1,8 @@
 use Rattle.std.proofs.Common.{◌≡◌, ◌∙◌, ℕ, List, Option, None, ap, arith, get_or, length, refl, subst}
 use Rattle.std.proofs.lemmas.List.{with_items_is}
 use Rattle.std.specs.Vec.{with_items}
-use Rattle.recalc.specs.Kept.{Kept}
-use Rattle.recalc.specs.Outcomes.{IsCounted, IsEmptied}
+use Rattle.recalc.specs.Kept.{CacheState}
+use Rattle.recalc.specs.Outcomes.{IsOneMore, IsEmptied}
 use Rattle.recalc.specs.declared.stamps.Stamp.{Stamp}
 use Rattle.recalc.proofs.cache.Cache.empty.Goals as goal
 
@@ -13,9 +13,9 @@ returns c =
     let long : length c.drop_versions.new.versions ≡ c.self.inside.versions.len = omega (arith, c.drop_versions.ensures.long, c.deref_mut-2.ensures.len) in
     let versions : (with_items c.self.inside.versions c.drop_versions.new.versions).items ≡ c.drop_versions.new.versions = with_items_is c.self.inside.versions c.drop_versions.new.versions long in
     let sum = c.saturating_add-self-inside.ensures in
-    let counted : IsCounted c.self.inside.emptied c.saturating_add-self-inside.result = record { more = λ end. omega (arith, sum, end); never_less = omega (arith, sum) } in
-    let new : Kept = record { emptied = c.saturating_add-self-inside.result; last = 0; versions = (with_items c.self.inside.versions c.drop_versions.new.versions).items; stamps = (with_items c.self.inside.stamps c.drop_stamps.new.stamps).items; values = c.self.inside.valued; room = record { versions = length c.self.inside.spare_versions.items; stamps = length c.self.inside.spare_stamps.items; values = length c.self.inside.spare_values.items } } in
-    subst (λ (w : Kept). IsEmptied w new) c.self.view_is (record {
+    let counted : IsOneMore c.self.inside.emptied c.saturating_add-self-inside.result = record { more = λ end. omega (arith, sum, end); never_less = omega (arith, sum) } in
+    let new : CacheState = record { emptied = c.saturating_add-self-inside.result; last = 0; versions = (with_items c.self.inside.versions c.drop_versions.new.versions).items; stamps = (with_items c.self.inside.stamps c.drop_stamps.new.stamps).items; values = c.self.inside.valued; room = record { versions = length c.self.inside.spare_versions.items; stamps = length c.self.inside.spare_stamps.items; values = length c.self.inside.spare_values.items } } in
+    subst (λ (w : CacheState). IsEmptied w new) c.self.view_is (record {
       emptied = counted;
       last = refl;
       versions = λ p. ap (λ (xs : List ℕ). get_or xs p 0) versions ∙ c.drop_versions.ensures.zero p;

@@ -5,13 +5,13 @@ use Rattle.recalc.specs.Asking.{IsHeardOf, ToldRows}
 use Rattle.fx_scalar.specs.ScalarFunctions.{IsToday}
 use Rattle.recalc.proofs.CellVisits.{no_visits}
 use Rattle.recalc.specs.Visits.{VisitsPerCell, WhereTold}
-use Rattle.row_keeper.specs.Tables.{rows_of}
+use Rattle.row_keeper.specs.Tables.{rows_of_tables}
 use Rattle.recalc.proofs.Freshening.{clean_fresh}
 use Rattle.recalc.proofs.Leaving.{brought_left, left_same, left_then, made_left}
 use Rattle.recalc.proofs.Turns.{leaves_start, no_ticks}
-use Rattle.recalc.specs.Kept.{Kept}
+use Rattle.recalc.specs.Kept.{CacheState}
 use Rattle.recalc.specs.Outcomes.{HasNumbers}
-use Rattle.recalc.specs.Steps.{Leaves, OncePerCell}
+use Rattle.recalc.specs.Steps.{KeepsClean, OncePerCell}
 use Rattle.recalc.proofs.cache.Cache.refresh.Goals as goal
 
 pub returns-then-all_stand-clause-fresh : goal.returns-then-all_stand-clause-fresh
@@ -41,7 +41,7 @@ returns-in_err-marks-clause-day g c = (c.make_numbers.ensures.numbers c.args.app
 
 pub returns-in_err-marks-clause-left : goal.returns-in_err-marks-clause-left
 returns-in_err-marks-clause-left g c = λ room.
-    subst (λ (x : Kept). Leaves c.args.app.now c.args.self.now x) (sym ((c.make_numbers.ensures.numbers c.args.app.now).same room)) (leaves_start c.args.app.now c.args.self.now)
+    subst (λ (x : CacheState). KeepsClean c.args.app.now c.args.self.now x) (sym ((c.make_numbers.ensures.numbers c.args.app.now).same room)) (leaves_start c.args.app.now c.args.self.now)
 
 pub returns-in_err-marks-clause-but : goal.returns-in_err-marks-clause-but
 returns-in_err-marks-clause-but g c = made_left c.args.app.now c.args.self.now c.make_numbers.new.self (c.make_numbers.ensures.numbers c.args.app.now)
@@ -67,15 +67,15 @@ returns-clause-fresh g c = λ right.
     on_ok_weaker c.bring_all.result (λ made tables k heard root. clean_fresh c.args.app.now c.args.session.now tables c.args.moment c.bring_all.new.self k (after tables heard) (made k root)) c.bring_all.ensures.made
 
 pub returns-clause-left : goal.returns-clause-left
-returns-clause-left g c = λ room. subst (λ (x : Kept). Leaves c.args.app.now x c.bring_all.new.self) ((c.make_numbers.ensures.numbers c.args.app.now).same room) c.bring_all.ensures.left
+returns-clause-left g c = λ room. subst (λ (x : CacheState). KeepsClean c.args.app.now x c.bring_all.new.self) ((c.make_numbers.ensures.numbers c.args.app.now).same room) c.bring_all.ensures.left
 
 pub returns-clause-ticks : goal.returns-clause-ticks
 returns-clause-ticks g c = λ room.
-    subst (λ (x : Kept). OnOk c.bring_all.result (OncePerCell c.args.app.now c.args.roots.now x c.bring_all.new.self c.args.steps.now c.bring_all.new.steps)) ((c.make_numbers.ensures.numbers c.args.app.now).same room) c.bring_all.ensures.ticks
+    subst (λ (x : CacheState). OnOk c.bring_all.result (OncePerCell c.args.app.now c.args.roots.now x c.bring_all.new.self c.args.steps.now c.bring_all.new.steps)) ((c.make_numbers.ensures.numbers c.args.app.now).same room) c.bring_all.ensures.ticks
 
 pub returns-clause-slow : goal.returns-clause-slow
 returns-clause-slow g c = λ room.
-    subst (λ (x : Kept). OnOk c.bring_all.result (c.bring_all.new.self.last + c.args.steps.now ≤ x.last + c.bring_all.new.steps)) ((c.make_numbers.ensures.numbers c.args.app.now).same room) c.bring_all.ensures.slow
+    subst (λ (x : CacheState). OnOk c.bring_all.result (c.bring_all.new.self.last + c.args.steps.now ≤ x.last + c.bring_all.new.steps)) ((c.make_numbers.ensures.numbers c.args.app.now).same room) c.bring_all.ensures.slow
 
 pub returns-clause-but : goal.returns-clause-but
 returns-clause-but g c =
@@ -84,11 +84,11 @@ returns-clause-but g c =
 
 pub returns-then-all_stand-clause-visits : goal.returns-then-all_stand-clause-visits
 returns-then-all_stand-clause-visits g c = λ right room t told.
-    no_visits c.args.app.now c.args.session.now (rows_of t.states) c.args.moment c.args.roots.now c.args.self.now c.args.steps.now (g.K.Keeper.visited c.args.keeper.now)
+    no_visits c.args.app.now c.args.session.now (rows_of_tables t.states) c.args.moment c.args.roots.now c.args.self.now c.args.steps.now (g.K.Keeper.visited c.args.keeper.now)
 
 pub returns-clause-visits : goal.returns-clause-visits
 returns-clause-visits g c = λ right room.
     let same = (c.make_numbers.ensures.numbers c.args.app.now).same room in
-    subst (λ (x : Kept). OnOk c.bring_all.result (WhereTold (g.K.Keeper.told c.bring_all.new.keeper) (λ rows.
+    subst (λ (x : CacheState). OnOk c.bring_all.result (WhereTold (g.K.Keeper.told c.bring_all.new.keeper) (λ rows.
     VisitsPerCell c.args.app.now c.args.session.now rows c.args.moment c.args.roots.now x c.bring_all.new.self c.args.steps.now c.bring_all.new.steps (g.K.Keeper.visited c.args.keeper.now) (g.K.Keeper.visited c.bring_all.new.keeper)))) same
     (c.bring_all.ensures.visits (λ tables heard. (c.make_numbers.ensures.numbers c.args.app.now).right c.args.session.now tables c.args.moment [] (right tables heard)))

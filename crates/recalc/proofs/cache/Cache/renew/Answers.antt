@@ -3,7 +3,7 @@ use Rattle.std.proofs.lemmas.Option.{slice_get_within}
 use Rattle.std.proofs.lemmas.Result.{on_ok_weaker}
 use Rattle.recalc.proofs.CellVisits.{ok_two}
 use Rattle.recalc.proofs.Setting.{confirmed_brought, confirmed_order, confirmed_right}
-use Rattle.recalc.specs.Kept.{IsInOrder, Kept}
+use Rattle.recalc.specs.Kept.{IsInOrder, CacheState}
 use Rattle.recalc.specs.Outcomes.{IsRightOver}
 use Rattle.recalc.specs.Steps.{IsBrought, confirmed}
 use Rattle.recalc.proofs.cache.Cache.renew.Goals as goal
@@ -24,7 +24,7 @@ returns-in-Some-clause-order g c =
 pub returns-in-Some-clause-right : goal.returns-in-Some-clause-right
 returns-in-Some-clause-right g c = λ right.
     let kept = c.in-Some.ensures.some in
-    subst (λ (x : Kept). IsRightOver c.args.app.now c.args.session.now (g.K.Keeper.told c.args.keeper.now) c.args.moment x) (sym c.confirm.ensures)
+    subst (λ (x : CacheState). IsRightOver c.args.app.now c.args.session.now (g.K.Keeper.told c.args.keeper.now) c.args.moment x) (sym c.confirm.ensures)
     (subst (λ (n : ℕ). IsRightOver c.args.app.now c.args.session.now (g.K.Keeper.told c.args.keeper.now) c.args.moment (confirmed c.args.self.now c.args.cell n)) (sym kept.2)
     (confirmed_right c.args.app.now c.args.self.now c.args.cell c.args.info.now c.requires.sound c.requires.there c.requires.self_alone c.requires.unclean c.requires.leans c.requires.order kept.0 kept.1 kept.3
     c.args.session.now (g.K.Keeper.told c.args.keeper.now) c.args.moment right))
@@ -37,7 +37,7 @@ returns-in-Some-clause-brought g c =
     (confirmed_brought c.args.app.now c.args.self.now c.args.cell c.args.info.now c.requires.sound c.requires.there c.requires.self_alone c.requires.unclean c.requires.leans c.requires.order kept.0 kept.1 kept.3))
 
 pub returns-in-Some-clause-ticks : goal.returns-in-Some-clause-ticks
-returns-in-Some-clause-ticks g c = inr (refl, ap (λ (x : Kept). x.last) c.confirm.ensures)
+returns-in-Some-clause-ticks g c = inr (refl, ap (λ (x : CacheState). x.last) c.confirm.ensures)
 
 pub returns-in-None-clause-ticks : goal.returns-in-None-clause-ticks
 returns-in-None-clause-ticks g c = on_ok_weaker c.evaluate.result (λ s. inl (s.0, s.1, c.in-None.ensures.none refl)) c.evaluate.ensures.stepped

@@ -9,10 +9,10 @@ use Rattle.fx_types.specs.Values.{Data}
 use Rattle.fx_value.specs.Fits.{fits_in}
 use Rattle.fx_scalar.specs.ScalarFunctions.{IsToday}
 use Rattle.recalc.specs.Reading.{cell_value}
-use Rattle.recalc.specs.Values.{Values}
+use Rattle.recalc.specs.Values.{CellValues}
 use Rattle.fx_eval.specs.Visits.{AtMost}
 use Rattle.recalc.specs.Visits.{FormulaVisits}
-use Rattle.row_keeper.specs.Tables.{rows_of}
+use Rattle.row_keeper.specs.Tables.{rows_of_tables}
 use Rattle.recalc.proofs.Asked.{asks_for}
 use Rattle.recalc.proofs.Kept.{own_value}
 use Rattle.recalc.proofs.valued.Valued.by_itself.Goals as goal
@@ -37,7 +37,7 @@ returns-clause-value g c =
     let info : CellInfo = c.args.info.now in
     IfOk-weaker c.formula_value.result _ _ (λ v h moment tables today heard.
     let p : Present = present c.args.app.now c.args.session.now tables moment in
-    let began : IsToday moment (view c.self.inside.day) = subst (λ (w : Values). IsToday moment w.day) (sym c.self.view_is) today in
+    let began : IsToday moment (view c.self.inside.day) = subst (λ (w : CellValues). IsToday moment w.day) (sym c.self.view_is) today in
     own_value p (cell_value c.args.self.now.cells) info (view v) c.requires.alone
     (subst (λ (ds : List Data). IsValueOf p (cell_value ds) None info (view v)) same (h moment tables began heard)))
     c.formula_value.ensures.value
@@ -47,6 +47,6 @@ returns-clause-visits g c =
     let same : map view c.as_slice-values.result.now ≡ c.args.self.now.cells = search rules in
     let info : CellInfo = c.args.info.now in
     IfOk-weaker c.formula_value.result _ _ (λ v h moment today t told.
-    let began : IsToday moment (view c.self.inside.day) = subst (λ (w : Values). IsToday moment w.day) (sym c.self.view_is) today in
-    subst (λ (ds : List Data). AtMost (FormulaVisits c.args.app.now c.args.session.now (rows_of t.states) moment (cell_value ds) None info) (g.K.Keeper.visited c.args.keeper.now) (g.K.Keeper.visited c.formula_value.new.keeper)) same (h moment began t told))
+    let began : IsToday moment (view c.self.inside.day) = subst (λ (w : CellValues). IsToday moment w.day) (sym c.self.view_is) today in
+    subst (λ (ds : List Data). AtMost (FormulaVisits c.args.app.now c.args.session.now (rows_of_tables t.states) moment (cell_value ds) None info) (g.K.Keeper.visited c.args.keeper.now) (g.K.Keeper.visited c.formula_value.new.keeper)) same (h moment began t told))
     c.formula_value.ensures.visits

@@ -1,5 +1,5 @@
 use Rattle.std.proofs.Common.{sym}
-use Rattle.row_keeper.specs.Entries.{Entry}
+use Rattle.row_keeper.specs.Entries.{IndexEntry}
 use Rattle.row_keeper.proofs.MarkLemmas.{marked_now, marked_then, some_stays, stand_marked}
 use Rattle.row_keeper.proofs.index.Index.mark.Goals as goal
 
@@ -17,7 +17,7 @@ returns-in-Some-clause-room c q there =
 
 pub invariant_of-self : goal.invariant_of-self
 invariant_of-self c =
-    let there = λ (q : Entry). ((c.get_mut.follows.holds (record { was = c.in-Some.mark.now.was; is = c.args.is })).3 c.requires.1).0 q in
+    let there = λ (q : IndexEntry). ((c.get_mut.follows.holds (record { was = c.in-Some.mark.now.was; is = c.args.is })).3 c.requires.1).0 q in
     record {
       kept = stand_marked c.args.self.now.touched.items c.args.self.now.entries.entries _ c.args.entry.now c.args.is c.requires.0 c.args.self.now.kept
           (λ q. marked_now _ _ c.args.entry.now c.in-Some.mark.now c.args.is q (there q))

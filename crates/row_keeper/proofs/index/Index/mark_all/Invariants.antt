@@ -1,9 +1,9 @@
 use Rattle.std.proofs.Common.{◌≡◌, cond, take}
-use Rattle.row_keeper.specs.Entries.{Entry, HasRoom, is_one_of, now_in, then_in}
+use Rattle.row_keeper.specs.Entries.{IndexEntry, HasEntryRoom, is_entry_among, now_in, then_in}
 use Rattle.row_keeper.proofs.index.Index.mark_all.Given as goal
 
 abbrev pub invariant-loop-entry : goal.invariant-loop-entry
 invariant-loop-entry l =
-    ((q : Entry) → now_in l.self.entries.entries q ≡ cond (is_one_of (take l.entry-index l.entries) q) l.is (now_in l.initial.self.entries.entries q))
-    × ((q : Entry) → then_in l.self.entries.entries q ≡ then_in l.initial.self.entries.entries q)
-    × ((q : Entry) → HasRoom l.initial.self.touched.items l.initial.self.entries.entries q → HasRoom l.self.touched.items l.self.entries.entries q)
+    ((q : IndexEntry) → now_in l.self.entries.entries q ≡ cond (is_entry_among (take l.entry-index l.entries) q) l.is (now_in l.initial.self.entries.entries q))
+    × ((q : IndexEntry) → then_in l.self.entries.entries q ≡ then_in l.initial.self.entries.entries q)
+    × ((q : IndexEntry) → HasEntryRoom l.initial.self.touched.items l.initial.self.entries.entries q → HasEntryRoom l.self.touched.items l.self.entries.entries q)

@@ -6,7 +6,7 @@ use Rattle.row_queries.specs.TableRows.{rows_at, value_at, values_of}
 use Rattle.row_queries.specs.declared.rows.Row.{Row}
 use Rattle.row_keeper.specs.InMemory.{InMemory}
 use Rattle.row_keeper.specs.StoreView.{StoreView, tables_now}
-use Rattle.row_keeper.specs.Tables.{rows_of, shapes_of}
+use Rattle.row_keeper.specs.Tables.{rows_of_tables, shapes_of}
 use Rattle.row_keeper.proofs.AnswerLemmas.{totalled}
 use Rattle.row_keeper.proofs.HeldLemmas.{of_kept}
 use Rattle.row_keeper.proofs.memory.MemoryKeeperKeeper.total.Goals as goal
@@ -15,9 +15,9 @@ pub returns-clause-totals : goal.returns-clause-totals
 returns-clause-totals c =
     let q = c.args.query.now in
     let values = ap (map view) c.as_slice-2.ensures.value ∙ c.in_ok-values.ensures ∙ ap (map (λ (r : Row). value_at (values_of r) c.args.column)) c.as_slice.ensures.value in
-    let sums = totalled q (rows_at (rows_of c.self.inside.store.now) q.table) c.in_ok-asked.asked.items c.in_ok-rows.rows.items c.args.column (map view c.as_slice-2.result.now) c.totals.result
+    let sums = totalled q (rows_at (rows_of_tables c.self.inside.store.now) q.table) c.in_ok-asked.asked.items c.in_ok-rows.rows.items c.args.column (map view c.as_slice-2.result.now) c.totals.result
     c.in_ok-asked.ensures.asked c.in_ok-rows.ensures values c.totals.ensures in (
-      subst (λ (w : InMemory). IsTotalled q (rows_at (rows_of w.store.now) q.table) c.args.column c.totals.result) c.self.view_is sums,
+      subst (λ (w : InMemory). IsTotalled q (rows_at (rows_of_tables w.store.now) q.table) c.args.column c.totals.result) c.self.view_is sums,
       ap (λ (w : InMemory). tables_now w.store) c.in_ok-asked.ensures.same ∙ ap (λ (w : InMemory). tables_now w.store) c.self.view_is,
     )
 
@@ -25,9 +25,9 @@ pub returns-clause-answer : goal.returns-clause-answer
 returns-clause-answer c =
     let q = c.args.query.now in
     let values = ap (map view) c.as_slice-2.ensures.value ∙ c.in_ok-values.ensures ∙ ap (map (λ (r : Row). value_at (values_of r) c.args.column)) c.as_slice.ensures.value in
-    let sums = totalled q (rows_at (rows_of c.self.inside.store.now) q.table) c.in_ok-asked.asked.items c.in_ok-rows.rows.items c.args.column (map view c.as_slice-2.result.now) c.totals.result
+    let sums = totalled q (rows_at (rows_of_tables c.self.inside.store.now) q.table) c.in_ok-asked.asked.items c.in_ok-rows.rows.items c.args.column (map view c.as_slice-2.result.now) c.totals.result
     c.in_ok-asked.ensures.asked c.in_ok-rows.ensures values c.totals.ensures in
     let still = ap (λ (w : InMemory). w.store) c.in_ok-asked.ensures.same in
-    subst (λ (w : InMemory). IsTotalAnswer (shapes_of w.store.schema) (Some (rows_of c.ask.new.self.store.now)) q c.args.column c.totals.result) c.self.view_is
-    (subst (λ (s : StoreView). IsTotalAnswer (shapes_of c.self.inside.store.schema) (Some (rows_of s.now)) q c.args.column c.totals.result) (sym still)
-    (of_kept (shapes_of c.self.inside.store.schema) (rows_of c.self.inside.store.now) q (λ t rows. IsTotalled q rows c.args.column c.totals.result) c.are_held.ensures (λ t. sums)))
+    subst (λ (w : InMemory). IsTotalAnswer (shapes_of w.store.schema) (Some (rows_of_tables c.ask.new.self.store.now)) q c.args.column c.totals.result) c.self.view_is
+    (subst (λ (s : StoreView). IsTotalAnswer (shapes_of c.self.inside.store.schema) (Some (rows_of_tables s.now)) q c.args.column c.totals.result) (sym still)
+    (of_kept (shapes_of c.self.inside.store.schema) (rows_of_tables c.self.inside.store.now) q (λ t rows. IsTotalled q rows c.args.column c.totals.result) c.are_held.ensures (λ t. sums)))

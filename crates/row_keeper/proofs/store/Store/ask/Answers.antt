@@ -9,7 +9,7 @@ use Rattle.row_queries.specs.TableRows.{IsRowOf, rows_at}
 use Rattle.row_keeper.specs.Covered.{covered_of, covers}
 use Rattle.row_keeper.specs.Sound.{lies_among}
 use Rattle.row_keeper.specs.StoreView.{StoreView}
-use Rattle.row_keeper.specs.Tables.{rows_of, shapes_of}
+use Rattle.row_keeper.specs.Tables.{rows_of_tables, shapes_of}
 use Rattle.row_keeper.proofs.RuleLemmas.{at_slice}
 use Rattle.row_keeper.proofs.StoreLemmas.{asked_few, asked_fit, asked_is, has_column, reaches, within}
 use Rattle.row_keeper.proofs.store.Store.ask.Goals as goal
@@ -42,7 +42,7 @@ returns-clause-asked c =
     let there = at_slice tables q.table c.index-table.result.now (within tables shapes q.table is.table c.self.invariant.columns is.is_table) c.index-table.ensures in
     let sorted = c.sort_rows.new.rows.items in
     let moved = subst (λ xs. IsPermutation xs sorted) (c.in_ok-rows.ensures ∙ ap (λ rs. filter (lies_among q.column rs) c.index-table.result.now.now.rows) c.as_slice.ensures) c.in_ok-sort_rows.ensures.permutation in
-    subst (λ (w : StoreView). AreAsked q (rows_at (rows_of w.now) q.table) sorted) c.self.view_is
+    subst (λ (w : StoreView). AreAsked q (rows_at (rows_of_tables w.now) q.table) sorted) c.self.view_is
     (asked_is shapes q is tables c.index-table.result.now c.self.invariant.columns there sorted moved c.in_ok-sort_rows.ensures.sorted)
 
 pub returns-clause-fit : goal.returns-clause-fit

@@ -3,12 +3,12 @@ use Rattle.std.specs.Prelude.{IsSomeAnd, slice_get}
 use Rattle.std.specs.List.{AllByRecursion}
 use Rattle.fx_core.specs.declared.schema.TableShape.{TableShape}
 use Rattle.row_queries.specs.Queries.{AreAsked, IsQuery}
-use Rattle.row_queries.specs.Ranges.{AreRising}
+use Rattle.row_queries.specs.Ranges.{AreRangesRising}
 use Rattle.row_queries.specs.TableRows.{IsRowOf, rows_at}
-use Rattle.row_keeper.specs.Pages.{AreFirst}
+use Rattle.row_keeper.specs.Pages.{AreFirstRows}
 use Rattle.row_keeper.specs.Sound.{lies_among}
 use Rattle.row_keeper.specs.StoreView.{StoreView}
-use Rattle.row_keeper.specs.Tables.{rows_of, shapes_of}
+use Rattle.row_keeper.specs.Tables.{rows_of_tables, shapes_of}
 use Rattle.row_keeper.proofs.AnswerLemmas.{asks}
 use Rattle.row_keeper.proofs.RuleLemmas.{at_slice}
 use Rattle.row_keeper.proofs.StoreLemmas.{asked_fit, asked_within, first_fit, first_is, within}
@@ -17,7 +17,7 @@ use Rattle.row_keeper.proofs.store.Store.first.Goals as goal
 pub first-requires : goal.first-requires
 first-requires c =
     let is = subst (λ (w : StoreView). IsQuery (shapes_of w.schema) c.args.query.now) (sym c.self.view_is) c.requires.query in
-    subst AreRising (sym c.as_slice.ensures) is.rises
+    subst AreRangesRising (sym c.as_slice.ensures) is.rises
 
 pub returns-clause-first : goal.returns-clause-first
 returns-clause-first c =
@@ -28,7 +28,7 @@ returns-clause-first c =
     let there = at_slice tables q.table c.index-table.result.now (within tables shapes q.table is.table c.self.invariant.columns is.is_table) c.index-table.ensures in
     let rows = c.in_ok-first.field-0.items in
     let e = c.in_ok-first.ensures ∙ ap (λ rs. take c.args.most (filter (lies_among 0 rs) c.index-table.result.now.now.rows)) c.as_slice.ensures in
-    subst (λ (w : StoreView). AreFirst q (rows_at (rows_of w.now) q.table) c.args.most rows) c.self.view_is
+    subst (λ (w : StoreView). AreFirstRows q (rows_at (rows_of_tables w.now) q.table) c.args.most rows) c.self.view_is
     (first_is shapes q is tables c.index-table.result.now c.self.invariant.columns there c.requires.column c.requires.order c.is_sound.ensures c.args.most rows e)
 
 pub returns-clause-fit : goal.returns-clause-fit
@@ -50,5 +50,5 @@ returns-clause-able c asked are =
     let is = subst (λ (w : StoreView). IsQuery (shapes_of w.schema) q) (sym c.self.view_is) c.requires.query in
     let tables = c.self.inside.tables.items in
     let there = at_slice tables q.table c.index-table.result.now (within tables shapes q.table is.table c.self.invariant.columns is.is_table) c.index-table.ensures in
-    let here = subst (λ (w : StoreView). AreAsked q (rows_at (rows_of w.now) q.table) asked) (sym c.self.view_is) are in
+    let here = subst (λ (w : StoreView). AreAsked q (rows_at (rows_of_tables w.now) q.table) asked) (sym c.self.view_is) are in
     asks shapes q asked is (asked_fit shapes q is tables c.index-table.result.now c.self.invariant.columns there asked c.is_sound.ensures (asked_within shapes q is tables c.index-table.result.now c.self.invariant.columns there asked here))

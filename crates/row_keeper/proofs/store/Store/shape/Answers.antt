@@ -4,7 +4,7 @@ use Rattle.fx_core.specs.declared.schema.Schema.{Schema}
 use Rattle.fx_core.specs.declared.schema.TableShape.{TableShape}
 use Rattle.row_keeper.specs.Changes.{Shapes}
 use Rattle.row_keeper.specs.Kept.{IsKept, columns_shaped, empty_table}
-use Rattle.row_keeper.specs.Sound.{IsSound}
+use Rattle.row_keeper.specs.Sound.{IsSoundTable}
 use Rattle.row_keeper.specs.StoreView.{StoreView, tables_now}
 use Rattle.row_keeper.specs.TableView.{TableView, states_now}
 use Rattle.row_keeper.specs.Tables.{AreStatesOf, TableState, Tables, shapes_of}
@@ -29,7 +29,7 @@ returns-then-is_same_schema-clause-sound c =
     let kept = c.in-Some.kept in
     let same : kept ≡ s = c.if-is_same_schema.ensures in
     let columns = c.self.invariant.columns ∙ ap (λ (o : Option Schema). columns_shaped (shapes_of o)) c.in-Some.is in
-    let sound = subst (AllByRecursion IsSound) c.deref.ensures.value c.are_sound.ensures in
+    let sound = subst (AllByRecursion IsSoundTable) c.deref.ensures.value c.are_sound.ensures in
     let states = states_of c.self.inside.tables.items kept.tables columns sound in
     subst (λ (w : StoreView). AreStatesOf s.tables w.now) c.self.view_is (subst (λ (k : Schema). AreStatesOf k.tables (states_now c.self.inside.tables.items)) same states)
 

@@ -3,14 +3,14 @@ use Rattle.std.specs.Vec.{with_items}
 use Rattle.std.proofs.lemmas.List.{with_items_is}
 use Rattle.fx_core.specs.declared.schema.Schema.{Schema}
 use Rattle.row_keeper.specs.Kept.{IsKept, columns_kept}
-use Rattle.row_keeper.specs.Skips.{passed, passed_now}
+use Rattle.row_keeper.specs.Skips.{numbers_passed, passed_now}
 use Rattle.row_keeper.specs.StoreView.{StoreView}
 use Rattle.row_keeper.specs.TableView.{TableView, states_now, states_then}
 use Rattle.row_keeper.proofs.store.Store.skip_to.Goals as goal
 
-skipped_now : (n : ℕ) (tables : List TableView) → states_now (map (passed_now n) tables) ≡ map (passed n) (states_now tables)
+skipped_now : (n : ℕ) (tables : List TableView) → states_now (map (passed_now n) tables) ≡ map (numbers_passed n) (states_now tables)
 skipped_now n [] = refl
-skipped_now n (t ∷ ts) = ap (λ l. passed n t.now ∷ l) (skipped_now n ts)
+skipped_now n (t ∷ ts) = ap (λ l. numbers_passed n t.now ∷ l) (skipped_now n ts)
 
 skipped_then : (n : ℕ) (tables : List TableView) → states_then (map (passed_now n) tables) ≡ states_then tables
 skipped_then n [] = refl
@@ -38,7 +38,7 @@ pub returns : goal.returns
 returns c =
     let len : length c.skip_all.new.tables ≡ c.self.inside.tables.len = omega (arith, c.skip_all.auto.tables, c.deref_mut.ensures.len) in
     let items = with_items_is c.self.inside.tables c.skip_all.new.tables len ∙ c.skip_all.ensures ∙ ap (map (passed_now c.args.number)) c.deref_mut.ensures.value in
-    let now : states_now (with_items c.self.inside.tables c.skip_all.new.tables).items ≡ map (passed c.args.number) (states_now c.self.inside.tables.items) = ap states_now items ∙ skipped_now c.args.number c.self.inside.tables.items in
+    let now : states_now (with_items c.self.inside.tables c.skip_all.new.tables).items ≡ map (numbers_passed c.args.number) (states_now c.self.inside.tables.items) = ap states_now items ∙ skipped_now c.args.number c.self.inside.tables.items in
     let then : states_then (with_items c.self.inside.tables c.skip_all.new.tables).items ≡ states_then c.self.inside.tables.items = ap states_then items ∙ skipped_then c.args.number c.self.inside.tables.items in
-    let seen : StoreView → StoreView = λ w. record { schema = w.schema; now = map (passed c.args.number) w.now; then = w.then; is_begun = w.is_begun } in
+    let seen : StoreView → StoreView = λ w. record { schema = w.schema; now = map (numbers_passed c.args.number) w.now; then = w.then; is_begun = w.is_begun } in
     (λ k. record { schema = c.self.inside.schema; now = now k; then = then k; is_begun = c.self.inside.is_begun }) ∙ ap seen c.self.view_is

@@ -1,7 +1,7 @@
 use Rattle.std.proofs.Common.{◌≡◌, ◌∙◌, ◌==◌, ◌+◌, ◌<◌, ap, sym, subst, cond, Some, true, length, arith}
 use Rattle.row_queries.specs.TableRows.{AreCellsOf}
 use Rattle.row_keeper.specs.Covered.{entries_of}
-use Rattle.row_keeper.specs.Entries.{is_one_of, now_in}
+use Rattle.row_keeper.specs.Entries.{is_entry_among, now_in}
 use Rattle.row_keeper.specs.Slots.{now_at, rows_now}
 use Rattle.row_keeper.specs.TableView.{TableView}
 use Rattle.row_keeper.specs.Tables.{with_row}
@@ -21,7 +21,7 @@ invariant_of-self-2 c =
     c.self.inside.last c.self.inside.count c.self.inside.first c.self.inside.first_count c.args.cells.now c.self.invariant c.put_new.ensures.was_ordered c.put_new.ensures.ordered
     (omega (arith, few, counted)) fit c.cells_are_proper.ensures
     (λ i. c.in_ok-put_new.ensures.now i ∙ ap (λ x. cond (c.self.inside.last + 1 == i) (Some x) (now_at c.self.inside.slots.by_id.entries i)) c.in_ok-copy.ensures) c.put_new.ensures.then
-    c.make_rooms.ensures.now (λ q. c.mark_all.ensures.now q ∙ ap (λ es. cond (is_one_of es q) true (now_in c.make_rooms.new.self.entries.entries q)) E)
+    c.make_rooms.ensures.now (λ q. c.mark_all.ensures.now q ∙ ap (λ es. cond (is_entry_among es q) true (now_in c.make_rooms.new.self.entries.entries q)) E)
     (λ q. c.mark_all.ensures.then q ∙ c.make_rooms.ensures.then q)
 
 pub returns-clause-ok : goal.returns-clause-ok

@@ -2,7 +2,7 @@ use Rattle.std.proofs.Common.{◌≡◌, ◌∙◌, ap, ap₂, refl, sym, subst,
 use Rattle.std.specs.List.{list_any}
 use Rattle.std.specs.Option.{option_map}
 use Rattle.row_keeper.specs.Covered.{entries_of}
-use Rattle.row_keeper.specs.Entries.{is_one_of}
+use Rattle.row_keeper.specs.Entries.{is_entry_among}
 use Rattle.row_keeper.specs.Slots.{rows_now}
 use Rattle.row_keeper.specs.TableView.{TableView}
 use Rattle.row_keeper.specs.Tables.{has_id, without_row}
@@ -18,7 +18,7 @@ returns-in_default-clause-was c =
     subst (λ (w : TableView). false ≡ list_any (has_id c.args.id) w.now.rows) c.self.view_is (sym (no_row c.deref.result.now c.self.inside.slots.by_id.entries c.args.id c.entries_at.ensures.ordered e))
 
 pub mark_all-requires : goal.mark_all-requires
-mark_all-requires c q one = c.in_ok-make_rooms.ensures.room q (ap (λ es. is_one_of es q) (c.deref-2.ensures.value ∙ sym c.deref-3.ensures.value) ∙ one)
+mark_all-requires c q one = c.in_ok-make_rooms.ensures.room q (ap (λ es. is_entry_among es q) (c.deref-2.ensures.value ∙ sym c.deref-3.ensures.value) ∙ one)
 
 pub overflow_sub-self : goal.overflow_sub-self
 overflow_sub-self c =
@@ -41,7 +41,7 @@ invariant_of-self-2 c =
     removed c.self.inside.columns c.self.inside.covered.items c.self.inside.slots.by_id.entries c.put_over.new.self.by_id.entries c.self.inside.index.entries.entries c.mark_all.new.self.entries.entries
     c.self.inside.last c.self.inside.count c.self.inside.first c.self.inside.first_count c.args.id row.0 c.self.invariant c.put_over.ensures.was_ordered c.put_over.ensures.ordered row.1
     c.in_ok-put_over.ensures.now c.put_over.ensures.then
-    (λ q. c.mark_all.ensures.now q ∙ ap₂ (λ es n. cond (is_one_of es q) false n) E (c.make_rooms.ensures.now q)) (λ q. c.mark_all.ensures.then q ∙ c.make_rooms.ensures.then q)
+    (λ q. c.mark_all.ensures.now q ∙ ap₂ (λ es n. cond (is_entry_among es q) false n) E (c.make_rooms.ensures.now q)) (λ q. c.mark_all.ensures.then q ∙ c.make_rooms.ensures.then q)
 
 pub returns-clause-was : goal.returns-clause-was
 returns-clause-was c =

@@ -3,7 +3,7 @@ use Rattle.std.specs.List.{list_any}
 use Rattle.std.specs.Option.{is_some, option_map}
 use Rattle.row_queries.specs.TableRows.{AreCellsOf}
 use Rattle.row_keeper.specs.Covered.{entries_of}
-use Rattle.row_keeper.specs.Entries.{is_one_of, now_in}
+use Rattle.row_keeper.specs.Entries.{is_entry_among, now_in}
 use Rattle.row_keeper.specs.Slots.{now_at}
 use Rattle.row_keeper.specs.TableView.{TableView}
 use Rattle.row_keeper.specs.Tables.{has_id, with_cells}
@@ -23,11 +23,11 @@ entries_for-requires c = scalar_at c.args.self.now.columns c.args.cells.now c.re
 
 pub mark_all-requires : goal.mark_all-requires
 mark_all-requires c q one =
-    c.make_rooms-2.ensures.more q (c.in_ok-make_rooms.ensures.room q (ap (λ es. is_one_of es q) (c.deref-3.ensures.value ∙ sym c.deref-5.ensures.value) ∙ one))
+    c.make_rooms-2.ensures.more q (c.in_ok-make_rooms.ensures.room q (ap (λ es. is_entry_among es q) (c.deref-3.ensures.value ∙ sym c.deref-5.ensures.value) ∙ one))
 
 pub mark_all-requires-2 : goal.mark_all-requires-2
 mark_all-requires-2 c q one =
-    c.mark_all.ensures.room q (c.in_ok-make_rooms-2.ensures.room q (ap (λ es. is_one_of es q) (c.deref-4.ensures.value ∙ sym c.deref-6.ensures.value) ∙ one))
+    c.mark_all.ensures.room q (c.in_ok-make_rooms-2.ensures.room q (ap (λ es. is_entry_among es q) (c.deref-4.ensures.value ∙ sym c.deref-6.ensures.value) ∙ one))
 
 pub invariant_of-self : goal.invariant_of-self
 invariant_of-self c = same_whole c.self.inside.columns c.self.inside.covered.items c.self.inside.slots.by_id.entries c.self.inside.slots.by_id.entries c.self.inside.index.entries.entries c.make_rooms.new.self.entries.entries c.self.inside.last c.self.inside.count c.self.inside.first c.self.inside.first_count c.self.invariant refl c.make_rooms.ensures.now c.make_rooms.ensures.then
@@ -52,8 +52,8 @@ invariant_of-self-2 c =
     c.self.inside.last c.self.inside.count c.self.inside.first c.self.inside.first_count c.args.id row.0 c.args.cells.now c.self.invariant c.put_over.ensures.was_ordered c.put_over.ensures.ordered row.1
     fit c.cells_are_proper.ensures
     (λ i. c.in_ok-put_over.ensures.now i ∙ ap (λ x. cond (c.args.id == i) (Some x) (now_at c.self.inside.slots.by_id.entries i)) c.in_ok-copy.ensures) c.put_over.ensures.then
-    (λ q. c.make_rooms-2.ensures.now q ∙ c.make_rooms.ensures.now q) (λ q. c.mark_all.ensures.now q ∙ ap (λ es. cond (is_one_of es q) false (now_in c.make_rooms-2.new.self.entries.entries q)) out)
-    (λ q. c.mark_all-2.ensures.now q ∙ ap (λ es. cond (is_one_of es q) true (now_in c.mark_all.new.self.entries.entries q)) into)
+    (λ q. c.make_rooms-2.ensures.now q ∙ c.make_rooms.ensures.now q) (λ q. c.mark_all.ensures.now q ∙ ap (λ es. cond (is_entry_among es q) false (now_in c.make_rooms-2.new.self.entries.entries q)) out)
+    (λ q. c.mark_all-2.ensures.now q ∙ ap (λ es. cond (is_entry_among es q) true (now_in c.mark_all.new.self.entries.entries q)) into)
     (λ q. c.mark_all-2.ensures.then q ∙ c.mark_all.ensures.then q ∙ c.make_rooms-2.ensures.then q ∙ c.make_rooms.ensures.then q)
 
 pub returns-clause-was : goal.returns-clause-was

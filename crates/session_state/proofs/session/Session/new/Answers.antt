@@ -4,8 +4,8 @@ use Rattle.fx_types.specs.Values.{Data, blank, tab, no_rows}
 use Rattle.fx_types.specs.ValueView.{view}
 use Rattle.fx_types.specs.declared.values.Value.{Value}
 use Rattle.fx_core.specs.declared.names.Names.{Names}
-use Rattle.session_state.specs.Once.{Kept, nobody}
-use Rattle.session_state.specs.Sessions.{Room, SessionState, opened}
+use Rattle.session_state.specs.Once.{LastRequest, nobody}
+use Rattle.session_state.specs.Sessions.{SessionRoom, SessionState, opened}
 use Rattle.session_state.proofs.Fitting.{fits_opened}
 use Rattle.session_state.proofs.session.Session.new.Goals as goal
 
@@ -20,17 +20,17 @@ nothing_seen (suc n) = ap (λ (xs : List (Option Data)). None ∷ xs) (nothing_s
 inputs_seen : (vs : List (Option Value)) (n : ℕ) → vs ≡ replicate n None → map (option_map view) vs ≡ replicate n None
 inputs_seen vs n e = ap (map (option_map view)) e ∙ nothing_seen n
 
-abbrev first_session : List Data → List Data → List (Option Data) → List (Option (ℕ × Option ℕ)) → Kept → List (List ℕ) → Room → SessionState
+abbrev first_session : List Data → List Data → List (Option Data) → List (Option (ℕ × Option ℕ)) → LastRequest → List (List ℕ) → SessionRoom → SessionState
 first_session vs cs is ch k ns r = record { screen = 0; navigated = false; variables = vs; collections = cs; inputs = is; chosen = ch; kept = k; notices = ns; room = r }
 
-is_opened : (n : Names) (a b d e : ℕ) (vs cs : List Data) (is : List (Option Data)) (ch : List (Option (ℕ × Option ℕ))) (k : Kept) (ns : List (List ℕ)) (x y : ℕ) → a ≡ length n.variables → b ≡ length n.collections → d ≡ length n.controls → e ≡ length n.controls → vs ≡ replicate a blank → cs ≡ replicate b (tab no_rows) → is ≡ replicate d None → ch ≡ replicate e None → k ≡ nobody → ns ≡ [] → x ≡ 0 → y ≡ 0 → first_session vs cs is ch k ns (record { variables = x; collections = y }) ≡ opened n
+is_opened : (n : Names) (a b d e : ℕ) (vs cs : List Data) (is : List (Option Data)) (ch : List (Option (ℕ × Option ℕ))) (k : LastRequest) (ns : List (List ℕ)) (x y : ℕ) → a ≡ length n.variables → b ≡ length n.collections → d ≡ length n.controls → e ≡ length n.controls → vs ≡ replicate a blank → cs ≡ replicate b (tab no_rows) → is ≡ replicate d None → ch ≡ replicate e None → k ≡ nobody → ns ≡ [] → x ≡ 0 → y ≡ 0 → first_session vs cs is ch k ns (record { variables = x; collections = y }) ≡ opened n
 is_opened n a b d e vs cs is ch k ns v w a-is b-is d-is e-is vs-are cs-are is-are ch-are k-is ns-are v-is w-is =
-    let r : Room = record { variables = v; collections = w } in
+    let r : SessionRoom = record { variables = v; collections = w } in
     ap (λ (x : List Data). first_session x cs is ch k ns r) (vs-are ∙ ap (λ (m : ℕ). replicate m blank) a-is)
     ∙ ap (λ (x : List Data). first_session (replicate (length n.variables) blank) x is ch k ns r) (cs-are ∙ ap (λ (m : ℕ). replicate m (tab no_rows)) b-is)
     ∙ ap (λ (x : List (Option Data)). first_session (replicate (length n.variables) blank) (replicate (length n.collections) (tab no_rows)) x ch k ns r) (is-are ∙ ap (λ (m : ℕ). replicate m None) d-is)
     ∙ ap (λ (x : List (Option (ℕ × Option ℕ))). first_session (replicate (length n.variables) blank) (replicate (length n.collections) (tab no_rows)) (replicate (length n.controls) None) x k ns r) (ch-are ∙ ap (λ (m : ℕ). replicate m None) e-is)
-    ∙ ap (λ (x : Kept). first_session (replicate (length n.variables) blank) (replicate (length n.collections) (tab no_rows)) (replicate (length n.controls) None) (replicate (length n.controls) None) x ns r) k-is
+    ∙ ap (λ (x : LastRequest). first_session (replicate (length n.variables) blank) (replicate (length n.collections) (tab no_rows)) (replicate (length n.controls) None) (replicate (length n.controls) None) x ns r) k-is
     ∙ ap (λ (x : List (List ℕ)). first_session (replicate (length n.variables) blank) (replicate (length n.collections) (tab no_rows)) (replicate (length n.controls) None) (replicate (length n.controls) None) nobody x r) ns-are
     ∙ ap (λ (m : ℕ). record (opened n) { room = record { variables = m; collections = w } }) v-is
     ∙ ap (λ (m : ℕ). record (opened n) { room = record { variables = 0; collections = m } }) w-is

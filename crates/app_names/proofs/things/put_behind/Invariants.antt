@@ -1,5 +1,0 @@
-use Rattle.std.proofs.Common.{◌≡◌, ◌++◌}
-use Rattle.app_names.proofs.things.put_behind.Given as goal
-
-abbrev pub invariant-loop-one : goal.invariant-loop-one
-invariant-loop-one l = l.things.items ++ l.one-iterator.rest.items ≡ l.fn.things.items ++ l.fn.new.items

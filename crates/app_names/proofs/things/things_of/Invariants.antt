@@ -1,8 +1,0 @@
-use Rattle.std.proofs.Common.{◌≡◌, [], drop}
-use Rattle.app_names.specs.Declarations.{things_behind}
-use Rattle.app_names.specs.Tops.{has}
-use Rattle.app_names.proofs.things.things_of.Given as goal
-
-abbrev pub invariant-loop-cell : goal.invariant-loop-cell
-invariant-loop-cell l =
-    things_behind l.functions (has l.given) l.things.items (drop l.cell-index l.cells) ≡ things_behind l.functions (has l.given) [] l.cells

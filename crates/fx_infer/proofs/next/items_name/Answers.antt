@@ -1,6 +1,0 @@
-use Rattle.std.specs.Str.{chars}
-use Rattle.fx_infer.proofs.next.items_name.Goals as goal
-
-pub returns : goal.returns
-unfolding chars
-returns c = c.of.ensures

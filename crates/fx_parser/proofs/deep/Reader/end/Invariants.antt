@@ -1,5 +1,0 @@
-use Rattle.std.proofs.Common.{vec_len}
-use Rattle.fx_parser.proofs.deep.Reader.end.Given as goal
-
-abbrev pub decreases-loop-part : goal.decreases-loop-part
-decreases-loop-part l = vec_len l.self.open

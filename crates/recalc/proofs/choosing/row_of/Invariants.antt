@@ -1,8 +1,0 @@
-use Rattle.std.proofs.Common.{◌≡◌, drop}
-use Rattle.std.specs.List.{find}
-use Rattle.app_semantics.specs.Chosen.{has_id}
-use Rattle.recalc.proofs.choosing.row_of.Given as goal
-
--- it isn't among those that were seen
-abbrev pub invariant-loop-row : goal.invariant-loop-row
-invariant-loop-row l = find (has_id l.number) (drop l.row-index l.rows) ≡ find (has_id l.number) l.rows

@@ -1,6 +1,0 @@
-use Rattle.std.proofs.Common.{◌≡◌, ℕ, cond, take}
-use Rattle.row_keeper.specs.Slots.{ended, is_named, slot_at}
-use Rattle.row_keeper.proofs.slots.end_all.Given as goal
-
-abbrev pub invariant-loop-id : goal.invariant-loop-id
-invariant-loop-id l = (i : ℕ) → slot_at l.rows.entries i ≡ cond (is_named (take l.id-index l.touched) i) (ended l.with_changes (slot_at l.initial.rows.entries i)) (slot_at l.initial.rows.entries i)

@@ -1,7 +1,0 @@
-use Rattle.std.proofs.Common.{◌∙◌, ap}
-use Rattle.recalc.specs.Values.{Values}
-use Rattle.session_requests.proofs.Posted.{item_over}
-use Rattle.session_requests.proofs.acting.item_seen.Goals as goal
-
-pub returns : goal.returns
-returns c = item_over c.args.names.now c.as_slice.result.now c.args.cache.now.values c.args.item c.row_of.result (c.as_slice.ensures ∙ ap (λ (w : Values). w.cells) c.values.ensures) c.row_of.ensures

@@ -1,0 +1,13 @@
+use Rattle.std.proofs.Common.{◌≡◌, ◌∙◌, ap}
+use Rattle.std.specs.Prelude.{codes}
+use Rattle.recalc.specs.app_cells.Leaning.{cell_of_property}
+use Rattle.session_requests.proofs.checked_cells.event_cells.Goals as goal
+
+pub returns-clause-shown : goal.returns-clause-shown
+returns-clause-shown c = λ d p lone.
+    c.in_ok-add-2.ensures.still d
+    (c.in_ok-add.ensures.added d (c.cell_of_property.ensures ∙ ap (λ j. cell_of_property c.args.app.now.names j (codes "Visible")) c.shown_by-around.ensures ∙ p) lone)
+
+pub returns-clause-items : goal.returns-clause-items
+returns-clause-items c = λ d p lone.
+    c.in_ok-add-2.ensures.added d (c.cell_of_property-2.ensures ∙ ap (λ j. cell_of_property c.args.app.now.names j (codes "Items")) c.shown_by-around.ensures ∙ p) lone
