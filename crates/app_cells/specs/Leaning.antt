@@ -1,5 +1,7 @@
 -- Which formulas a formula leans on.
-use Rattle.std.specs.Prelude.{◌≡◌, ℕ, suc, ◌++◌, List, [], ◌∷◌, Bool, ◌&&◌, nat_eq, bytes_eq, codes, encode_utf8_all, Option, Some, None, option_map, option_and_then, slice_get}
+use Rattle.std.specs.Prelude.{◌≡◌, ℕ, suc, ◌++◌, List, [], ◌∷◌, Bool, ◌&&◌, nat_eq, bytes_eq, codes}
+use Rattle.std.specs.Prelude.{encode_utf8_all, Option, Some, None, option_map, option_and_then}
+use Rattle.std.specs.Prelude.{slice_get}
 use Rattle.std.specs.List.{find}
 use Rattle.fx_types.specs.declared.controls.Control.{Control}
 use Rattle.fx_types.specs.declared.controls.Control.TheVariants as control
@@ -17,7 +19,8 @@ is_property k name p = nat_eq p.control k && bytes_eq (encode_utf8_all p.name) n
 
 -- the number of the cell of a control's property, where that is written
 abbrev pub cell_of_property : Names → ℕ → List ℕ → Option ℕ
-cell_of_property n k name = option_map (λ (p : Property). p.cell) (find (is_property k name) n.properties)
+cell_of_property n k name = option_map (λ (p : Property). p.cell)
+    (find (is_property k name) n.properties)
 
 -- the property that gives an input its value until a user does
 abbrev pub default_name : Control → Option (List ℕ)
@@ -29,13 +32,15 @@ default_name c = None
 
 -- the number of the cell of a control's default, where it has one and that is written
 abbrev pub default_cell : Names → ℕ → Option ℕ
-default_cell n k = option_and_then (λ (c : ControlName). option_and_then (cell_of_property n k) (default_name c.kind)) (slice_get n.controls k)
+default_cell n k = option_and_then (λ (c : ControlName). option_and_then (cell_of_property n k)
+    (default_name c.kind)) (slice_get n.controls k)
 
 -- the number of the cell of a gallery's items, where it is written
 abbrev pub items_cell : Names → ℕ → Option ℕ
 items_cell n k = cell_of_property n k (codes "Items")
 
--- what who reads a source leans on: the cell, the default of an input, the items of which one is chosen
+-- what who reads a source leans on: the cell, the default of an input, the items of which one is
+-- chosen
 abbrev pub cell_behind : Names → Source → Option ℕ
 cell_behind n (source.Cell k) = Some k
 cell_behind n (source.Input k) = default_cell n k

@@ -1,5 +1,7 @@
 -- The places of an app where formulas may stand, and what each makes of its formula.
-use Rattle.std.specs.Prelude.{◌≡◌, ℕ, ◌<◌, ◌≤◌, ◌^◌, ◌++◌, List, [], length, All, Bool, true, false, Option, Some, None, option_map, unwrap_or, slice_get, codes, encode_utf8_all, if◌then◌else◌}
+use Rattle.std.specs.Prelude.{◌≡◌, ℕ, ◌<◌, ◌≤◌, ◌^◌, ◌++◌, List, [], length, All, Bool, true, false}
+use Rattle.std.specs.Prelude.{Option, Some, None, option_map, unwrap_or, slice_get, codes}
+use Rattle.std.specs.Prelude.{encode_utf8_all, if◌then◌else◌}
 use Rattle.fx_types.specs.TypeView.{shape}
 use Rattle.fx_types.specs.Types.{Shape, tables, no_columns}
 use Rattle.fx_types.specs.declared.controls.Control.{Control}
@@ -44,7 +46,8 @@ address f (spot.Property k p) = address_of_property f k p
 -- the screen on which it stands
 abbrev pub screen_of : Frame → Spot → Option ℕ
 screen_of f (spot.OnVisible s) = Some s
-screen_of f (spot.Property k p) = option_map (λ (c : ControlName). c.screen) (slice_get f.controls k)
+screen_of f (spot.Property k p) = option_map (λ (c : ControlName). c.screen)
+    (slice_get f.controls k)
 screen_of f s = None
 
 -- what acts of a gallery itself
@@ -104,8 +107,10 @@ pub record IsPlaced (f : Frame) (c : Cell) : Type 0 where
   pub acts : c.acts ≡ can_act f c.spot
   pub wanted : option_map shape c.wanted ≡ wanted_shape f c.spot
 
--- The formula of a place, with this text and this tree, in which positions are told from this byte on.
-pub record IsCell (f : Frame) (s : Spot) (from : ℕ) (words : List ℕ) (e : Tree) (c : Cell) : Type 0 where
+-- The formula of a place, with this text and this tree, in which positions are told from this byte
+-- on.
+pub record IsCell (f : Frame) (s : Spot) (from : ℕ) (words : List ℕ) (e : Tree) (c : Cell) : Type
+    0 where
   pub placed : IsPlaced f c
   pub spot : c.spot ≡ s
   pub at : c.at ≡ from
@@ -119,8 +124,8 @@ IsTableInLimits t = (length t.columns ≤ 63) × All (λ (c : Column). IsColumnT
 abbrev pub IsControl : Frame → ControlName → Type 0
 IsControl f c = (c.screen < length f.screens) × IsLawfulGallery f.controls c.gallery
 
--- WHAT A FRAME HAS, whatever its names: so many tables, screens and controls, columns of such types, and controls that
--- stand on screens, and in galleries where they stand in something.
+-- WHAT A FRAME HAS, whatever its names: so many tables, screens and controls, columns of such
+-- types, and controls that stand on screens, and in galleries where they stand in something.
 pub record IsFrame (f : Frame) : Type 0 where
   pub few_tables : length f.schema.tables ≤ 32
   pub tables : All IsTableInLimits f.schema.tables

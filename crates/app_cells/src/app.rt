@@ -19,11 +19,11 @@ pub struct CellInfo {
     pub ty: Ty,
     /// What the tree names, each once, in the order of sources.
     pub reads: Sources,
-    /// The sources, cells aside, that it or a formula to which a path of leaning leads from it names, each once, in the order
-    /// of sources.
+    /// The sources, cells aside, that it or a formula to which a path of leaning leads from it
+    /// names, each once, in the order of sources.
     pub support: Sources,
-    /// The tree in which each query expression that isn't taken whole gives its first rows, as many as the app's row limit.
-    /// It is the one that is evaluated.
+    /// The tree in which each query expression that isn't taken whole gives its first rows, as many
+    /// as the app's row limit. It is the one that is evaluated.
     pub taken: Core,
     /// Where the formula takes rows of tables, in the order in which its query expressions begin.
     pub sites: SiteList,
@@ -31,10 +31,11 @@ pub struct CellInfo {
 
 /// An accepted app.
 pub struct App {
-    /// What its formulas may name, with the types that these have, and its tables, screens and controls.
+    /// What its formulas may name, with the types that these have, and its tables, screens and
+    /// controls.
     pub names: Names,
-    /// Its formulas: named formulas by the order of their text, what runs at the start, and for each screen what runs when it
-    /// is shown, and the properties of its controls.
+    /// Its formulas: named formulas by the order of their text, what runs at the start, and for
+    /// each screen what runs when it is shown, and the properties of its controls.
     pub cells: InOrder<CellInfo>,
     /// The numbers of all its formulas, each behind those that it leans on.
     pub order: InOrder<u32>,
@@ -42,7 +43,8 @@ pub struct App {
     pub limit: u32,
 }
 
-// By hand, so that it is called: what is derived is opened wherever a value may end, which costs proofs seconds each time.
+// By hand, so that it is called: what is derived is opened wherever a value may end, which costs
+// proofs seconds each time.
 impl Drop for App {
     fn drop(self) {
         let App {

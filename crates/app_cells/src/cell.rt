@@ -19,8 +19,8 @@ pub enum Spot {
 
 /// A formula of an app, where it is written.
 pub struct Cell {
-    /// Its address, as `Total`, `App.OnStart`, `Home.OnVisible` or `Count.Text`. A name that has a `.` or a `'` in it
-    /// stands quoted.
+    /// Its address, as `Total`, `App.OnStart`, `Home.OnVisible` or `Count.Text`. A name that has a
+    /// `.` or a `'` in it stands quoted.
     pub name: Words,
     pub spot: Spot,
     /// The number of the screen that it stands on.
@@ -31,14 +31,16 @@ pub struct Cell {
     pub acts: bool,
     /// The type that is wanted of it. A table type without columns stands for every table type.
     pub wanted: Option<Ty>,
-    /// The byte at which its first token begins in the text in which its positions are told so far: 0, but for a formula that
-    /// stands in the text of the named formulas, and for one that an edit gave.
+    /// The byte at which its first token begins in the text in which its positions are told so far:
+    /// 0, but for a formula that stands in the text of the named formulas, and for one that an edit
+    /// gave.
     pub at: u32,
     pub text: Words,
     pub expr: Expr,
 }
 
-// By hand, so that it is called: what is derived is opened wherever a value may end, which costs proofs seconds each time.
+// By hand, so that it is called: what is derived is opened wherever a value may end, which costs
+// proofs seconds each time.
 impl Drop for Cell {
     fn drop(self) {
         let Cell {

@@ -1,5 +1,6 @@
 //! The places where formulas may stand, and what each makes of its formula.
-ghost use Rattle.std.specs.Prelude.{◌≡◌, ◌++◌, IfOk, Some, codes, encode_utf8_all, option_map, slice_get};
+ghost use Rattle.std.specs.Prelude.{◌≡◌, ◌++◌, IfOk, Some, codes, encode_utf8_all, option_map};
+ghost use Rattle.std.specs.Prelude.{slice_get};
 ghost use Rattle.std.specs.Str.{IsAscii};
 ghost use Rattle.fx_types.specs.TypeView.{shape};
 ghost use Rattle.fx_core.specs.BrokenText.{address_of};
@@ -167,7 +168,8 @@ fn due_type(alloc: Global, frame: &Frame, spot: &Spot) -> Option<Ty>
     }
 }
 
-/// The formula at a place, of this text and this tree, in which positions are told from this byte on.
+/// The formula at a place, of this text and this tree, in which positions are told from this byte
+/// on.
 pub fn cell_at(
     alloc: Global,
     frame: &Frame,

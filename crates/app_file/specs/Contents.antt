@@ -1,6 +1,7 @@
--- What an app file of the form holds, as it is written. What is missing has its default; of a file that isn't of the form
--- nothing of this counts.
-use Rattle.std.specs.Prelude.{ℕ, List, [], ◌∷◌, ◌++◌, Bool, false, Option, option_and_then, option_map, unwrap_or, codes}
+-- What an app file of the form holds, as it is written. What is missing has its default; of a file
+-- that isn't of the form nothing of this counts.
+use Rattle.std.specs.Prelude.{ℕ, List, [], ◌∷◌, ◌++◌, Bool, false, Option, option_and_then}
+use Rattle.std.specs.Prelude.{option_map, unwrap_or, codes}
 use Rattle.std.specs.List.{filter_map}
 use Rattle.serde_json.specs.Data.{Data}
 use Rattle.serde_json.specs.Find.{as_bool, as_str, get}
@@ -16,7 +17,8 @@ use Rattle.app_file.specs.declared.file.ControlShape.{ControlShape}
 use Rattle.app_file.specs.declared.file.PropertyText.{PropertyText}
 use Rattle.app_file.specs.declared.file.ScreenShape.{ScreenShape}
 use Rattle.app_file.specs.Forms.{elements}
-use Rattle.app_file.specs.FormOfApp.{column_type_of, gallery_before, control_kind, property_names, row_limit_of}
+use Rattle.app_file.specs.FormOfApp.{column_type_of, gallery_before, control_kind, property_names}
+use Rattle.app_file.specs.FormOfApp.{row_limit_of}
 
 -- what a member holds, or this where there is none
 abbrev pub member_at : {A : Type 0} → (Data → A) → List ℕ → A → Data → A
@@ -55,7 +57,10 @@ column before d = record {
 }
 
 abbrev pub table_shape : List Data → Data → TableShape
-table_shape before d = record { name = member_at words (codes "name") [] d; columns = member_at (all_elements column) (codes "columns") [] d }
+table_shape before d = record {
+  name = member_at words (codes "name") [] d;
+  columns = member_at (all_elements column) (codes "columns") [] d;
+}
 
 -- the properties of these names that are written, in this order, empty texts among them
 abbrev pub property : Data → List ℕ → Option PropertyText

@@ -1,5 +1,6 @@
 -- App files: what is read of their bytes, or what is broken of them.
-use Rattle.std.specs.Prelude.{◌≡◌, ◌<◌, ◌≤◌, ◌++◌, ◌⊎◌, ℕ, List, Some, None, Result, Ok, Err, length, codes}
+use Rattle.std.specs.Prelude.{◌≡◌, ◌<◌, ◌≤◌, ◌++◌, ◌⊎◌, ℕ, List, Some, None, Result, Ok, Err}
+use Rattle.std.specs.Prelude.{length, codes}
 use Rattle.std.specs.Fmt.{decimal}
 use Rattle.std.specs.Str.{IsUtf8}
 use Rattle.serde_json.specs.Data.{Data}
@@ -31,18 +32,24 @@ pub record HasJson (file : List ℕ) (root : Data) : Type 0 where
   pub utf8 : IsUtf8 file
   pub json : read file ≡ Some root
 
--- What is read of JSON: a part of it breaks the form, and of several such parts any is told; it passes a limit; or it holds
--- an app.
+-- What is read of JSON: a part of it breaks the form, and of several such parts any is told; it
+-- passes a limit; or it holds an app.
 pub data IsReadOf : Data → Result AppFile FileBreak → Type 0 where
-  bad_part : (root : Data) (path : List Step) → BreaksForm app_form root path → IsReadOf root (Err (broken.BadPart (path_text path)))
-  passed : (root : Data) (l : Limit) (count : ℕ) → IsFine app_form root → first_passed limits (app_of root) ≡ Some (l, count) → IsReadOf root (Err (broken.Passed l count))
-  app : (root : Data) → IsFine app_form root → first_passed limits (app_of root) ≡ None → IsReadOf root (Ok (app_of root))
+  bad_part : (root : Data) (path : List Step) → BreaksForm app_form root path
+      → IsReadOf root (Err (broken.BadPart (path_text path)))
+  passed : (root : Data) (l : Limit) (count : ℕ) → IsFine app_form root
+      → first_passed limits (app_of root) ≡ Some (l, count)
+      → IsReadOf root (Err (broken.Passed l count))
+  app : (root : Data) → IsFine app_form root → first_passed limits (app_of root) ≡ None
+      → IsReadOf root (Ok (app_of root))
 
 -- WHAT IS READ OF A FILE: it is too long, or it is no JSON, or this is read of its JSON.
 pub data IsRead : List ℕ → Result AppFile FileBreak → Type 0 where
   too_long : (file : List ℕ) → most_file_bytes < length file → IsRead file (Err broken.TooLong)
-  no_json : (file : List ℕ) → length file ≤ most_file_bytes → ((root : Data) → HasJson file root → ⊥) → IsRead file (Err broken.NoJson)
-  json : (file : List ℕ) (root : Data) (v : Result AppFile FileBreak) → HasJson file root → IsReadOf root v → IsRead file v
+  no_json : (file : List ℕ) → length file ≤ most_file_bytes
+      → ((root : Data) → HasJson file root → ⊥) → IsRead file (Err broken.NoJson)
+  json : (file : List ℕ) (root : Data) (v : Result AppFile FileBreak) → HasJson file root
+      → IsReadOf root v → IsRead file v
 
 -- an end tells of a break of which this holds; of want of memory nothing is said
 abbrev pub TellsFileBreak : (FileBreak → Type 0) → OrMemory FileBreak → Type 0
@@ -85,7 +92,8 @@ IsBadPartOf end.Memory (end.Refused b) = ⊥
 
 -- no file is both read and broken, and what is read is one app
 abbrev pub IsOneReading : Type 0
-IsOneReading = (file : List ℕ) (a : AppFile) (v : Result AppFile FileBreak) → IsRead file (Ok a) → IsRead file v → v ≡ Ok a
+IsOneReading = (file : List ℕ) (a : AppFile) (v : Result AppFile FileBreak) → IsRead file (Ok a)
+    → IsRead file v → v ≡ Ok a
 
 -- of a file that is broken one thing is told, but for which of its bad parts
 abbrev pub IsBadPart : FileBreak → Type 0
@@ -93,4 +101,5 @@ IsBadPart (broken.BadPart path) = Unit {0}
 IsBadPart b = ⊥
 
 abbrev pub IsOneBreak : Type 0
-IsOneBreak = (file : List ℕ) (b c : FileBreak) → IsRead file (Err b) → IsRead file (Err c) → (b ≡ c) ⊎ (IsBadPart b × IsBadPart c)
+IsOneBreak = (file : List ℕ) (b c : FileBreak) → IsRead file (Err b) → IsRead file (Err c)
+    → (b ≡ c) ⊎ (IsBadPart b × IsBadPart c)

@@ -1,5 +1,6 @@
 -- The form of an app file.
-use Rattle.std.specs.Prelude.{ℕ, List, [], ◌∷◌, Bool, true, false, ◌&&◌, nat_le, Option, Some, None, option_and_then, is_some, codes, bytes_eq, if◌then◌else◌}
+use Rattle.std.specs.Prelude.{ℕ, List, [], ◌∷◌, Bool, true, false, ◌&&◌, nat_le, Option, Some, None}
+use Rattle.std.specs.Prelude.{option_and_then, is_some, codes, bytes_eq, if◌then◌else◌}
 use Rattle.std.specs.List.{position_from}
 use Rattle.serde_json.specs.Data.{Data}
 use Rattle.serde_json.specs.Find.{as_bool, as_number, as_str, as_u64, get}
@@ -9,7 +10,8 @@ use Rattle.fx_types.specs.declared.types.Ty.{Ty}
 use Rattle.fx_types.specs.declared.types.Ty.TheVariants as ty
 use Rattle.app_file.specs.declared.leaves.Format.{Format}
 use Rattle.app_file.specs.declared.leaves.Format.TheVariants.{First}
-use Rattle.app_file.specs.Forms.{Form, such, in_turn, members, by_itself, Fields, no_more, field, elements}
+use Rattle.app_file.specs.Forms.{Form, such, in_turn, members, by_itself, Fields, no_more, field}
+use Rattle.app_file.specs.Forms.{elements}
 
 -- a member that must stand, and one that may
 abbrev pub must : List ℕ → Form → Fields → Fields
@@ -86,18 +88,24 @@ flag = leaf as_bool
 
 abbrev pub column_fields : Fields
 column_fields =
-    must (codes "name") name (must (codes "type") (leaf column_type_of) (may (codes "required") flag (may (codes "unique") flag (may (codes "indexed") flag no_more))))
+    must (codes "name") name (must (codes "type") (leaf column_type_of)
+    (may (codes "required") flag (may (codes "unique") flag
+    (may (codes "indexed") flag no_more))))
 
 abbrev pub table_fields : Fields
-table_fields = must (codes "name") name (must (codes "columns") (each (members column_fields)) no_more)
+table_fields = must (codes "name") name (must (codes "columns") (each (members column_fields))
+    no_more)
 
--- the properties of each kind in the order of apps: Visible, the others that are pure, and those that act
+-- the properties of each kind in the order of apps: Visible, the others that are pure, and those
+-- that act
 abbrev pub property_names : Control → List (List ℕ)
 property_names control.Label = codes "Visible" ∷ codes "Text" ∷ codes "OnSelect" ∷ []
 property_names control.Button = codes "Visible" ∷ codes "Text" ∷ codes "OnSelect" ∷ []
 property_names control.TextInput = codes "Visible" ∷ codes "Default" ∷ codes "OnChange" ∷ []
-property_names control.Slider = codes "Visible" ∷ codes "Min" ∷ codes "Max" ∷ codes "Default" ∷ codes "OnChange" ∷ []
-property_names control.Checkbox = codes "Visible" ∷ codes "Text" ∷ codes "Default" ∷ codes "OnCheck" ∷ codes "OnUncheck" ∷ []
+property_names control.Slider = codes "Visible" ∷ codes "Min" ∷ codes "Max" ∷ codes "Default"
+    ∷ codes "OnChange" ∷ []
+property_names control.Checkbox = codes "Visible" ∷ codes "Text" ∷ codes "Default" ∷ codes "OnCheck"
+    ∷ codes "OnUncheck" ∷ []
 property_names control.DatePicker = codes "Visible" ∷ codes "DefaultDate" ∷ codes "OnChange" ∷ []
 property_names control.Gallery = codes "Visible" ∷ codes "Items" ∷ codes "OnSelect" ∷ []
 
@@ -124,7 +132,8 @@ is_text_at key t d = is_this t (option_and_then as_str (get key d))
 
 -- a control is a gallery of this name
 abbrev pub is_gallery_shape : List ℕ → Data → Bool
-is_gallery_shape x d = is_text_at (codes "name") x d && is_text_at (codes "kind") (codes "Gallery") d
+is_gallery_shape x d = is_text_at (codes "name") x d
+    && is_text_at (codes "kind") (codes "Gallery") d
 
 -- the place of the first gallery of this name among these controls
 abbrev pub gallery_place : List Data → List ℕ → Option ℕ
@@ -132,14 +141,18 @@ gallery_place before x = position_from (is_gallery_shape x) 0 before
 
 -- the place of the gallery that is named, before a control of this kind, which may stand in it
 abbrev pub gallery_before : List Data → Control → Data → Option ℕ
-gallery_before before kind d = if may_stand_in_gallery kind then option_and_then (gallery_place before) (as_str d) else None
+gallery_before before kind d = if may_stand_in_gallery kind then option_and_then
+    (gallery_place before) (as_str d) else None
 
 -- what a kind asks of its control
 abbrev pub control_fields : List Data → Option Control → Fields
 control_fields before (Some kind) =
-    must (codes "name") name (must (codes "kind") (leaf control_kind) (may (codes "in") (leaf (gallery_before before kind)) (may (codes "properties") (properties_form kind) no_more)))
+    must (codes "name") name (must (codes "kind") (leaf control_kind)
+    (may (codes "in") (leaf (gallery_before before kind))
+    (may (codes "properties") (properties_form kind) no_more)))
 control_fields before None =
-    must (codes "name") name (must (codes "kind") (leaf control_kind) (may (codes "in") anything (may (codes "properties") anything no_more)))
+    must (codes "name") name (must (codes "kind") (leaf control_kind)
+    (may (codes "in") anything (may (codes "properties") anything no_more)))
 
 abbrev pub kind_member : Data → Option Control
 kind_member d = option_and_then control_kind (get (codes "kind") d)
@@ -149,7 +162,8 @@ abbrev pub control_form : List Data → Form
 control_form before = by_itself (λ d. members (control_fields before (kind_member d)))
 
 abbrev pub screen_fields : Fields
-screen_fields = must (codes "name") name (may (codes "onVisible") text (must (codes "controls") (in_turn control_form) no_more))
+screen_fields = must (codes "name") name (may (codes "onVisible") text
+    (must (codes "controls") (in_turn control_form) no_more))
 
 -- one screen at least
 abbrev pub is_empty_list : Option (List Data) → Bool
@@ -167,8 +181,11 @@ screens_form = by_itself (λ d. screens_form_of (is_empty_list (elements d)))
 -- THE FORM OF AN APP FILE
 abbrev pub app_fields : Fields
 app_fields =
-    must (codes "format") (leaf format_member) (may (codes "rowLimit") (leaf row_limit_of) (may (codes "tables") (each (members table_fields))
-    (may (codes "formulas") text (may (codes "onStart") text (must (codes "screens") screens_form no_more)))))
+    must (codes "format") (leaf format_member)
+    (may (codes "rowLimit") (leaf row_limit_of)
+    (may (codes "tables") (each (members table_fields))
+    (may (codes "formulas") text (may (codes "onStart") text
+    (must (codes "screens") screens_form no_more)))))
 
 abbrev pub app_form : Form
 app_form = members app_fields

@@ -1,5 +1,6 @@
 -- The limits of what an app file itself holds.
-use Rattle.std.specs.Prelude.{ℕ, List, [], ◌∷◌, ◌++◌, Option, Some, None, nat_lt, length, map, flat_map, encode_utf8_all}
+use Rattle.std.specs.Prelude.{ℕ, List, [], ◌∷◌, ◌++◌, Option, Some, None, nat_lt, length, map}
+use Rattle.std.specs.Prelude.{flat_map, encode_utf8_all}
 use Rattle.std.specs.List.{find}
 use Rattle.fx_core.specs.declared.schema.Column.{Column}
 use Rattle.fx_core.specs.declared.schema.TableShape.{TableShape}
@@ -66,7 +67,8 @@ passed_of a l = find (nat_lt (most_allowed l)) (counts_of l a)
 
 -- the limits in their order
 abbrev pub limits : List Limit
-limits = limit.Formula ∷ limit.NamedFormulas ∷ limit.Name ∷ limit.Screens ∷ limit.Controls ∷ limit.Tables ∷ limit.Columns ∷ []
+limits = limit.Formula ∷ limit.NamedFormulas ∷ limit.Name ∷ limit.Screens ∷ limit.Controls
+    ∷ limit.Tables ∷ limit.Columns ∷ []
 
 -- the first of these limits that is passed, and the count that passes it first
 abbrev pub first_limit_passed : Limit → Option ℕ → Option (Limit × ℕ) → Option (Limit × ℕ)

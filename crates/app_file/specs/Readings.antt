@@ -1,5 +1,6 @@
 -- What reading a part of a file tells.
-use Rattle.std.specs.Prelude.{◌≡◌, ℕ, List, [], ◌∷◌, Bool, true, false, Option, Some, None, is_some, slice_get, take}
+use Rattle.std.specs.Prelude.{◌≡◌, ℕ, List, [], ◌∷◌, Bool, true, false, Option, Some, None, is_some}
+use Rattle.std.specs.Prelude.{slice_get, take}
 use Rattle.serde_json.specs.Data.{Data, Members, no_members, member}
 use Rattle.serde_json.specs.Find.{as_object, get}
 use Rattle.fx_base.specs.declared.or_memory.OrMemory.{OrMemory}
@@ -28,8 +29,10 @@ IsFineMember needed f (Some x) = IsFine f x
 
 -- a part of an object breaks the form of this member
 pub data IsBadMember : Bool → List ℕ → Form → Data → List Step → Type 0 where
-  missing : (key : List ℕ) (f : Form) (d : Data) → is_some (as_object d) ≡ true → get key d ≡ None → IsBadMember true key f d (Member (scalars_of key) ∷ [])
-  below : (needed : Bool) (key : List ℕ) (f : Form) (d x : Data) (path : List Step) → get key d ≡ Some x → BreaksForm f x path
+  missing : (key : List ℕ) (f : Form) (d : Data) → is_some (as_object d) ≡ true → get key d ≡ None
+      → IsBadMember true key f d (Member (scalars_of key) ∷ [])
+  below : (needed : Bool) (key : List ℕ) (f : Form) (d x : Data) (path : List Step)
+      → get key d ≡ Some x → BreaksForm f x path
       → IsBadMember needed key f d (Member (scalars_of key) ∷ path)
 
 -- data is an object with no other keys than such a one's
@@ -44,7 +47,8 @@ HasOnlyKeys keys (Some ms) = HaveOnlyKeys keys ms
 -- data is no object, or has another key
 pub data IsBadObject : List (List ℕ) → Data → List Step → Type 0 where
   none : (keys : List (List ℕ)) (d : Data) → as_object d ≡ None → IsBadObject keys d []
-  other : (keys : List (List ℕ)) (d : Data) (key : List ℕ) → HasKey key (as_object d) → is_known_key keys key ≡ false → IsBadObject keys d (Member (scalars_of key) ∷ [])
+  other : (keys : List (List ℕ)) (d : Data) (key : List ℕ) → HasKey key (as_object d)
+      → is_known_key keys key ≡ false → IsBadObject keys d (Member (scalars_of key) ∷ [])
 
 -- each of these elements has the form that those before it ask for
 abbrev pub AreWellFormed : (List Data → Form) → List Data → Type 0
@@ -52,4 +56,6 @@ AreWellFormed f ds = (k : ℕ) (x : Data) → slice_get ds k ≡ Some x → IsFi
 
 -- a part of one of these elements breaks that form
 pub data IsBadAmong : (List Data → Form) → List Data → List Step → Type 0 where
-  at : (f : List Data → Form) (ds : List Data) (k : ℕ) (x : Data) (path : List Step) → slice_get ds k ≡ Some x → BreaksForm (f (take k ds)) x path → IsBadAmong f ds (Element k ∷ path)
+  at : (f : List Data → Form) (ds : List Data) (k : ℕ) (x : Data) (path : List Step)
+      → slice_get ds k ≡ Some x → BreaksForm (f (take k ds)) x path
+      → IsBadAmong f ds (Element k ∷ path)

@@ -18,8 +18,8 @@ pub struct PropertyText {
 pub struct ControlShape {
     pub name: Words,
     pub kind: Control,
-    /// The place of the gallery that it stands in among the controls of its screen, from 0: of the first gallery of the
-    /// name that is written.
+    /// The place of the gallery that it stands in among the controls of its screen, from 0: of the
+    /// first gallery of the name that is written.
     pub gallery: Option<usize>,
     /// The properties that are written: Visible, the others that are pure, and those that act.
     pub properties: InOrder<PropertyText>,

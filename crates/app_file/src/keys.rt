@@ -81,7 +81,8 @@ fn is_one_of(key: &str, keys: &[&str]) -> bool
 // The first key that is none of these.
 fn other_key<'a>(members: &'a Map<String, Json>, keys: &[&str]) -> Option<&'a str>
     ensures { option_map (λ k. k.now) result
-        ≡ find (λ k. not (is_known_key (map (λ x. x.now) keys.now) k)) (map string_bytes (keys_in members.now)) }
+        ≡ find (λ k. not (is_known_key (map (λ x. x.now) keys.now) k))
+        (map string_bytes (keys_in members.now)) }
 {
     for key in members.keys() {
         if !is_one_of(key.as_str(), keys) {

@@ -6,7 +6,8 @@ pub fn one_reading()
     ensures { IsOneReading }
 {}
 
-/// A law, and no work: of a file that is broken one thing is told. Which of several bad parts is told is left open.
+/// A law, and no work: of a file that is broken one thing is told. Which of several bad parts is
+/// told is left open.
 pub fn one_break()
     ensures { IsOneBreak }
 {}

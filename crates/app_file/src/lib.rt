@@ -1,4 +1,5 @@
-//! App files: JSON that names the tables, screens and controls of an app, with the texts of its formulas.
+//! App files: JSON that names the tables, screens and controls of an app, with the texts of its
+//! formulas.
 #![tactic(auto)]
 
 pub mod breaks;

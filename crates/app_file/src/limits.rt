@@ -66,7 +66,8 @@ fn bytes_of(text: &Words) -> usize
 }
 
 fn put_control_texts(control: &ControlShape, counts: &mut Vec<usize>) -> Result<(), Memory>
-    ensures { OnOk result (counts.new.items ≡ counts.old.items ++ map table.utf8_length (table.control_texts control.now)) }
+    ensures { OnOk result (counts.new.items ≡ counts.old.items
+        ++ map table.utf8_length (table.control_texts control.now)) }
 {
     for property in control.properties.as_slice() {
         counts.push(bytes_of(&property.text))?;
@@ -75,7 +76,8 @@ fn put_control_texts(control: &ControlShape, counts: &mut Vec<usize>) -> Result<
 }
 
 fn put_screen_texts(screen: &ScreenShape, counts: &mut Vec<usize>) -> Result<(), Memory>
-    ensures { OnOk result (counts.new.items ≡ counts.old.items ++ map table.utf8_length (table.screen_texts screen.now)) }
+    ensures { OnOk result (counts.new.items ≡ counts.old.items
+        ++ map table.utf8_length (table.screen_texts screen.now)) }
 {
     counts.push(bytes_of(&screen.on_visible))?;
     for control in screen.controls.as_slice() {
@@ -97,7 +99,8 @@ fn text_counts(alloc: Global, app: &AppFile) -> Result<Vec<usize>, Memory>
 }
 
 fn put_table_names(shape: &TableShape, counts: &mut Vec<usize>) -> Result<(), Memory>
-    ensures { OnOk result (counts.new.items ≡ counts.old.items ++ map length (table.names_of_table shape.now)) }
+    ensures { OnOk result (counts.new.items ≡ counts.old.items
+        ++ map length (table.names_of_table shape.now)) }
 {
     counts.push(length_of(&shape.name))?;
     for column in shape.columns.as_slice() {
@@ -107,7 +110,8 @@ fn put_table_names(shape: &TableShape, counts: &mut Vec<usize>) -> Result<(), Me
 }
 
 fn put_control_names(screen: &ScreenShape, counts: &mut Vec<usize>) -> Result<(), Memory>
-    ensures { OnOk result (counts.new.items ≡ counts.old.items ++ map length (table.names_of_controls screen.now)) }
+    ensures { OnOk result (counts.new.items ≡ counts.old.items
+        ++ map length (table.names_of_controls screen.now)) }
 {
     for control in screen.controls.as_slice() {
         counts.push(length_of(&control.name))?;
@@ -116,7 +120,8 @@ fn put_control_names(screen: &ScreenShape, counts: &mut Vec<usize>) -> Result<()
 }
 
 fn put_screen_names(screen: &ScreenShape, counts: &mut Vec<usize>) -> Result<(), Memory>
-    ensures { OnOk result (counts.new.items ≡ counts.old.items ++ map length (table.names_of_screen screen.now)) }
+    ensures { OnOk result (counts.new.items ≡ counts.old.items
+        ++ map length (table.names_of_screen screen.now)) }
 {
     counts.push(length_of(&screen.name))?;
     put_control_names(screen, counts)

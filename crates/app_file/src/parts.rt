@@ -1,11 +1,13 @@
 //! Parts of an app file, and how each kind is read.
-ghost use Rattle.std.specs.Prelude.{◌≡◌, List, [], Some, IfErr, IfOk, false, is_some, map, option_map, true};
+ghost use Rattle.std.specs.Prelude.{◌≡◌, List, [], Some, IfErr, IfOk, false, is_some, map};
+ghost use Rattle.std.specs.Prelude.{option_map, true};
 ghost use Rattle.serde_json.specs.Data.{Data};
 ghost use Rattle.serde_json.specs.Find.{as_object, get};
 ghost use Rattle.serde_json.specs.View.{view};
 ghost use Rattle.app_file.specs.Contents.{all_behind, member_at};
 ghost use Rattle.app_file.specs.Forms.{Form, BreaksForm, IsFine};
-ghost use Rattle.app_file.specs.Readings.{AreWellFormed, IsBadAmong, IsBadMember, IsFineMember, TellsPath};
+ghost use Rattle.app_file.specs.Readings.{AreWellFormed, IsBadAmong, IsBadMember, IsFineMember};
+ghost use Rattle.app_file.specs.Readings.{TellsPath};
 
 use crate::paths::{Unread, in_element, in_member, unread_member, unreadable};
 use fx_base::InOrder;
@@ -34,7 +36,8 @@ pub trait Element: Sized {
     fn read_behind(alloc: Global, before: &[Json], part: &Json) -> Result<Self, Unread>
         ensures ok { IfOk result (λ a. IsFine (element_form (map view before.now)) (view part.now)
             × (a ≡ element_held (map view before.now) (view part.now))) }
-        ensures bad { IfErr result (TellsPath (BreaksForm (element_form (map view before.now)) (view part.now))) };
+        ensures bad { IfErr result (TellsPath
+            (BreaksForm (element_form (map view before.now)) (view part.now))) };
 }
 
 /// A member that must stand.

@@ -27,9 +27,9 @@ const MOST_BYTES: usize = 4_194_304;
 /// The row limit of an app whose file gives none.
 const ROW_LIMIT: RowLimit = RowLimit(500);
 
-/// The app that a file holds, as it is written. A file is refused that is too long, is no JSON in UTF-8, isn't of the form
-/// of app files, or passes a limit, and the first of these is told. Nothing is said of names that stand twice, or of what
-/// the texts of formulas are.
+/// The app that a file holds, as it is written. A file is refused that is too long, is no JSON in
+/// UTF-8, isn't of the form of app files, or passes a limit, and the first of these is told.
+/// Nothing is said of names that stand twice, or of what the texts of formulas are.
 pub fn read(alloc: Global, bytes: &[u8]) -> Result<AppFile, OrMemory<FileBreak>>
     ensures app { IfOk result (λ a. IsRead bytes.now (Ok a)) }
     ensures refused { IfErr result (TellsFileBreak (λ b. IsRead bytes.now (Err b))) }

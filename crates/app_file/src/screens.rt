@@ -1,5 +1,6 @@
 //! The screens of an app file, with their controls.
-ghost use Rattle.std.specs.Prelude.{◌≡◌, ◌++◌, ◌∷◌, [], IfErr, IfOk, MatchOption, OnOk, codes, false, map, option_and_then};
+ghost use Rattle.std.specs.Prelude.{◌≡◌, ◌++◌, ◌∷◌, [], IfErr, IfOk, MatchOption, OnOk, codes};
+ghost use Rattle.std.specs.Prelude.{false, map, option_and_then};
 ghost use Rattle.serde_json.specs.Find.{get};
 ghost use Rattle.serde_json.specs.View.{view};
 ghost use Rattle.app_file.specs.Contents as held;
@@ -74,9 +75,13 @@ fn read_gallery(
     kind: Control,
     part: &Json,
 ) -> Result<Option<usize>, Unread>
-    ensures ok { IfOk result (λ g. IsFineMember false (leaf (form_of_app.gallery_before (map view before.now) kind)) (get (codes "in") (view part.now))
-        × (g ≡ option_and_then (form_of_app.gallery_before (map view before.now) kind) (get (codes "in") (view part.now)))) }
-    ensures bad { IfErr result (TellsPath (IsBadMember false (codes "in") (leaf (form_of_app.gallery_before (map view before.now) kind)) (view part.now))) }
+    ensures ok { IfOk result (λ g. IsFineMember false
+        (leaf (form_of_app.gallery_before (map view before.now) kind))
+        (get (codes "in") (view part.now))
+        × (g ≡ option_and_then (form_of_app.gallery_before (map view before.now) kind)
+        (get (codes "in") (view part.now)))) }
+    ensures bad { IfErr result (TellsPath (IsBadMember false (codes "in")
+        (leaf (form_of_app.gallery_before (map view before.now) kind)) (view part.now))) }
 {
     match part.get("in") {
         Some(member) => match gallery_of(before, kind, member) {
@@ -91,7 +96,8 @@ fn read_gallery(
 fn read_property(alloc: Global, part: &Json, key: &str) -> Result<Option<PropertyText>, Unread>
     ensures ok { IfOk result (λ p. IsFineMember false form_of_app.text (get key.now (view part.now))
         × (p ≡ held.property (view part.now) key.now)) }
-    ensures bad { IfErr result (TellsPath (IsBadMember false key.now form_of_app.text (view part.now))) }
+    ensures bad { IfErr result (TellsPath (IsBadMember false key.now form_of_app.text
+        (view part.now))) }
 {
     match part.get(key) {
         Some(member) => match <Words as Part>::read(alloc, member) {
@@ -110,7 +116,8 @@ fn put_property(
     property: Option<PropertyText>,
     properties: &mut InOrder<PropertyText>,
 ) -> Result<(), Memory>
-    ensures { OnOk result (MatchOption property (properties.new ≡ properties.old) (λ p. properties.new ≡ properties.old ++ p ∷ [])) }
+    ensures { OnOk result (MatchOption property (properties.new ≡ properties.old)
+        (λ p. properties.new ≡ properties.old ++ p ∷ [])) }
 {
     if let Some(property) = property {
         properties.push(property)?;
@@ -124,7 +131,8 @@ fn read_properties(
     kind: Control,
     part: &Json,
 ) -> Result<InOrder<PropertyText>, Unread>
-    ensures ok { IfOk result (λ ps. IsFine (properties_form kind) (view part.now) × (ps ≡ held.properties kind (view part.now))) }
+    ensures ok { IfOk result (λ ps. IsFine (properties_form kind) (view part.now)
+        × (ps ≡ held.properties kind (view part.now))) }
     ensures bad { IfErr result (TellsPath (BreaksForm (properties_form kind) (view part.now))) }
 {
     check_keys(alloc, part, Object::Properties(kind))?;
@@ -138,9 +146,11 @@ fn read_properties(
 
 // The properties of a control of this kind, if some are written.
 fn properties_at(alloc: Global, kind: Control, part: &Json) -> Result<InOrder<PropertyText>, Unread>
-    ensures ok { IfOk result (λ ps. IsFineMember false (properties_form kind) (get (codes "properties") (view part.now))
+    ensures ok { IfOk result (λ ps. IsFineMember false (properties_form kind)
+        (get (codes "properties") (view part.now))
         × (ps ≡ member_at (held.properties kind) (codes "properties") [] (view part.now))) }
-    ensures bad { IfErr result (TellsPath (IsBadMember false (codes "properties") (properties_form kind) (view part.now))) }
+    ensures bad { IfErr result (TellsPath (IsBadMember false (codes "properties")
+        (properties_form kind) (view part.now))) }
 {
     match part.get("properties") {
         Some(member) => match read_properties(alloc, kind, member) {

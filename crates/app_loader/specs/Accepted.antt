@@ -19,8 +19,8 @@ HaveOneTemplate cells =
     (i j : ℕ) (c d : Cell) (k : ℕ) → slice_get cells i ≡ Some c → slice_get cells j ≡ Some d
     → c.spot ≡ spot.Property k (codes "Items") → d.spot ≡ spot.Property k (codes "Items") → i ≡ j
 
--- An app that formulas are judged as: they stand where they say, no gallery has two formulas of its items, and these are their names. Names and types
--- are lawful, as those in memory are.
+-- An app that formulas are judged as: they stand where they say, no gallery has two formulas of its
+-- items, and these are their names. Names and types are lawful, as those in memory are.
 pub record IsAcceptedApp (f : Frame) (cells : List Cell) (most : ℕ) (a : App) : Type 0 where
   pub first : Names
   pub named : AreNamesOf f cells first
@@ -33,8 +33,10 @@ pub record IsAcceptedApp (f : Frame) (cells : List Cell) (most : ℕ) (a : App) 
 
 -- an accepted app is sound
 abbrev pub AcceptedIsSound : Type 0
-AcceptedIsSound = (f : Frame) (cells : List Cell) (most : ℕ) (a : App) → IsAcceptedApp f cells most a → IsSoundApp a
+AcceptedIsSound = (f : Frame) (cells : List Cell) (most : ℕ) (a : App)
+    → IsAcceptedApp f cells most a → IsSoundApp a
 
 -- each of its collections has the type of a table
 abbrev pub AcceptedHoldsTables : Type 0
-AcceptedHoldsTables = (f : Frame) (cells : List Cell) (most : ℕ) (a : App) → IsAcceptedApp f cells most a → HoldsTables a.names
+AcceptedHoldsTables = (f : Frame) (cells : List Cell) (most : ℕ) (a : App)
+    → IsAcceptedApp f cells most a → HoldsTables a.names

@@ -25,14 +25,17 @@ IsAdmitted m c = (x : Term × Shape) × (judged_cell m c ≡ Ok x)
 abbrev pub Breaks : Names → Cell → Broken → Type 0
 Breaks m c b =
     (r : Rule) × (at : ℕ) × (said : List ℕ) × (judged_cell m c ≡ Err (at, rule_number r))
-    × IsToldBrokenWhole (cell_place m c) c.acts (option_map shape c.wanted) c.expr at (rule_number r) said × (b ≡ in_cell c r at said)
+    × IsToldBrokenWhole (cell_place m c) c.acts (option_map shape c.wanted) c.expr at
+    (rule_number r) said × (b ≡ in_cell c r at said)
 
 -- the breaks of things in their order: one at most of each, and none of one that is fine
-abbrev pub AreBreaks : {A : Type 0} → (A → Type 0) → (A → Broken → Type 0) → List A → List Broken → Type 0
+abbrev pub AreBreaks : {A : Type 0} → (A → Type 0) → (A → Broken → Type 0) → List A → List Broken
+    → Type 0
 AreBreaks IsFine IsBroken [] bs = bs ≡ []
 AreBreaks IsFine IsBroken (x ∷ xs) bs =
     (IsFine x × AreBreaks IsFine IsBroken xs bs)
-    ⊎ ((b : Broken) × (more : List Broken) × (bs ≡ b ∷ more) × IsBroken x b × AreBreaks IsFine IsBroken xs more)
+    ⊎ ((b : Broken) × (more : List Broken) × (bs ≡ b ∷ more) × IsBroken x b
+    × AreBreaks IsFine IsBroken xs more)
 
 -- THE breaks of the formulas that aren't admitted
 abbrev pub AreRefused : Names → List Cell → List Broken → Type 0

@@ -14,7 +14,13 @@ use Rattle.app_cells.specs.declared.cell.Cell.{Cell}
 
 -- a formula, as rounds see it
 abbrev pub round_cell : Cell → rounds.Cell
-round_cell c = record { screen = c.screen; gallery = c.item; acts = c.acts; wanted = option_map shape c.wanted; formula = c.expr }
+round_cell c = record {
+  screen = c.screen;
+  gallery = c.item;
+  acts = c.acts;
+  wanted = option_map shape c.wanted;
+  formula = c.expr;
+}
 
 -- it is judged under types that are settled
 abbrev pub cell_place : Names → Cell → Place

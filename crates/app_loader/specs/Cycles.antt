@@ -1,5 +1,6 @@
 -- Formulas that lean on one another in a circle.
-use Rattle.std.specs.Prelude.{◌≡◌, ℕ, zero, suc, List, [], ◌∷◌, ◌++◌, Option, Some, None, codes, map, slice_get}
+use Rattle.std.specs.Prelude.{◌≡◌, ℕ, zero, suc, List, [], ◌∷◌, ◌++◌, Option, Some, None, codes}
+use Rattle.std.specs.Prelude.{map, slice_get}
 use Rattle.depend_graph.specs.Order.{IsClosedPath}
 use Rattle.fx_core.specs.declared.broken.Broken.{Broken}
 use Rattle.fx_core.specs.declared.names.Names.{Names}
@@ -32,8 +33,14 @@ first_address (x ∷ xs) = x
 
 -- what is said of a closed path: its addresses, of which the first one is the cell
 abbrev pub cycle_of : List (List ℕ) → Broken
-cycle_of names = record { cell = first_address names; rule = rule.Cycle; at = 0; detail = joined_by_arrows names }
+cycle_of names = record {
+  cell = first_address names;
+  rule = rule.Cycle;
+  at = 0;
+  detail = joined_by_arrows names;
+}
 
 -- formulas lean on one another in a circle, and this is told of it
 abbrev pub IsCycle : Names → List CellInfo → Broken → Type 0
-IsCycle n is b = (path : List ℕ) × IsClosedPath (edges_of n is) path × (b ≡ cycle_of (map (cell_name_at is) path))
+IsCycle n is b = (path : List ℕ) × IsClosedPath (edges_of n is) path
+    × (b ≡ cycle_of (map (cell_name_at is) path))

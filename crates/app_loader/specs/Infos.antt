@@ -11,8 +11,8 @@ use Rattle.app_cells.specs.declared.cell.Cell.{Cell}
 use Rattle.fx_plan.specs.Limited.{limited}
 use Rattle.app_loader.specs.Cells.{judged_cell}
 
--- what a formula is under names, in an app of this row limit: its typed tree, the type of that, all that it names, each once,
--- the tree that is evaluated, and where it takes rows of tables
+-- what a formula is under names, in an app of this row limit: its typed tree, the type of that, all
+-- that it names, each once, the tree that is evaluated, and where it takes rows of tables
 pub record IsElaborated (m : Names) (most : ℕ) (c : Cell) (i : CellInfo) : Type 0 where
   pub cell : i.cell ≡ c
   pub tree : judged_cell m c ≡ Ok (i.core, shape i.ty)

@@ -26,21 +26,29 @@ HaveRisingReads is = (k : ℕ) (i : CellInfo) → slice_get is k ≡ Some i → 
 
 -- lists that rise
 abbrev pub AllRise : List (List Source) → Type 0
-AllRise supports = (k : ℕ) (support : List Source) → slice_get supports k ≡ Some support → AreSourcesRising support
+AllRise supports = (k : ℕ) (support : List Source) → slice_get supports k ≡ Some support
+    → AreSourcesRising support
 
 -- who names the first source leans on a formula that stands on the second one
 abbrev pub IsBehind : Names → List (List Source) → Source → Source → Type 0
-IsBehind n supports x s = (d : ℕ) × (support : List Source) × (cell_behind n x ≡ Some d) × (slice_get supports d ≡ Some support) × IsAmong s support
+IsBehind n supports x s = (d : ℕ) × (support : List Source) × (cell_behind n x ≡ Some d)
+    × (slice_get supports d ≡ Some support) × IsAmong s support
 
--- The support of a formula that names these sources: each that is no cell, and each on which a formula that it leans on stands.
-pub record IsJoined (n : Names) (reads : List Source) (supports : List (List Source)) (support : List Source) : Type 0 where
+-- The support of a formula that names these sources: each that is no cell, and each on which a
+-- formula that it leans on stands.
+pub record IsJoined (n : Names) (reads : List Source) (supports : List (List Source))
+    (support : List Source) : Type 0 where
   pub once : AreSourcesRising support
-  pub exact : (s : Source) → IsAmong s support ↔ (((is_cell s ≡ false) × IsAmong s reads) ⊎ ((x : Source) × IsAmong x reads × IsBehind n supports x s))
+  pub exact : (s : Source) → IsAmong s support
+      ↔ (((is_cell s ≡ false) × IsAmong s reads)
+      ⊎ ((x : Source) × IsAmong x reads × IsBehind n supports x s))
 
 -- the supports of formulas under names, by their numbers
-pub record AreSupports (n : Names) (is : List CellInfo) (supports : List (List Source)) : Type 0 where
+pub record AreSupports (n : Names) (is : List CellInfo) (supports : List (List Source)) : Type
+    0 where
   pub many : length supports ≡ length is
-  pub each : (k : ℕ) (support : List Source) → slice_get supports k ≡ Some support → IsSupport (unordered n is) k support
+  pub each : (k : ℕ) (support : List Source) → slice_get supports k ≡ Some support
+      → IsSupport (unordered n is) k support
 
 -- the same formulas, of which it is said what they stand on
 pub record AreSupported (n : Names) (before after : List CellInfo) : Type 0 where

@@ -18,7 +18,8 @@ use std::alloc::Global;
 fn judge(alloc: Global, names: &Names, cell: &Cell) -> Result<Result<Typed, Broken>, Memory>
     requires lawful { IsLawful names.now }
     requires shallow { tree_depth cell.now.expr ≤ 256 }
-    ensures { IfOk result (λ r. MatchResult r (λ t. judged_cell names.now cell.now ≡ Ok (typed t)) (Breaks names.now cell.now)) }
+    ensures { IfOk result (λ r. MatchResult r (λ t. judged_cell names.now cell.now ≡ Ok (typed t))
+        (Breaks names.now cell.now)) }
 {
     let written = written_cell(alloc, cell)?;
     match elaborate(alloc, names, &written) {
@@ -41,7 +42,8 @@ fn put(
 ) -> Result<(), Memory>
     ensures { OnOk result (MatchResult one
         (λ t. (trees.new.items ≡ trees.old.items ++ t ∷ []) × (breaks.new.items ≡ breaks.old.items))
-        (λ b. (trees.new.items ≡ trees.old.items) × (breaks.new.items ≡ breaks.old.items ++ b ∷ []))) }
+        (λ b. (trees.new.items ≡ trees.old.items)
+        × (breaks.new.items ≡ breaks.old.items ++ b ∷ []))) }
 {
     match one {
         Ok(tree) => trees.push(tree)?,
@@ -50,8 +52,8 @@ fn put(
     Ok(())
 }
 
-/// The typed trees of formulas that are all admitted under names; or what is broken of the others, one break at most of
-/// each, in their order.
+/// The typed trees of formulas that are all admitted under names; or what is broken of the others,
+/// one break at most of each, in their order.
 pub fn typed_trees(alloc: Global, names: &Names, cells: &[Cell]) -> Result<Vec<Typed>, AppEnd>
     requires lawful { IsLawful names.now }
     requires shallow { AreShallow cells.now }

@@ -1,7 +1,8 @@
 //! From an app and an edit to the edited app.
 ghost use Rattle.std.specs.Prelude.{◌≡◌, Err, IfErr, IfOk, Ok};
 ghost use Rattle.app_texts.specs.Frames.{app_frame};
-ghost use Rattle.app_loader.specs.Edits.{IsLoaded, IsOneEdit, IsOneEdited, IsOneEditRefusal, JudgedEdit, LoadedApp};
+ghost use Rattle.app_loader.specs.Edits.{IsLoaded, IsOneEdit, IsOneEdited, IsOneEditRefusal};
+ghost use Rattle.app_loader.specs.Edits.{JudgedEdit, LoadedApp};
 ghost use Rattle.app_semantics.specs.Sound.{IsSoundApp};
 ghost use Rattle.app_loader.specs.JudgedFormulas.{ReportsBreaks};
 ghost use Rattle.fx_types.specs.Words.{scalars_of};
@@ -17,19 +18,22 @@ use fx_infer::no_deeper;
 use fx_types::Words;
 use std::alloc::Global;
 
-/// The app in which one formula is replaced by a text: the one at this address, as `Total`, `App.OnStart`, `Home.OnVisible` or
-/// `Count.Text`, whether one is written there or not. An empty text takes it away where it has no name of its own. What the
-/// app has beside its formulas stays. An edit that breaks a rule is refused with the breaks of the first stage that has any:
-/// that no formula can stand at the address, the length of the text, its tokens and trees, and then all that is judged of the
-/// formulas of a file.
+/// The app in which one formula is replaced by a text: the one at this address, as `Total`,
+/// `App.OnStart`, `Home.OnVisible` or `Count.Text`, whether one is written there or not. An empty
+/// text takes it away where it has no name of its own. What the app has beside its formulas stays.
+/// An edit that breaks a rule is refused with the breaks of the first stage that has any: that no
+/// formula can stand at the address, the length of the text, its tokens and trees, and then all
+/// that is judged of the formulas of a file.
 pub fn edit(alloc: Global, app: &App, address: &str, text: &str) -> Result<App, AppEnd>
     requires { IsLoaded app.now }
-    ensures app { IfOk result (λ a. JudgedEdit app.now (scalars_of address.now) (scalars_of text.now) (Ok a)) }
+    ensures app { IfOk result (λ a. JudgedEdit app.now (scalars_of address.now)
+        (scalars_of text.now) (Ok a)) }
     ensures sound { IfOk result IsSoundApp }
     ensures loaded { IfOk result IsLoaded }
     ensures frame { IfOk result (λ a. app_frame a ≡ app_frame app.now) }
     ensures tables { IfOk result (λ a. HoldsTables a.names) }
-    ensures refused { IfErr result (ReportsBreaks (λ bs. JudgedEdit app.now (scalars_of address.now) (scalars_of text.now) (Err bs))) }
+    ensures refused { IfErr result (ReportsBreaks
+        (λ bs. JudgedEdit app.now (scalars_of address.now) (scalars_of text.now) (Err bs))) }
 {
     no_deeper();
     let address = Words::of(alloc, address)?;

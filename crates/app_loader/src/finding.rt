@@ -9,7 +9,8 @@ use app_cells::App;
 /// The number of the formula that is written at an address. None where none is written there.
 pub fn find(app: &App, address: &str) -> Option<u32>
     requires { IsLoaded app.now }
-    ensures { result ≡ position_from (λ (i : Info). bytes_eq (encode_utf8_all i.cell.name) address.now) 0 app.now.cells }
+    ensures { result ≡ position_from (λ (i : Info). bytes_eq (encode_utf8_all i.cell.name)
+        address.now) 0 app.now.cells }
 {
     let mut number = 0;
     for info in app.cells.as_slice() {

@@ -39,7 +39,8 @@ fn reads_of(alloc: Global, core: &Core) -> Result<InOrder<Source>, Memory>
     in_order(alloc, named)
 }
 
-// Of a tree, the one that is evaluated in an app of this row limit, and where it takes rows of tables.
+// Of a tree, the one that is evaluated in an app of this row limit, and where it takes rows of
+// tables.
 fn taken_of(
     alloc: Global,
     schema: &Schema,

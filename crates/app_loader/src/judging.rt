@@ -6,7 +6,8 @@ ghost use Rattle.fx_core.specs.declared.names.Names.{Names as Named};
 ghost use Rattle.app_loader.specs.Types.{AreLawfullyTyped, HaveLawfulTrees};
 ghost use Rattle.fx_core.specs.Lawful.{IsLawful};
 ghost use Rattle.app_loader.specs.Supports.{HaveRisingReads};
-ghost use Rattle.app_loader.specs.JudgedFormulas.{AreJudgeable, IsCyclic, IsOrdered, JudgedCells, ReportsBreaks, unsettled};
+ghost use Rattle.app_loader.specs.JudgedFormulas.{AreJudgeable, IsCyclic, IsOrdered, JudgedCells};
+ghost use Rattle.app_loader.specs.JudgedFormulas.{ReportsBreaks, unsettled};
 ghost use Rattle.app_cells.specs.Leaning.{edges_of};
 ghost use Rattle.depend_graph.specs.Order.{AreBelow};
 ghost use Rattle.fx_typing.specs.Rounds.{AreFinalTypes, StillChanges};
@@ -42,7 +43,8 @@ fn final_names(alloc: Global, first: Names, cells: &[Cell]) -> Result<Names, App
     requires { AreJudgeable first cells.now }
     ensures types { IfOk result (λ m. AreFinalTypes (map round_cell cells.now) first m) }
     ensures fit { IfOk result (λ m. AreJudgeable m cells.now) }
-    ensures unsettled { IfErr result (ReportsBreaks (λ bs. (bs ≡ unsettled ∷ []) × StillChanges (map round_cell cells.now) first)) }
+    ensures unsettled { IfErr result (ReportsBreaks
+        (λ bs. (bs ≡ unsettled ∷ []) × StillChanges (map round_cell cells.now) first)) }
 {
     let written = written_cells(alloc, cells)?;
     match type_rounds(alloc, first, &written) {
@@ -97,7 +99,8 @@ fn built_app(
 ) -> Result<App, AppEnd>
     requires fit { AreJudgeable names cells.items }
     requires typed { AreTyped names cells.items trees.items }
-    ensures app { (first : Named) → AreFinalTypes (map round_cell cells.items) first names → IfOk result (λ a. JudgedCells first limit cells.items (Ok a)) }
+    ensures app { (first : Named) → AreFinalTypes (map round_cell cells.items) first names
+        → IfOk result (λ a. JudgedCells first limit cells.items (Ok a)) }
     ensures refused { (first : Named) → AreFinalTypes (map round_cell cells.items) first names
         → IfErr result (ReportsBreaks (λ bs. JudgedCells first limit cells.items (Err bs))) }
     ensures names { IfOk result (λ a. a.names ≡ names) }
@@ -113,7 +116,8 @@ fn built_app(
 // The app of formulas under names with their final types.
 fn typed_app(alloc: Global, names: Names, limit: u32, cells: Vec<Cell>) -> Result<App, AppEnd>
     requires { AreJudgeable names cells.items }
-    ensures app { (first : Named) → AreFinalTypes (map round_cell cells.items) first names → IfOk result (λ a. JudgedCells first limit cells.items (Ok a)) }
+    ensures app { (first : Named) → AreFinalTypes (map round_cell cells.items) first names
+        → IfOk result (λ a. JudgedCells first limit cells.items (Ok a)) }
     ensures refused { (first : Named) → AreFinalTypes (map round_cell cells.items) first names
         → IfErr result (ReportsBreaks (λ bs. JudgedCells first limit cells.items (Err bs))) }
     ensures names { IfOk result (λ a. a.names ≡ names) }
@@ -125,12 +129,14 @@ fn typed_app(alloc: Global, names: Names, limit: u32, cells: Vec<Cell>) -> Resul
     }
 }
 
-/// The app of formulas under names in which they have their numbers. It is refused with the breaks of the first stage that
-/// has any: the rounds of its types, its formulas, and circles in which formulas lean on one another.
+/// The app of formulas under names in which they have their numbers. It is refused with the breaks
+/// of the first stage that has any: the rounds of its types, its formulas, and circles in which
+/// formulas lean on one another.
 pub fn app_of(alloc: Global, first: Names, limit: u32, cells: Vec<Cell>) -> Result<App, AppEnd>
     requires { AreJudgeable first cells.items }
     ensures app { IfOk result (λ a. JudgedCells first limit cells.items (Ok a)) }
-    ensures refused { IfErr result (ReportsBreaks (λ bs. JudgedCells first limit cells.items (Err bs))) }
+    ensures refused { IfErr result (ReportsBreaks
+        (λ bs. JudgedCells first limit cells.items (Err bs))) }
     ensures typed { IfOk result (λ a. AreLawfullyTyped a.names) }
     ensures trees { IfOk result (λ a. HaveLawfulTrees a.cells) }
     ensures lawful { IfOk result (λ a. IsLawful a.names) }

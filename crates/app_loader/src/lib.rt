@@ -1,5 +1,5 @@
-//! From an app file, or a text of named formulas, to its app: all that breaks a rule is told, or the app is sound. From an
-//! app and an edit to the edited app likewise.
+//! From an app file, or a text of named formulas, to its app: all that breaks a rule is told, or
+//! the app is sound. From an app and an edit to the edited app likewise.
 #![tactic(auto)]
 
 pub mod admitting;

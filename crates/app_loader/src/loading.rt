@@ -1,7 +1,8 @@
 //! From the bytes of an app to the app.
 ghost use Rattle.std.specs.Prelude.{◌≡◌, ◌<◌, ◌≤◌, ◌∷◌, [], All, Err, IfErr, IfOk, Ok, length};
 ghost use Rattle.app_cells.specs.Spots.{IsFrame, IsPlaced};
-ghost use Rattle.app_loader.specs.Judged.{HasSingles, Judged, JudgedApp, JudgedFile, JudgedFormulas, JudgedText, most_source_bytes};
+ghost use Rattle.app_loader.specs.Judged.{HasSingles, Judged, JudgedApp, JudgedFile};
+ghost use Rattle.app_loader.specs.Judged.{JudgedFormulas, JudgedText, most_source_bytes};
 ghost use Rattle.app_names.specs.NameRules as rules;
 ghost use Rattle.app_semantics.specs.Sound.{IsSoundApp};
 ghost use Rattle.app_loader.specs.Accepted.{HaveOneTemplate};
@@ -26,8 +27,9 @@ use std::alloc::Global;
 /// The most bytes of a text of named formulas.
 const LONGEST: usize = 262_144;
 
-/// The app of an app file. A file that breaks a rule is refused with the breaks of the first stage that has any: its form and
-/// its own limits, the texts of its formulas, its names, the rounds of its types, its formulas, and circles among them.
+/// The app of an app file. A file that breaks a rule is refused with the breaks of the first stage
+/// that has any: its form and its own limits, the texts of its formulas, its names, the rounds of
+/// its types, its formulas, and circles among them.
 pub fn load(alloc: Global, bytes: &[u8]) -> Result<App, AppEnd>
     ensures app { IfOk result (λ a. JudgedApp bytes.now (Ok a)) }
     ensures sound { IfOk result IsSoundApp }
@@ -62,9 +64,10 @@ fn load_file(alloc: Global, file: AppFile) -> Result<App, AppEnd>
     load_formulas(alloc, frame, cells)
 }
 
-/// The app of a text of named formulas, `A = 1; B = A + 1;`, which has no tables and no screens. A text that breaks a rule is
-/// refused with the breaks of the first stage that has any: its length, its bytes, its tokens and trees, its names, the rounds
-/// of its types, its formulas, and circles among them.
+/// The app of a text of named formulas, `A = 1; B = A + 1;`, which has no tables and no screens. A
+/// text that breaks a rule is refused with the breaks of the first stage that has any: its length,
+/// its bytes, its tokens and trees, its names, the rounds of its types, its formulas, and circles
+/// among them.
 pub fn load_named(alloc: Global, bytes: &[u8]) -> Result<App, AppEnd>
     ensures app { IfOk result (λ a. Judged bytes.now (Ok a)) }
     ensures sound { IfOk result IsSoundApp }

@@ -3,7 +3,8 @@ ghost use Rattle.std.specs.Prelude.{◌≡◌, ◌↔◌, ◌⊎◌, IfOk, filte
 ghost use Rattle.app_cells.specs.Leaning.{edges_of};
 ghost use Rattle.app_cells.specs.Reach as reach;
 ghost use Rattle.app_cells.specs.declared.app.CellInfo.{CellInfo as Formula};
-ghost use Rattle.app_loader.specs.Supports.{AllRise, AreSupported, AreSupports, HaveRisingReads, IsBehind, IsJoined, without_support};
+ghost use Rattle.app_loader.specs.Supports.{AllRise, AreSupported, AreSupports, HaveRisingReads};
+ghost use Rattle.app_loader.specs.Supports.{IsBehind, IsJoined, without_support};
 ghost use Rattle.depend_graph.specs.Order.{IsOrder};
 ghost use Rattle.fx_core.specs.Reads.{AreSourcesRising, IsAmong, source_order};
 ghost use Rattle.fx_core.specs.declared.sources.Source.{Source as Named};
@@ -35,7 +36,8 @@ fn merge(alloc: Global, left: &[Source], right: &[Source]) -> Result<Vec<Source>
     requires left { AreSourcesRising left.now }
     requires right { AreSourcesRising right.now }
     ensures once { IfOk result (λ r. AreSourcesRising r.items) }
-    ensures exact { IfOk result (λ r. (s : Named) → IsAmong s r.items ↔ (IsAmong s left.now ⊎ IsAmong s right.now)) }
+    ensures exact { IfOk result (λ r. (s : Named) → IsAmong s r.items
+        ↔ (IsAmong s left.now ⊎ IsAmong s right.now)) }
 {
     let mut all = Vec::new(alloc);
     let mut left = left;
@@ -85,7 +87,8 @@ fn with_behind(
     requires sources { AreSourcesRising sources.items }
     requires supports { AllRise supports.now }
     ensures once { IfOk result (λ r. AreSourcesRising r.items) }
-    ensures exact { IfOk result (λ r. (s : Named) → IsAmong s r.items ↔ (IsAmong s sources.items ⊎ IsBehind names.now supports.now source s)) }
+    ensures exact { IfOk result (λ r. (s : Named) → IsAmong s r.items
+        ↔ (IsAmong s sources.items ⊎ IsBehind names.now supports.now source s)) }
 {
     let Some(cell) = cell_behind(names, source) else {
         return Ok(sources);
@@ -96,7 +99,8 @@ fn with_behind(
     }
 }
 
-// What a formula stands on that names these sources, by what the formulas on which it leans stand on.
+// What a formula stands on that names these sources, by what the formulas on which it leans stand
+// on.
 fn support_of(
     alloc: Global,
     names: &Names,

@@ -1,4 +1,5 @@
-//! What is seen of typed trees by looking at them: the columns of the types that they name rise, at every depth.
+//! What is seen of typed trees by looking at them: the columns of the types that they name rise, at
+//! every depth.
 ghost use Rattle.fx_semantics.specs.NamedTypes.{HasLawfulTypes, HaveLawfulTypes};
 ghost use Rattle.fx_core.specs.Term.{all, field_terms};
 

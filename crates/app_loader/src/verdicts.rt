@@ -1,5 +1,6 @@
 //! What verdicts files and texts may have.
-ghost use Rattle.app_loader.specs.Verdicts.{IsOneApp, IsOneAppOfAFile, IsOneAppOfAText, IsOneRefusalOfAFile, IsOneRefusalOfAText, IsOneVerdict};
+ghost use Rattle.app_loader.specs.Verdicts.{IsOneApp, IsOneAppOfAFile, IsOneAppOfAText};
+ghost use Rattle.app_loader.specs.Verdicts.{IsOneRefusalOfAFile, IsOneRefusalOfAText, IsOneVerdict};
 
 use app_file::{one_break, one_reading};
 

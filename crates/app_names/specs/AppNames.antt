@@ -48,8 +48,9 @@ variables_among ds = flat_map (λ (d : Declared). as_variable d d.thing) ds
 abbrev pub collections_among : List Declared → List Collection
 collections_among ds = flat_map (λ (d : Declared). as_collection d d.thing) ds
 
--- THE NAMES OF AN APP: all functions, its tables, screens and controls, its named formulas and written properties by the
--- numbers of their cells, which are their places, and what its formulas declare, each of type Blank so far.
+-- THE NAMES OF AN APP: all functions, its tables, screens and controls, its named formulas and
+-- written properties by the numbers of their cells, which are their places, and what its formulas
+-- declare, each of type Blank so far.
 pub record AreNamesOf (f : Frame) (cells : List Cell) (n : Names) : Type 0 where
   pub signatures : map entry n.signatures.now ≡ entries
   pub schema : n.schema ≡ f.schema

@@ -1,5 +1,6 @@
 -- What is lawful, as tests.
-use Rattle.std.specs.Prelude.{ℕ, List, [], ◌∷◌, map, length, Bool, true, false, not, ◌&&◌, nat_eq, nat_lt, bytes_eq, Option, Some, None, slice_get, encode_utf8_all}
+use Rattle.std.specs.Prelude.{ℕ, List, [], ◌∷◌, map, length, Bool, true, false, not, ◌&&◌, nat_eq}
+use Rattle.std.specs.Prelude.{nat_lt, bytes_eq, Option, Some, None, slice_get, encode_utf8_all}
 use Rattle.std.specs.List.{list_all}
 use Rattle.fx_types.specs.declared.types.Ty.{Ty}
 use Rattle.fx_types.specs.declared.types.Ty.TheVariants as ty
@@ -54,7 +55,8 @@ abbrev pub is_lawful_table : TableShape → Bool
 is_lawful_table t =
     nat_lt (length t.columns) 64
     && (list_all (λ (c : Column). is_column_type c.ty) t.columns
-    && (is_new bytes_eq id_name (column_names t.columns) && are_distinct bytes_eq (column_names t.columns)))
+    && (is_new bytes_eq id_name (column_names t.columns)
+    && are_distinct bytes_eq (column_names t.columns)))
 
 abbrev pub is_lawful_schema : Schema → Bool
 is_lawful_schema s =
@@ -88,7 +90,8 @@ is_lawful_screen n (Some s) = nat_lt s (length n.screens)
 is_lawful_screen n None = true
 
 abbrev pub are_cells_distinct : List ℕ → List ℕ → Bool
-are_cells_distinct xs ys = are_distinct nat_eq xs && (are_distinct nat_eq ys && are_apart nat_eq xs ys)
+are_cells_distinct xs ys = are_distinct nat_eq xs
+    && (are_distinct nat_eq ys && are_apart nat_eq xs ys)
 
 abbrev pub is_few : ℕ → Bool
 is_few n = nat_lt n 4294967296
@@ -97,11 +100,13 @@ abbrev pub are_few : Names → Bool
 are_few n =
     is_few (length n.screens)
     && (is_few (length n.controls) && (is_few (length n.properties)
-    && (is_few (length n.formulas) && (is_few (length n.variables) && is_few (length n.collections)))))
+    && (is_few (length n.formulas) && (is_few (length n.variables)
+    && is_few (length n.collections)))))
 
 abbrev pub is_lawful : Names → Bool
 is_lawful n =
     is_lawful_schema n.schema
-    && (are_few n && (list_all (is_lawful_control n) n.controls && (list_all (is_lawful_property n) n.properties
+    && (are_few n && (list_all (is_lawful_control n) n.controls
+    && (list_all (is_lawful_property n) n.properties
     && (list_all (λ (v : Variable). is_lawful_screen n v.screen) n.variables
     && are_cells_distinct (formula_cells n.formulas) (property_cells n.properties)))))

@@ -1,5 +1,7 @@
 -- The variables and collections that formulas declare by giving them a value.
-use Rattle.std.specs.Prelude.{ℕ, ◌++◌, List, [], ◌∷◌, Bool, true, false, ◌&&◌, not, Option, Some, None, option_map, map, flat_map, bytes_eq, encode_utf8_all, if◌then◌else◌}
+use Rattle.std.specs.Prelude.{ℕ, ◌++◌, List, [], ◌∷◌, Bool, true, false, ◌&&◌, not, Option, Some}
+use Rattle.std.specs.Prelude.{None, option_map, map, flat_map, bytes_eq, encode_utf8_all}
+use Rattle.std.specs.Prelude.{if◌then◌else◌}
 use Rattle.std.specs.List.{filter, list_any}
 use Rattle.fx_core.specs.declared.functions.Acting.TheVariants as acts
 use Rattle.fx_core.specs.declared.signatures.SigShape.{SigShape}
@@ -19,7 +21,8 @@ use Rattle.app_names.specs.declared.declarations.Declared.{Declared}
 use Rattle.app_names.specs.declared.declarations.Thing.{Thing}
 use Rattle.app_names.specs.declared.declarations.Thing.TheVariants as thing
 
--- what a function declares that names its target: `Set` a global variable, and `Collect` and `ClearCollect` a collection
+-- what a function declares that names its target: `Set` a global variable, and `Collect` and
+-- `ClearCollect` a collection
 abbrev pub declared_by : Option SigShape → Option Thing
 declared_by (Some (sig.Act acts.Set)) = Some (thing.Variable None)
 declared_by (Some (sig.Act acts.Collect)) = Some thing.Collection
@@ -27,7 +30,8 @@ declared_by (Some (sig.Act acts.ClearCollect)) = Some thing.Collection
 declared_by s = None
 
 abbrev pub shape_called : List Signature → List ℕ → Option SigShape
-shape_called functions f = option_map (λ (s : Signature). s.shape) (signature_in functions (encode_utf8_all f))
+shape_called functions f = option_map (λ (s : Signature). s.shape)
+    (signature_in functions (encode_utf8_all f))
 
 -- the name that stands first among the parts of a call, and the byte of the text at which it begins
 abbrev pub first_name : Forest → Option (List ℕ × ℕ)
@@ -42,7 +46,8 @@ declaration k named = []
 
 -- fields of a record are variables of a screen, each at its name
 abbrev pub variables_in : ℕ → List (List ℕ) → List ℕ → List Declared
-variables_in s (x ∷ xs) (at ∷ ps) = record { thing = thing.Variable (Some s); name = x; at = at } ∷ variables_in s xs ps
+variables_in s (x ∷ xs) (at ∷ ps) = record { thing = thing.Variable (Some s); name = x; at = at }
+    ∷ variables_in s xs ps
 variables_in s xs ps = []
 
 -- what the first part of `UpdateContext` declares on a screen
@@ -62,18 +67,21 @@ declared_at functions screen h ts = []
 abbrev mutual
   -- what a tree declares, by the functions of a table and on a screen: a node before its parts
   pub declared_in : List Signature → Option ℕ → Tree → List Declared
-  declared_in functions screen (node at h ts) = declared_at functions screen h ts ++ declared_among functions screen ts
+  declared_in functions screen (node at h ts)
+      = declared_at functions screen h ts ++ declared_among functions screen ts
 
   pub declared_among : List Signature → Option ℕ → Forest → List Declared
   declared_among functions screen none = []
-  declared_among functions screen (more t ts) = declared_in functions screen t ++ declared_among functions screen ts
+  declared_among functions screen (more t ts)
+      = declared_in functions screen t ++ declared_among functions screen ts
 
 -- a global thing: a variable of no screen, or a collection
 abbrev pub is_global_thing : Thing → Bool
 is_global_thing (thing.Variable (Some s)) = false
 is_global_thing k = true
 
--- What a formula declares: never a global thing with a name that tables, screens, controls or named formulas have.
+-- What a formula declares: never a global thing with a name that tables, screens, controls or named
+-- formulas have.
 abbrev pub is_declared : (List ℕ → Bool) → Declared → Bool
 is_declared given d = not (is_global_thing d.thing && given d.name)
 
@@ -93,15 +101,18 @@ is_thing d e = is_kind d.thing e.thing && bytes_eq d.name e.name
 abbrev pub new_behind : List Declared → List Declared → List Declared
 new_behind before [] = []
 new_behind before (d ∷ ds) =
-    if list_any (is_thing d) before then new_behind before ds else d ∷ new_behind (before ++ d ∷ []) ds
+    if list_any (is_thing d) before then new_behind before ds else d
+    ∷ new_behind (before ++ d ∷ []) ds
 
 -- all things that cells declare behind these, in the order of their first declaration
-abbrev pub things_behind : List Signature → (List ℕ → Bool) → List Declared → List Cell → List Declared
+abbrev pub things_behind : List Signature → (List ℕ → Bool) → List Declared → List Cell
+    → List Declared
 things_behind functions given before [] = before
 things_behind functions given before (c ∷ cs) =
     things_behind functions given (before ++ new_behind before (declared_of functions given c)) cs
 
--- the names that no variable and no collection may have: of tables, screens, controls and named formulas
+-- the names that no variable and no collection may have: of tables, screens, controls and named
+-- formulas
 abbrev pub own_names : Spot → List (List ℕ)
 own_names (spot.Formula x) = x ∷ []
 own_names s = []

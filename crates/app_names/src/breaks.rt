@@ -20,7 +20,8 @@ use fx_types::words::Words;
 use std::alloc::Global;
 use std::collections::BTreeSet;
 
-// What is broken of a cell behind these names, where these things are declared and it declares these new ones.
+// What is broken of a cell behind these names, where these things are declared and it declares
+// these new ones.
 fn name_break(
     alloc: Global,
     before: &BTreeSet<Words>,
@@ -28,7 +29,8 @@ fn name_break(
     new: &[Declared],
     cell: &Cell,
 ) -> Result<Option<Broken>, Memory>
-    ensures { IfOk result (λ o. o ≡ rules.name_break (is_name_in_set before.now) things.now new.now cell.now) }
+    ensures { IfOk result (λ o. o ≡ rules.name_break (is_name_in_set before.now) things.now new.now
+        cell.now) }
 {
     match taken_break(alloc, before, things, new, cell)? {
         Some(broken) => Ok(Some(broken)),
@@ -91,7 +93,8 @@ fn app_break(
     }
 }
 
-/// What is broken among the names of an app: of the whole app, and then of each cell, one break at most.
+/// What is broken among the names of an app: of the whole app, and then of each cell, one break at
+/// most.
 pub fn name_breaks(
     alloc: Global,
     functions: &[Signature],

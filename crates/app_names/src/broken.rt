@@ -21,7 +21,8 @@ pub fn in_app(alloc: Global, rule: Rule, detail: Words) -> Result<Broken, Memory
     })
 }
 
-/// A rule that a formula breaks at a byte of the text, which is counted from where its positions are told.
+/// A rule that a formula breaks at a byte of the text, which is counted from where its positions
+/// are told.
 pub fn in_cell(
     alloc: Global,
     cell: &Cell,

@@ -48,7 +48,8 @@ fn call_shape(functions: &[Signature], name: &Words) -> Option<SigShape>
     signature_in(functions, name.as_str()).map(|signature| signature.shape)
 }
 
-// The name that stands first among the parts of a call, and the byte of the text at which it begins.
+// The name that stands first among the parts of a call, and the byte of the text at which it
+// begins.
 fn first_name(parts: &[Expr]) -> Option<(&Words, u32)>
     ensures { option_map (λ p. (p.0.now, p.1)) result ≡ table.first_name (forest parts.now) }
 {
@@ -69,7 +70,8 @@ fn declare_variables(
     fields: &[(FieldName, Expr)],
     found: &mut Vec<Declared>,
 ) -> Result<(), Memory>
-    ensures { OnOk result (found.new.items ≡ found.old.items ++ table.variables_in screen (tree_field_names fields.now) (places_of fields.now)) }
+    ensures { OnOk result (found.new.items ≡ found.old.items
+        ++ table.variables_in screen (tree_field_names fields.now) (places_of fields.now)) }
 {
     for (name, _) in fields {
         found.push(Declared {
@@ -88,7 +90,8 @@ fn declare_by_record(
     parts: &[Expr],
     found: &mut Vec<Declared>,
 ) -> Result<(), Memory>
-    ensures { OnOk result (found.new.items ≡ found.old.items ++ table.declared_by_record screen (forest parts.now)) }
+    ensures { OnOk result (found.new.items ≡ found.old.items
+        ++ table.declared_by_record screen (forest parts.now)) }
 {
     match parts {
         [] => Ok(()),
@@ -106,7 +109,8 @@ fn declare_target(
     parts: &[Expr],
     found: &mut Vec<Declared>,
 ) -> Result<(), Memory>
-    ensures { OnOk result (found.new.items ≡ found.old.items ++ table.declaration (table.declared_by shape) (table.first_name (forest parts.now))) }
+    ensures { OnOk result (found.new.items ≡ found.old.items
+        ++ table.declaration (table.declared_by shape) (table.first_name (forest parts.now))) }
 {
     match (declared_thing(shape), first_name(parts)) {
         (Some(thing), Some((name, at))) => {
@@ -126,7 +130,8 @@ fn declare_on(
     parts: &[Expr],
     found: &mut Vec<Declared>,
 ) -> Result<(), Memory>
-    ensures { OnOk result (found.new.items ≡ found.old.items ++ table.declared_on screen shape (forest parts.now)) }
+    ensures { OnOk result (found.new.items ≡ found.old.items
+        ++ table.declared_on screen shape (forest parts.now)) }
 {
     match (screen, shape) {
         (Some(screen), Some(SigShape::Act(Acting::UpdateContext))) => {
@@ -144,7 +149,8 @@ fn declare_here(
     whole: &Expr,
     found: &mut Vec<Declared>,
 ) -> Result<(), Memory>
-    ensures { OnOk result (found.new.items ≡ found.old.items ++ declared_here functions.now screen whole.now) }
+    ensures { OnOk result (found.new.items ≡ found.old.items
+        ++ declared_here functions.now screen whole.now) }
 {
     let Node::Call(function, parts) = &whole.node else {
         return Ok(());
@@ -162,7 +168,8 @@ pub fn declare(
     whole: &Expr,
     found: &mut Vec<Declared>,
 ) -> Result<(), Memory>
-    ensures { OnOk result (found.new.items ≡ found.old.items ++ declared_in functions.now screen whole.now) }
+    ensures { OnOk result (found.new.items ≡ found.old.items
+        ++ declared_in functions.now screen whole.now) }
 {
     declare_here(alloc, functions, screen, whole, found)?;
     declare_below(alloc, functions, screen, whole, found)
@@ -177,7 +184,8 @@ fn declare_below(
     whole: &Expr,
     found: &mut Vec<Declared>,
 ) -> Result<(), Memory>
-    ensures { OnOk result (found.new.items ≡ found.old.items ++ declared_among functions.now screen (below whole.now)) }
+    ensures { OnOk result (found.new.items ≡ found.old.items
+        ++ declared_among functions.now screen (below whole.now)) }
 {
     match &whole.node {
         Node::Num(_) | Node::Text(_) | Node::Truth(_) | Node::Name(_) | Node::Global(_) => Ok(()),
@@ -210,7 +218,8 @@ fn declare_all(
     parts: &[Expr],
     found: &mut Vec<Declared>,
 ) -> Result<(), Memory>
-    ensures { OnOk result (found.new.items ≡ found.old.items ++ declared_among functions.now screen (forest parts.now)) }
+    ensures { OnOk result (found.new.items ≡ found.old.items
+        ++ declared_among functions.now screen (forest parts.now)) }
 {
     for part in parts {
         declare(alloc, functions, screen, part, found)?;
@@ -227,7 +236,8 @@ fn declare_fields(
     fields: &[(FieldName, Expr)],
     found: &mut Vec<Declared>,
 ) -> Result<(), Memory>
-    ensures { OnOk result (found.new.items ≡ found.old.items ++ declared_among functions.now screen (field_trees fields.now)) }
+    ensures { OnOk result (found.new.items ≡ found.old.items
+        ++ declared_among functions.now screen (field_trees fields.now)) }
 {
     for (_, part) in fields {
         declare(alloc, functions, screen, part, found)?;

@@ -22,14 +22,16 @@ fn is_declared(given: &BTreeSet<Words>, one: &Declared) -> bool
     !(is_global(one.thing) && given.contains(&one.name))
 }
 
-/// What a formula declares: never a global thing of a name that tables, screens, controls or named formulas have.
+/// What a formula declares: never a global thing of a name that tables, screens, controls or named
+/// formulas have.
 pub fn declared_things(
     alloc: Global,
     functions: &[Signature],
     given: &BTreeSet<Words>,
     cell: &Cell,
 ) -> Result<Vec<Declared>, Memory>
-    ensures { IfOk result (λ v. v.items ≡ table.declared_of functions.now (is_name_in_set given.now) cell.now) }
+    ensures { IfOk result (λ v. v.items ≡ table.declared_of functions.now (is_name_in_set given.now)
+        cell.now) }
 {
     let mut found = Vec::new(alloc);
     declare(alloc, functions, cell.screen, &cell.expr, &mut found)?;
@@ -111,7 +113,8 @@ pub fn things_of(
     given: &BTreeSet<Words>,
     cells: &[Cell],
 ) -> Result<Vec<Declared>, Memory>
-    ensures { IfOk result (λ v. v.items ≡ things_behind functions.now (is_name_in_set given.now) [] cells.now) }
+    ensures { IfOk result (λ v. v.items ≡ things_behind functions.now (is_name_in_set given.now) []
+        cells.now) }
 {
     let mut things = Vec::new(alloc);
     for cell in cells {

@@ -1,8 +1,10 @@
-//! Whether no name and no number stands twice in a list. It is told by a loop in a loop, and by no set, which would
-//! take memory.
+//! Whether no name and no number stands twice in a list. It is told by a loop in a loop, and by no
+//! set, which would take memory.
 ghost use Rattle.std.specs.Prelude.{◌≡◌, bytes_eq, nat_eq};
 ghost use Rattle.std.specs.Str.{IsAscii};
-ghost use Rattle.app_names.specs.Decided.{are_apart, are_cells_distinct, are_distinct, column_names, formula_cells, is_new, property_cells, table_names};
+ghost use Rattle.app_names.specs.Decided.{are_apart, are_cells_distinct, are_distinct};
+ghost use Rattle.app_names.specs.Decided.{column_names, formula_cells, is_new, property_cells};
+ghost use Rattle.app_names.specs.Decided.{table_names};
 ghost use Rattle.fx_core.specs.Lawful.{id_name};
 
 use fx_core::names::{FormulaName, Property};
@@ -139,7 +141,8 @@ fn are_apart(formulas: &[FormulaName], properties: &[Property]) -> bool
 
 /// Whether no cell stands twice among formulas and properties.
 pub fn are_distinct_cells(formulas: &[FormulaName], properties: &[Property]) -> bool
-    ensures { result ≡ are_cells_distinct (formula_cells formulas.now) (property_cells properties.now) }
+    ensures { result ≡ are_cells_distinct (formula_cells formulas.now)
+        (property_cells properties.now) }
 {
     are_distinct_formulas(formulas)
         && are_distinct_properties(properties)

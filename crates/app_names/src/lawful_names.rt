@@ -74,7 +74,8 @@ fn is_lawful_screen(names: &Names, screen: Option<u32>) -> bool
 
 // Whether all variables belong to screens or to none.
 fn are_lawful_variables(names: &Names) -> bool
-    ensures { result ≡ list_all (λ (v : Variable). decided.is_lawful_screen names.now v.screen) names.now.variables }
+    ensures { result ≡ list_all (λ (v : Variable). decided.is_lawful_screen names.now v.screen)
+        names.now.variables }
 {
     let variables = names.variables.as_slice();
     variables
@@ -113,8 +114,8 @@ fn are_lawful(names: &Names) -> bool
         && are_distinct_cells(names.formulas.as_slice(), names.properties.as_slice())
 }
 
-/// Whether names are lawful: their schema is, each number of a screen, a control or a gallery is one, each
-/// property is one of its control's kind, and no cell is numbered twice.
+/// Whether names are lawful: their schema is, each number of a screen, a control or a gallery is
+/// one, each property is one of its control's kind, and no cell is numbered twice.
 pub fn is_lawful(names: &Names) -> bool
     ensures { IsTrue result ↔ IsLawful names.now }
 {

@@ -42,7 +42,8 @@ fn are_lawful_tables(tables: &[TableShape]) -> bool
     tables.iter().all(|table| is_lawful_table(table))
 }
 
-// Whether a schema is lawful. What is decided is proved here, and what it means in `is_lawful_schema`.
+// Whether a schema is lawful. What is decided is proved here, and what it means in
+// `is_lawful_schema`.
 pub fn is_schema(schema: &Schema) -> bool
     ensures { result ≡ decided.is_lawful_schema schema.now }
 {

@@ -1,4 +1,5 @@
-//! The formulas of an app, their names and cells, what they declare, and what is broken among their names.
+//! The formulas of an app, their names and cells, what they declare, and what is broken among their
+//! names.
 #![tactic(auto)]
 
 pub mod breaks;

@@ -74,7 +74,8 @@ fn first_taken_thing<'a>(before: &[Declared], new: &'a [Declared]) -> Option<&'a
 
 // A named formula behind these names has one that is taken.
 fn own_taken(alloc: Global, before: &BTreeSet<Words>, cell: &Cell) -> Result<Option<Broken>, Memory>
-    ensures { IfOk result (λ o. o ≡ rules.own_taken (is_name_in_set before.now) cell.now cell.now.spot) }
+    ensures { IfOk result (λ o. o ≡ rules.own_taken (is_name_in_set before.now) cell.now
+        cell.now.spot) }
 {
     match &cell.spot {
         Spot::Formula(name) if is_reserved(name) || before.contains(name) => {
@@ -103,8 +104,8 @@ fn thing_taken(
     }
 }
 
-/// A cell behind these names, where these things are declared and it declares these new ones: its name is taken, or one
-/// that it declares.
+/// A cell behind these names, where these things are declared and it declares these new ones: its
+/// name is taken, or one that it declares.
 pub fn taken_break(
     alloc: Global,
     before: &BTreeSet<Words>,
@@ -112,7 +113,8 @@ pub fn taken_break(
     new: &[Declared],
     cell: &Cell,
 ) -> Result<Option<Broken>, Memory>
-    ensures { IfOk result (λ o. o ≡ rules.taken_break (is_name_in_set before.now) things.now new.now cell.now) }
+    ensures { IfOk result (λ o. o ≡ rules.taken_break (is_name_in_set before.now) things.now new.now
+        cell.now) }
 {
     match own_taken(alloc, before, cell)? {
         Some(broken) => Ok(Some(broken)),

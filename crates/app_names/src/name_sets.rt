@@ -11,7 +11,8 @@ use std::collections::BTreeSet;
 
 /// Adds a name.
 pub fn put_name(alloc: Global, name: &Words, names: &mut BTreeSet<Words>) -> Result<(), Memory>
-    ensures { OnOk result ((xs : List (List ℕ)) → is_name_in_set names.old ≡ is_name_among xs → is_name_in_set names.new ≡ is_name_among (xs ++ name.now ∷ [])) }
+    ensures { OnOk result ((xs : List (List ℕ)) → is_name_in_set names.old ≡ is_name_among xs
+        → is_name_in_set names.new ≡ is_name_among (xs ++ name.now ∷ [])) }
 {
     names.insert(name.copy(alloc)?)?;
     Ok(())
@@ -19,7 +20,8 @@ pub fn put_name(alloc: Global, name: &Words, names: &mut BTreeSet<Words>) -> Res
 
 /// Adds the name of a named formula.
 pub fn put_own_name(alloc: Global, spot: &Spot, names: &mut BTreeSet<Words>) -> Result<(), Memory>
-    ensures { OnOk result ((xs : List (List ℕ)) → is_name_in_set names.old ≡ is_name_among xs → is_name_in_set names.new ≡ is_name_among (xs ++ own_names spot.now)) }
+    ensures { OnOk result ((xs : List (List ℕ)) → is_name_in_set names.old ≡ is_name_among xs
+        → is_name_in_set names.new ≡ is_name_among (xs ++ own_names spot.now)) }
 {
     match spot {
         Spot::Formula(name) => put_name(alloc, name, names),

@@ -121,8 +121,8 @@ fn collections_of(alloc: Global, things: &[Declared]) -> Result<CollectionList, 
     Ok(collections)
 }
 
-// The names of an app, each of type Blank so far. That they are lawful, where nothing is broken, is proved in `names_of`
-// over these clauses alone.
+// The names of an app, each of type Blank so far. That they are lawful, where nothing is broken, is
+// proved in `names_of` over these clauses alone.
 fn first_names(
     alloc: Global,
     functions: &'static [Signature],
@@ -154,8 +154,9 @@ fn first_names(
     })
 }
 
-/// The names of an app, of which nothing is broken: all functions, its tables, screens and controls, its named formulas and
-/// written properties, and what its formulas declare, each of type Blank so far.
+/// The names of an app, of which nothing is broken: all functions, its tables, screens and
+/// controls, its named formulas and written properties, and what its formulas declare, each of type
+/// Blank so far.
 pub fn names_of(
     alloc: Global,
     functions: &'static [Signature],
@@ -169,8 +170,10 @@ pub fn names_of(
     ensures names { IfOk result (AreNamesOf frame cells.now) }
     ensures functions { IfOk result (λ n. n.signatures.now ≡ functions.now) }
     ensures lawful { IfOk result IsLawful }
-    ensures formulas { IfOk result (λ n. All (λ (f : Formula). f.cell < length cells.now) n.formulas) }
-    ensures properties { IfOk result (λ n. All (λ (p : PropertyCell). p.cell < length cells.now) n.properties) }
+    ensures formulas { IfOk result (λ n. All (λ (f : Formula). f.cell < length cells.now)
+        n.formulas) }
+    ensures properties { IfOk result (λ n. All (λ (p : PropertyCell). p.cell < length cells.now)
+        n.properties) }
 {
     first_names(alloc, functions, frame, cells)
 }

@@ -1,5 +1,6 @@
 -- What is told of what the formulas of an app read.
-use Rattle.std.specs.Prelude.{ℕ, List, [], ◌++◌, map, codes, encode_utf8_all, Option, Some, None, option_map, unwrap_or, slice_get}
+use Rattle.std.specs.Prelude.{ℕ, List, [], ◌++◌, map, codes, encode_utf8_all, Option, Some, None}
+use Rattle.std.specs.Prelude.{option_map, unwrap_or, slice_get}
 use Rattle.serde_json.specs.Data as json
 use Rattle.serde_json.specs.Data.{array, member, no_members, object, string}
 use Rattle.serde_json.specs.View.{items_of}
@@ -45,14 +46,16 @@ screen_label n None = []
 
 -- `<screen>.<variable>`
 abbrev pub context_label : Names → Option Variable → List ℕ
-context_label n (Some v) = encode_utf8_all (screen_label n v.screen) ++ (codes "." ++ encode_utf8_all v.name)
+context_label n (Some v) = encode_utf8_all (screen_label n v.screen)
+    ++ (codes "." ++ encode_utf8_all v.name)
 context_label n None = []
 
 abbrev pub context_name : Names → ℕ → List ℕ
 context_name n k = context_label n (slice_get n.variables k)
 
--- What a source is called, in bytes: a formula by its address, a variable of a screen by both names, what a user gave and a
--- chosen row by the control's name behind a word, and all else by its name.
+-- What a source is called, in bytes: a formula by its address, a variable of a screen by both
+-- names, what a user gave and a chosen row by the control's name behind a word, and all else by its
+-- name.
 abbrev pub source_name : App → Source → List ℕ
 source_name a (source.Cell k) = encode_utf8_all (cell_address a k)
 source_name a (source.Global k) = encode_utf8_all (variable_name a.names k)
@@ -66,13 +69,16 @@ source_name a source.Today = codes "Today()"
 abbrev pub read_data : App → Source → json.Data
 read_data a s = string (source_name a s)
 
--- `{"cell":..,"reads":[..]}`: the address of a formula, and what its tree names, in the order of sources
+-- `{"cell":..,"reads":[..]}`: the address of a formula, and what its tree names, in the order of
+-- sources
 abbrev pub reads_data : App → CellInfo → json.Data
-reads_data a c = object (member (codes "cell") (string (encode_utf8_all c.cell.name)) (member (codes "reads") (array (items_of (map (read_data a) c.reads))) no_members))
+reads_data a c = object (member (codes "cell") (string (encode_utf8_all c.cell.name))
+    (member (codes "reads") (array (items_of (map (read_data a) c.reads))) no_members))
 
 -- `{"cells":[..]}`: each formula, in the order of the app
 abbrev pub graph_data : App → json.Data
-graph_data a = object (member (codes "cells") (array (items_of (map (reads_data a) a.cells))) no_members)
+graph_data a = object (member (codes "cells") (array (items_of (map (reads_data a) a.cells)))
+    no_members)
 
 unfoldable pub graph_text : App → List ℕ
 graph_text a = compact_text (graph_data a)

@@ -10,7 +10,8 @@ use fx_core::Source;
 use serde_json::{Value as Json, json};
 use std::alloc::Global;
 
-/// `{"cells":[..]}`: each formula of the app, in its order, with what its tree names, in the order of sources.
+/// `{"cells":[..]}`: each formula of the app, in its order, with what its tree names, in the order
+/// of sources.
 #[tactic(auto, unfolding(crate::specs::Graph::graph_text))]
 pub fn graph_json(alloc: Global, app: &App) -> Result<String, Memory>
     ensures { IfOk result (λ s. string_bytes s ≡ graph_text app.now) }

@@ -1,6 +1,8 @@
 // Sites as lines.
 ghost use Rattle.std.specs.Prelude.{◌≡◌, ◌++◌, IfOk, OnOk, string_bytes};
-ghost use Rattle.app_reports.specs.Plans.{accepted_line as accepted_bytes, cell_lines, checked_text, site_line as line_bytes, taker_text as taken_bytes};
+ghost use Rattle.app_reports.specs.Plans.{accepted_line as accepted_bytes, cell_lines};
+ghost use Rattle.app_reports.specs.Plans.{checked_text, site_line as line_bytes};
+ghost use Rattle.app_reports.specs.Plans.{taker_text as taken_bytes};
 
 use crate::tables::table_name;
 use app_cells::{App, CellInfo};
@@ -10,8 +12,8 @@ use fx_plan::Site;
 use fx_types::Words;
 use std::alloc::Global;
 
-/// `app accepted: <n> cells, <m> tables`, and a line for each place where a formula takes rows of a table, in the order of
-/// the app.
+/// `app accepted: <n> cells, <m> tables`, and a line for each place where a formula takes rows of a
+/// table, in the order of the app.
 #[tactic(auto, unfolding(crate::specs::Plans::checked_text))]
 pub fn checked_lines(alloc: Global, app: &App) -> Result<String, Memory>
     ensures { IfOk result (λ s. string_bytes s ≡ checked_text app.now) }
@@ -40,7 +42,8 @@ fn push_lines(
     info: &CellInfo,
     text: &mut String,
 ) -> Result<(), Memory>
-    ensures { OnOk result (string_bytes text.new ≡ string_bytes text.old ++ cell_lines schema.now.tables limit info.now) }
+    ensures { OnOk result (string_bytes text.new
+        ≡ string_bytes text.old ++ cell_lines schema.now.tables limit info.now) }
 {
     let sites = info.sites.as_slice();
     for site in sites {
@@ -57,7 +60,8 @@ fn site_line(
     cell: &Words,
     site: &Site,
 ) -> Result<String, Memory>
-    ensures { IfOk result (λ s. string_bytes s ≡ line_bytes schema.now.tables limit cell.now site.now) }
+    ensures { IfOk result (λ s. string_bytes s
+        ≡ line_bytes schema.now.tables limit cell.now site.now) }
 {
     let cell = cell.as_str();
     let number = site.number;

@@ -7,8 +7,9 @@ use fx_base::Memory;
 use fx_core::{Names, Source};
 use std::alloc::Global;
 
-/// What a source is called: a formula by its address, a variable of a screen by both names, what a control's user gave and
-/// the chosen row of a gallery by the control's name behind a word, and all else by its name.
+/// What a source is called: a formula by its address, a variable of a screen by both names, what a
+/// control's user gave and the chosen row of a gallery by the control's name behind a word, and all
+/// else by its name.
 pub(crate) fn source_name(alloc: Global, app: &App, source: Source) -> Result<String, Memory>
     ensures { IfOk result (λ s. string_bytes s ≡ graph.source_name app.now source) }
 {

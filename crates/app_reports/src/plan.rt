@@ -12,8 +12,9 @@ use fx_types::Words;
 use serde_json::{Value as Json, json};
 use std::alloc::Global;
 
-/// `{"sites":[..]}`: each place where a formula takes rows of a table, in the order of the app, with its number in the
-/// formula, the table, who takes its rows, and whether that takes all of them.
+/// `{"sites":[..]}`: each place where a formula takes rows of a table, in the order of the app,
+/// with its number in the formula, the table, who takes its rows, and whether that takes all of
+/// them.
 #[tactic(auto, unfolding(crate::specs::Plans::plan_text))]
 pub fn plan_json(alloc: Global, app: &App) -> Result<String, Memory>
     ensures { IfOk result (λ s. string_bytes s ≡ plan_text app.now) }
@@ -31,7 +32,8 @@ fn plan_object(alloc: Global, app: &App) -> Result<Json, Memory>
 
 // The sites of all formulas, formula after formula.
 fn site_objects(alloc: Global, app: &App) -> Result<Vec<Json>, Memory>
-    ensures { IfOk result (λ v. map json_view v.items ≡ flat_map (sites_data app.now.names.schema.tables) app.now.cells) }
+    ensures { IfOk result (λ v. map json_view v.items
+        ≡ flat_map (sites_data app.now.names.schema.tables) app.now.cells) }
 {
     let mut all = Vec::new(alloc);
     let cells = app.cells.as_slice();
@@ -48,7 +50,8 @@ fn push_sites(
     info: &CellInfo,
     all: &mut Vec<Json>,
 ) -> Result<(), Memory>
-    ensures { OnOk result (map json_view all.new.items ≡ map json_view all.old.items ++ sites_data schema.now.tables info.now) }
+    ensures { OnOk result (map json_view all.new.items
+        ≡ map json_view all.old.items ++ sites_data schema.now.tables info.now) }
 {
     let sites = info.sites.as_slice();
     for site in sites {

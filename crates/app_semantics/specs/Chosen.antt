@@ -1,5 +1,6 @@
 -- Which row of a gallery's items is chosen.
-use Rattle.std.specs.Prelude.{ℕ, zero, suc, pos, ◌*◌, ◌/◌, ◌%◌, ◌==◌, ◌&&◌, List, Bool, false, Option, Some, None, if◌then◌else◌, nat_le, slice_get}
+use Rattle.std.specs.Prelude.{ℕ, zero, suc, pos, ◌*◌, ◌/◌, ◌%◌, ◌==◌, ◌&&◌, List, Bool, false}
+use Rattle.std.specs.Prelude.{Option, Some, None, if◌then◌else◌, nat_le, slice_get}
 use Rattle.std.specs.List.{find}
 use Rattle.std.specs.Ordering.{int_eq}
 use Rattle.fx_types.specs.Lookup.{item_named}
@@ -22,7 +23,8 @@ abbrev pub row_at_position : ℕ → List Row → Option Row
 row_at_position zero rows = None
 row_at_position (suc i) rows = slice_get rows i
 
--- What is chosen: the first row where nothing is, the first row of the id where one was chosen, else the row at the position.
+-- What is chosen: the first row where nothing is, the first row of the id where one was chosen,
+-- else the row at the position.
 abbrev pub chosen_row : Option (ℕ × Option ℕ) → List Row → Option Row
 chosen_row None rows = slice_get rows 0
 chosen_row (Some (at, Some id)) rows = find (is_item_of_id id) rows
@@ -39,7 +41,8 @@ chosen_of c d = row_or_blank (chosen_row c (rows_in d))
 
 -- an item's id: its ID where that is a whole number from 1 to 4,294,967,295
 abbrev pub id_of : Option Data → Option ℕ
-id_of (Some (number (pos z))) = if (z % 10000 == 0) && (nat_le 1 (z / 10000) && nat_le (z / 10000) 4294967295) then Some (z / 10000) else None
+id_of (Some (number (pos z))) = if (z % 10000 == 0)
+    && (nat_le 1 (z / 10000) && nat_le (z / 10000) 4294967295) then Some (z / 10000) else None
 id_of d = None
 
 abbrev pub item_id : Row → Option ℕ

@@ -1,5 +1,6 @@
 -- The fresh values of the formulas of an app: those of their trees, where nothing is kept.
-use Rattle.std.specs.Prelude.{◌≡◌, ℕ, List, [], Bool, true, false, not, Option, Some, None, slice_get}
+use Rattle.std.specs.Prelude.{◌≡◌, ℕ, List, [], Bool, true, false, not, Option, Some, None}
+use Rattle.std.specs.Prelude.{slice_get}
 use Rattle.std.specs.List.{list_any}
 use Rattle.app_cells.specs.declared.app.App.{App}
 use Rattle.app_cells.specs.declared.app.CellInfo.{CellInfo}
@@ -20,9 +21,16 @@ abbrev pub CanRead : List Source → Source → Type 0
 CanRead reads (source.Table k) = Unit {0}
 CanRead reads s = IsAmong s reads
 
--- where a formula stands that reads these sources: over what they and tables give, and over the item of a gallery if it sees one
+-- where a formula stands that reads these sources: over what they and tables give, and over the
+-- item of a gallery if it sees one
 abbrev pub formula_context : Present → (ℕ → Data) → List Source → Option Data → Around
-formula_context p values reads item = record { gives = λ s v. CanRead reads s × SourceGives p values s v; rows = []; item = item; caught = None }
+formula_context p values reads item = record {
+  gives = λ s v. CanRead reads s
+      × SourceGives p values s v;
+  rows = [];
+  item = item;
+  caught = None;
+}
 
 -- a formula reads a table
 abbrev pub is_table : Source → Bool
@@ -42,14 +50,17 @@ abbrev pub IsWhere : Bool → Type 0 → Type 0 → Type 0
 IsWhere true P Q = P
 IsWhere false P Q = Q
 
--- THE VALUE OF A FORMULA where cells have these values. A query expression that no function takes whole gives its first rows,
--- as many as the app's row limit. Over rows that aren't told it is a value of the formula's type.
+-- THE VALUE OF A FORMULA where cells have these values. A query expression that no function takes
+-- whole gives its first rows, as many as the app's row limit. Over rows that aren't told it is a
+-- value of the formula's type.
 abbrev pub IsValueOf : Present → (ℕ → Data) → Option Data → CellInfo → Data → Type 0
 IsValueOf p values item c v =
-    IsWhere (is_told p.tables c.reads) (IsTakenValue p.app.names.schema.tables p.app.limit (formula_context p values c.reads item) c.core v)
+    IsWhere (is_told p.tables c.reads) (IsTakenValue p.app.names.schema.tables p.app.limit
+    (formula_context p values c.reads item) c.core v)
     (fits_in v (shape c.ty) ≡ true)
 
--- A formula that neither acts nor sees an item has a value by itself: P holds of it. Another counts as blank; none names it.
+-- A formula that neither acts nor sees an item has a value by itself: P holds of it. Another counts
+-- as blank; none names it.
 abbrev pub IsByItself : Bool → Option ℕ → Type 0 → Data → Type 0
 IsByItself false None P v = P
 IsByItself acts item P v = v ≡ blank
@@ -57,10 +68,12 @@ IsByItself acts item P v = v ≡ blank
 abbrev pub IsCellValue : Present → (ℕ → Data) → CellInfo → Data → Type 0
 IsCellValue p values c v = IsByItself c.cell.acts c.cell.item (IsValueOf p values None c v) v
 
--- FRESH: each cell has the value of its tree, over the values that all cells have. No order is in it. Where there is no cell
--- blank stands, so that an app has one such assignment over rows that are told.
+-- FRESH: each cell has the value of its tree, over the values that all cells have. No order is in
+-- it. Where there is no cell blank stands, so that an app has one such assignment over rows that
+-- are told.
 pub record IsFresh (p : Present) (values : ℕ → Data) : Type 0 where
-  pub cells : (k : ℕ) (c : CellInfo) → slice_get p.app.cells k ≡ Some c → IsCellValue p values c (values k)
+  pub cells : (k : ℕ) (c : CellInfo) → slice_get p.app.cells k ≡ Some c
+      → IsCellValue p values c (values k)
   pub beyond : (k : ℕ) → slice_get p.app.cells k ≡ None → values k ≡ blank
 
 -- all that the formulas of an app read is told, and the rows that are told fit their tables

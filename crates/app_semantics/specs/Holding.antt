@@ -16,12 +16,14 @@ use Rattle.session_state.specs.Sessions.{Holds, SessionState, stored_value}
 -- each source that is a session's own and has a type is held, with a value that fits it
 pub record HoldsFitting (n : Names) (s : SessionState) : Type 0 where
   pub sources_held : (x : Source) (t : Shape) → IsOwn x → sources n x ≡ Some t → Holds s x
-  pub values_fit : (x : Source) (t : Shape) → IsOwn x → sources n x ≡ Some t → fits_in (stored_value s x) t ≡ true
+  pub values_fit : (x : Source) (t : Shape) → IsOwn x → sources n x ≡ Some t
+      → fits_in (stored_value s x) t ≡ true
 
 -- where rows are told, those of each table fit it
 abbrev pub HoldRows : Schema → Option (List (List Row)) → Type 0
 HoldRows schema None = Unit {0}
-HoldRows schema (Some tables) = (k : ℕ) (t : TableShape) → slice_get schema.tables k ≡ Some t → All (IsRowOf t) (rows_at tables k)
+HoldRows schema (Some tables) = (k : ℕ) (t : TableShape) → slice_get schema.tables k ≡ Some t
+    → All (IsRowOf t) (rows_at tables k)
 
 -- a session that fits an app's names holds what fits them
 abbrev pub FittingHolds : Type 0

@@ -13,17 +13,23 @@ use Rattle.app_semantics.specs.Holding.{HoldRows, HoldsFitting}
 -- each fresh value fits the type of its cell
 abbrev pub FreshFits : Type 0
 FreshFits =
-    (p : Present) (values : ℕ → Data) → IsSoundApp p.app → HoldsFitting p.app.names p.session → HoldRows p.app.names.schema p.tables → IsFresh p values →
-    (k : ℕ) (c : CellInfo) → slice_get p.app.cells k ≡ Some c → fits_in (values k) (shape c.ty) ≡ true
+    (p : Present) (values : ℕ → Data) → IsSoundApp p.app → HoldsFitting p.app.names p.session
+    → HoldRows p.app.names.schema p.tables → IsFresh p values →
+    (k : ℕ) (c : CellInfo) → slice_get p.app.cells k ≡ Some c
+    → fits_in (values k) (shape c.ty) ≡ true
 
--- an app has one fresh assignment, where all that it reads is told: its formulas don't lean on one another in a circle
+-- an app has one fresh assignment, where all that it reads is told: its formulas don't lean on one
+-- another in a circle
 abbrev pub OneFresh : Type 0
 OneFresh =
-    (p : Present) (values others : ℕ → Data) → IsSoundApp p.app → HoldsFitting p.app.names p.session → AreKnown p.app p.tables →
+    (p : Present) (values others : ℕ → Data) → IsSoundApp p.app → HoldsFitting p.app.names p.session
+    → AreKnown p.app p.tables →
     IsFresh p values → IsFresh p others → values ≡ others
 
 -- a cell has one fresh value, however little is known of cells that it doesn't need
 abbrev pub OneFreshAt : Type 0
 OneFreshAt =
-    (p : Present) (values others : ℕ → Data) (k : ℕ) (c : CellInfo) → IsSoundApp p.app → HoldsFitting p.app.names p.session → AreKnown p.app p.tables →
-    slice_get p.app.cells k ≡ Some c → IsFreshAt p values k → IsFreshAt p others k → values k ≡ others k
+    (p : Present) (values others : ℕ → Data) (k : ℕ) (c : CellInfo) → IsSoundApp p.app
+    → HoldsFitting p.app.names p.session → AreKnown p.app p.tables →
+    slice_get p.app.cells k ≡ Some c → IsFreshAt p values k → IsFreshAt p others k
+    → values k ≡ others k

@@ -1,5 +1,6 @@
 -- What the formulas of an app are evaluated over, and what their sources then give.
-use Rattle.std.specs.Prelude.{◌≡◌, ℕ, pos, List, false, Option, Some, None, slice_get, slice_index_or}
+use Rattle.std.specs.Prelude.{◌≡◌, ℕ, pos, List, false, Option, Some, None, slice_get}
+use Rattle.std.specs.Prelude.{slice_index_or}
 use Rattle.app_cells.specs.Leaning.{default_cell, items_cell}
 use Rattle.app_cells.specs.declared.app.App.{App}
 use Rattle.app_semantics.specs.Chosen.{chosen_of}
@@ -16,7 +17,8 @@ use Rattle.row_queries.specs.TableRows.{rows_at, rows_table}
 use Rattle.row_queries.specs.declared.rows.Row.{Row}
 use Rattle.session_state.specs.Sessions.{SessionState, stored_value}
 
--- an app, a session of it, the rows of its tables where they are told, and a moment in seconds since 1970-01-01 UTC
+-- an app, a session of it, the rows of its tables where they are told, and a moment in seconds
+-- since 1970-01-01 UTC
 pub record Present : Type 0 where
   pub app : App
   pub session : SessionState
@@ -48,7 +50,8 @@ given_or v d = v
 
 -- the value of an input: the user's, else that of the formula of its default, else that of its kind
 abbrev pub input_of : Names → SessionState → (ℕ → Data) → ℕ → Data
-input_of n s values k = given_or (stored_value s (source.Input k)) (cell_value_or values (unset_value (slice_get n.controls k)) (default_cell n k))
+input_of n s values k = given_or (stored_value s (source.Input k))
+    (cell_value_or values (unset_value (slice_get n.controls k)) (default_cell n k))
 
 -- the items of a gallery: the value of their formula, and no rows without one
 abbrev pub items_of : Names → (ℕ → Data) → ℕ → Data
@@ -58,7 +61,8 @@ items_of n values g = cell_value_or values (tab no_rows) (items_cell n g)
 abbrev pub selected_of : Names → SessionState → (ℕ → Data) → ℕ → Data
 selected_of n s values g = chosen_of (slice_index_or s.chosen g None) (items_of n values g)
 
--- the value of a table by its number, which has this shape, if there is one. Where no rows are told it gives nothing.
+-- the value of a table by its number, which has this shape, if there is one. Where no rows are told
+-- it gives nothing.
 abbrev pub GivesTable : Option TableShape → Option (List (List Row)) → ℕ → Data → Type 0
 GivesTable (Some t) (Some tables) k v = v ≡ rows_table t (rows_at tables k)
 GivesTable t tables k v = ⊥
@@ -71,5 +75,6 @@ SourceGives p values (source.Context k) v = v ≡ stored_value p.session (source
 SourceGives p values (source.Gathered k) v = v ≡ stored_value p.session (source.Gathered k)
 SourceGives p values (source.Input k) v = v ≡ input_of p.app.names p.session values k
 SourceGives p values (source.Chosen k) v = v ≡ selected_of p.app.names p.session values k
-SourceGives p values (source.Table k) v = GivesTable (slice_get p.app.names.schema.tables k) p.tables k v
+SourceGives p values (source.Table k) v = GivesTable (slice_get p.app.names.schema.tables k)
+    p.tables k v
 SourceGives p values source.Today v = IsToday p.moment v

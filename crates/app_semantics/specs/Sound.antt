@@ -1,5 +1,6 @@
 -- What holds of an accepted app.
-use Rattle.std.specs.Prelude.{◌≡◌, ◌↔◌, ℕ, List, [], length, true, false, Option, Some, None, slice_get}
+use Rattle.std.specs.Prelude.{◌≡◌, ◌↔◌, ℕ, List, [], length, true, false, Option, Some, None}
+use Rattle.std.specs.Prelude.{slice_get}
 use Rattle.app_cells.specs.Leaning.{edges_of}
 use Rattle.app_cells.specs.Reach.{IsSupport}
 use Rattle.app_cells.specs.Spots as spots
@@ -28,7 +29,13 @@ use Rattle.fx_plan.specs.Limited.{limited}
 
 -- where the tree of a formula stands: among the names of the app, and perhaps in a gallery
 abbrev pub context_at : Names → Option ℕ → Context
-context_at n gallery = record { sources = sources n; screens = length n.screens; rows = []; item = item_context n gallery; caught = false }
+context_at n gallery = record {
+  sources = sources n;
+  screens = length n.screens;
+  rows = [];
+  item = item_context n gallery;
+  caught = false;
+}
 
 -- a formula that doesn't act is a lawful tree, among lawful types, and nothing in it acts
 pub record IsCalm (n : Names) (c : CellInfo) : Type 0 where
@@ -36,8 +43,8 @@ pub record IsCalm (n : Names) (c : CellInfo) : Type 0 where
   pub lawful : IsLawfulTree c.core
   pub quiet : acts c.core ≡ false
 
--- A formula that acts can be performed: it stands among lawful types, its tree names lawful types, and what acts in it acts in
--- its place.
+-- A formula that acts can be performed: it stands among lawful types, its tree names lawful types,
+-- and what acts in it acts in its place.
 pub record IsPerformable (n : Names) (c : CellInfo) : Type 0 where
   pub context : IsLawfulContext (context_at n c.cell.item)
   pub lawful : HasLawfulTypes c.core
@@ -50,7 +57,8 @@ pub record IsSoundCell (n : Names) (c : CellInfo) : Type 0 where
   pub acting : c.cell.acts ≡ true → IsPerformable n c
   pub reads : (s : Source) → IsAmong s c.reads ↔ IsAmong s (sources_in c.core)
 
--- the cell of this number has a formula that doesn't act, sees the item of this gallery, if any, and has this type
+-- the cell of this number has a formula that doesn't act, sees the item of this gallery, if any,
+-- and has this type
 pub record IsCellOf (cells : List CellInfo) (k : ℕ) (gallery : Option ℕ) (t : Shape) : Type 0 where
   pub cell : CellInfo
   pub there : slice_get cells k ≡ Some cell
@@ -58,24 +66,34 @@ pub record IsCellOf (cells : List CellInfo) (k : ℕ) (gallery : Option ℕ) (t 
   pub item : cell.cell.item ≡ gallery
   pub ty : shape cell.ty ≡ t
 
--- the tree that is evaluated is the formula's, in which query expressions that aren't taken whole give their first rows
+-- the tree that is evaluated is the formula's, in which query expressions that aren't taken whole
+-- give their first rows
 abbrev pub IsLimitedTree : List TableShape → ℕ → CellInfo → Type 0
 IsLimitedTree ts most c = c.taken ≡ limited ts most 0 false c.core
 
 -- what an app has beside its formulas
 abbrev pub frame_in : App → Frame
-frame_in a = record { schema = a.names.schema; limit = a.limit; screens = a.names.screens; controls = a.names.controls }
+frame_in a = record {
+  schema = a.names.schema;
+  limit = a.limit;
+  screens = a.names.screens;
+  controls = a.names.controls;
+}
 
--- AN ACCEPTED APP: its names are lawful and those of its cells, each formula stands where it says and has its type, the
--- order is one of leaning, and of each formula it is known what it stands on.
+-- AN ACCEPTED APP: its names are lawful and those of its cells, each formula stands where it says
+-- and has its type, the order is one of leaning, and of each formula it is known what it stands on.
 pub record IsSoundApp (a : App) : Type 0 where
   pub names : IsLawful a.names
-  pub placed : (k : ℕ) (c : CellInfo) → slice_get a.cells k ≡ Some c → spots.IsPlaced (frame_in a) c.cell
+  pub placed : (k : ℕ) (c : CellInfo) → slice_get a.cells k ≡ Some c
+      → spots.IsPlaced (frame_in a) c.cell
   pub cells : (k : ℕ) (c : CellInfo) → slice_get a.cells k ≡ Some c → IsSoundCell a.names c
-  pub formulas : (i : ℕ) (f : FormulaName) → slice_get a.names.formulas i ≡ Some f → IsCellOf a.cells f.cell None (shape f.ty)
+  pub formulas : (i : ℕ) (f : FormulaName) → slice_get a.names.formulas i ≡ Some f
+      → IsCellOf a.cells f.cell None (shape f.ty)
   pub properties : (i : ℕ) (p : Property) (c : ControlName) (t : Shape) →
-      slice_get a.names.properties i ≡ Some p → slice_get a.names.controls p.control ≡ Some c → property_of p.name c ≡ Some t →
+      slice_get a.names.properties i ≡ Some p → slice_get a.names.controls p.control ≡ Some c
+      → property_of p.name c ≡ Some t →
       IsCellOf a.cells p.cell c.gallery t
-  pub taken : (k : ℕ) (c : CellInfo) → slice_get a.cells k ≡ Some c → IsLimitedTree a.names.schema.tables a.limit c
+  pub taken : (k : ℕ) (c : CellInfo) → slice_get a.cells k ≡ Some c
+      → IsLimitedTree a.names.schema.tables a.limit c
   pub order : IsOrder (length a.cells) (edges_of a.names a.cells) a.order
   pub supports : (k : ℕ) (c : CellInfo) → slice_get a.cells k ≡ Some c → IsSupport a k c.support

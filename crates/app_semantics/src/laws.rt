@@ -4,20 +4,22 @@ ghost use Rattle.app_semantics.specs.Laws.{FreshFits, OneFresh, OneFreshAt};
 
 use fx_semantics::one_value;
 
-/// A law, and no work: over a session whose values fit an accepted app, each fresh value fits the type of its cell.
+/// A law, and no work: over a session whose values fit an accepted app, each fresh value fits the
+/// type of its cell.
 pub fn fresh_fits()
     ensures { FreshFits }
 {}
 
-/// A law, and no work: over a session whose values fit an accepted app, each cell has one fresh value.
+/// A law, and no work: over a session whose values fit an accepted app, each cell has one fresh
+/// value.
 pub fn one_fresh()
     ensures { OneFresh }
 {
     one_value();
 }
 
-/// A law, and no work: over a session whose values fit an accepted app, a cell has one fresh value, whatever those have that it
-/// doesn't need.
+/// A law, and no work: over a session whose values fit an accepted app, a cell has one fresh value,
+/// whatever those have that it doesn't need.
 pub fn one_fresh_at()
     ensures { OneFreshAt }
 {

@@ -1,5 +1,7 @@
 -- The formulas of an app in which one is replaced.
-use Rattle.std.specs.Prelude.{◌≡◌, ◌≢◌, ◌≤◌, ◌<◌, ℕ, List, [], ◌∷◌, Bool, true, false, Option, Some, None, Result, Ok, Err, find, filter_map, length, encode_utf8_all, if◌then◌else◌}
+use Rattle.std.specs.Prelude.{◌≡◌, ◌≢◌, ◌≤◌, ◌<◌, ℕ, List, [], ◌∷◌, Bool, true, false, Option, Some}
+use Rattle.std.specs.Prelude.{None, Result, Ok, Err, find, filter_map, length, encode_utf8_all}
+use Rattle.std.specs.Prelude.{if◌then◌else◌}
 use Rattle.fx_core.specs.declared.broken.Broken.{Broken}
 use Rattle.fx_core.specs.declared.rule.Rule.TheVariants as rule
 use Rattle.app_file.specs.declared.breaks.FileBreak.TheVariants as why
@@ -29,7 +31,8 @@ utf8_length text = length (encode_utf8_all text)
 abbrev pub most_text_bytes : ℕ
 most_text_bytes = most_allowed limit.Formula
 
--- A text without a name of its own may not be too long, as in a file, and where it is empty it is no formula.
+-- A text without a name of its own may not be too long, as in a file, and where it is empty it is
+-- no formula.
 abbrev pub passes_limit : List ℕ → Broken
 passes_limit text = broken_of (why.Passed limit.Formula (utf8_length text))
 
@@ -41,9 +44,12 @@ abbrev pub IsFormulaAt : Spot → List ℕ → Type 0
 IsFormulaAt (spot.Formula x) text = Unit {0}
 IsFormulaAt s text = IsShort text
 
--- WHAT A TEXT GIVES AT A PLACE: it is too long; it is empty, and no formula stands there; it is no formula; or it is this one.
-pub data TextGives (f : Frame) (s : Spot) (text : List ℕ) : Result (Option Cell) Broken → Type 0 where
-  long : is_named_formula s ≡ false → most_text_bytes < utf8_length text → TextGives f s text (Err (passes_limit text))
+-- WHAT A TEXT GIVES AT A PLACE: it is too long; it is empty, and no formula stands there; it is no
+-- formula; or it is this one.
+pub data TextGives (f : Frame) (s : Spot) (text : List ℕ) : Result (Option Cell) Broken
+    → Type 0 where
+  long : is_named_formula s ≡ false → most_text_bytes < utf8_length text
+      → TextGives f s text (Err (passes_limit text))
   empty : is_named_formula s ≡ false → utf8_length text ≡ 0 → TextGives f s text (Ok None)
   unread : (b : Broken) → IsFormulaAt s text → IsUnreadAt f s text b → TextGives f s text (Err b)
   read : (c : Cell) → IsFormulaAt s text → IsReadAt f s text c → TextGives f s text (Ok (Some c))
@@ -52,7 +58,8 @@ pub data TextGives (f : Frame) (s : Spot) (text : List ℕ) : Result (Option Cel
 abbrev pub written_at : List Cell → Spot → Option Cell
 written_at cells s = find (λ (c : Cell). is_same_spot s c.spot) cells
 
--- what stands at a place: at the edited one what is given, and at each other one what is written there
+-- what stands at a place: at the edited one what is given, and at each other one what is written
+-- there
 abbrev pub edited_cell : List Cell → Spot → Option Cell → Spot → Option Cell
 edited_cell cells s given here = if is_same_spot here s then given else written_at cells here
 
@@ -60,8 +67,12 @@ edited_cell cells s given here = if is_same_spot here s then given else written_
 abbrev pub with_cell : App → Spot → Option Cell → List Cell
 with_cell a s given = filter_map (edited_cell (written_texts a) s given) (spots a)
 
--- WHAT AN EDIT MAKES OF THE FORMULAS OF AN APP: no formula can stand there; what is given is broken; or it stands there.
+-- WHAT AN EDIT MAKES OF THE FORMULAS OF AN APP: no formula can stand there; what is given is
+-- broken; or it stands there.
 pub data IsEdited (a : App) (address text : List ℕ) : Result (List Cell) Broken → Type 0 where
   nowhere : spot_of a address ≡ None → IsEdited a address text (Err (no_place address))
-  broken : (s : Spot) (b : Broken) → spot_of a address ≡ Some s → TextGives (app_frame a) s text (Err b) → IsEdited a address text (Err b)
-  replaced : (s : Spot) (given : Option Cell) → spot_of a address ≡ Some s → TextGives (app_frame a) s text (Ok given) → IsEdited a address text (Ok (with_cell a s given))
+  broken : (s : Spot) (b : Broken) → spot_of a address ≡ Some s
+      → TextGives (app_frame a) s text (Err b) → IsEdited a address text (Err b)
+  replaced : (s : Spot) (given : Option Cell) → spot_of a address ≡ Some s
+      → TextGives (app_frame a) s text (Ok given)
+      → IsEdited a address text (Ok (with_cell a s given))

@@ -13,7 +13,12 @@ without_items c = record c { items = ty.Blank }
 
 -- what it has beside its formulas
 abbrev pub app_frame : App → Frame
-app_frame a = record { schema = a.names.schema; limit = a.limit; screens = a.names.screens; controls = map without_items a.names.controls }
+app_frame a = record {
+  schema = a.names.schema;
+  limit = a.limit;
+  screens = a.names.screens;
+  controls = map without_items a.names.controls;
+}
 
 -- its formulas, as they are written
 abbrev pub written_texts : App → List Cell

@@ -31,7 +31,8 @@ is_written_at s i = is_same_spot s i.cell.spot
 
 -- each place has the number of the first formula that is written there, and no other place has one
 abbrev pub AreNumbers : BTreeMap Place ℕ → List CellInfo → Type 0
-AreNumbers numbers cells = (s : Spot) → spot_number numbers (spot_order s) ≡ position (is_written_at s) cells
+AreNumbers numbers cells = (s : Spot) → spot_number numbers (spot_order s)
+    ≡ position (is_written_at s) cells
 
 -- a place that had no number has this one
 abbrev pub or_numbered : Option ℕ → Option ℕ → Option ℕ
@@ -39,4 +40,5 @@ or_numbered (Some k) later = Some k
 or_numbered None later = later
 
 abbrev pub IsNumberNoted : BTreeMap Place ℕ → BTreeMap Place ℕ → Place → ℕ → Type 0
-IsNumberNoted old new p k = (q : Place) → spot_number new q ≡ or_numbered (spot_number old q) (if is_eq (in_order p q) then Some k else None)
+IsNumberNoted old new p k = (q : Place) → spot_number new q
+    ≡ or_numbered (spot_number old q) (if is_eq (in_order p q) then Some k else None)

@@ -1,5 +1,6 @@
 -- The places of an app where formulas may stand, and the one that an address names.
-use Rattle.std.specs.Prelude.{ℕ, suc, ◌++◌, List, [], ◌∷◌, Bool, true, false, ◌&&◌, Option, find, flat_map, map, nat_eq, bytes_eq, if◌then◌else◌}
+use Rattle.std.specs.Prelude.{ℕ, suc, ◌++◌, List, [], ◌∷◌, Bool, true, false, ◌&&◌, Option, find}
+use Rattle.std.specs.Prelude.{flat_map, map, nat_eq, bytes_eq, if◌then◌else◌}
 use Rattle.fx_types.specs.Words.{scalars_of}
 use Rattle.fx_types.specs.declared.controls.Control.{Control}
 use Rattle.fx_core.specs.declared.names.ControlName.{ControlName}
@@ -24,16 +25,19 @@ property_spots number kind = map (λ p. spot.Property number (scalars_of p)) (pr
 -- those of the controls of a screen among controls that are numbered from this number on
 abbrev pub control_spots : ℕ → ℕ → List ControlName → List Spot
 control_spots screen number [] = []
-control_spots screen number (c ∷ cs) = (if nat_eq c.screen screen then property_spots number c.kind else []) ++ control_spots screen (suc number) cs
+control_spots screen number (c ∷ cs) = (if nat_eq c.screen screen then property_spots number
+    c.kind else []) ++ control_spots screen (suc number) cs
 
 -- for each screen what runs when it is shown, and the properties of its controls
 abbrev pub screen_spots : List ControlName → ℕ → List (List ℕ) → List Spot
 screen_spots cs screen [] = []
-screen_spots cs screen (x ∷ xs) = spot.OnVisible screen ∷ (control_spots screen 0 cs ++ screen_spots cs (suc screen) xs)
+screen_spots cs screen (x ∷ xs) = spot.OnVisible screen
+    ∷ (control_spots screen 0 cs ++ screen_spots cs (suc screen) xs)
 
 -- THE PLACES OF AN APP, in its order: those of its named formulas, and all of its frame
 abbrev pub spots_in : Frame → List CellInfo → List Spot
-spots_in f is = flat_map (λ (i : CellInfo). named_spot i.cell.spot) is ++ spot.OnStart ∷ screen_spots f.controls 0 f.screens
+spots_in f is = flat_map (λ (i : CellInfo). named_spot i.cell.spot) is ++ spot.OnStart
+    ∷ screen_spots f.controls 0 f.screens
 
 abbrev pub spots : App → List Spot
 spots a = spots_in (app_frame a) a.cells

@@ -18,7 +18,8 @@ pub record ArePutBehind {A : Type 0} (R : List A → Type 0) (old new : List A) 
   pub behind : new ≡ old ++ more
   pub holds : R more
 
-pub record IsPutBehind (R : List Cell → List Broken → Type 0) (old_cells new_cells : List Cell) (old_breaks new_breaks : List Broken) : Type 0 where
+pub record IsPutBehind (R : List Cell → List Broken → Type 0) (old_cells new_cells : List Cell)
+    (old_breaks new_breaks : List Broken) : Type 0 where
   pub cells : List Cell
   pub breaks : List Broken
   pub cells_behind : new_cells ≡ old_cells ++ cells

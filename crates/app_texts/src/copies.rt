@@ -1,4 +1,5 @@
-//! What stays of an app when one of its formulas changes: copies of what it has beside its formulas, and of the others.
+//! What stays of an app when one of its formulas changes: copies of what it has beside its
+//! formulas, and of the others.
 ghost use Rattle.std.specs.Prelude.{◌≡◌, IfOk, map};
 ghost use Rattle.app_texts.specs.Frames as frames;
 

@@ -1,5 +1,6 @@
 //! The formulas of an app in which one is replaced.
-ghost use Rattle.std.specs.Prelude.{◌≡◌, ◌++◌, [], All, Err, IfErr, IfOk, Ok, OnOk, filter_map, map, option_map};
+ghost use Rattle.std.specs.Prelude.{◌≡◌, ◌++◌, [], All, Err, IfErr, IfOk, Ok, OnOk, filter_map};
+ghost use Rattle.std.specs.Prelude.{map, option_map};
 ghost use Rattle.std.specs.List.{cons_option};
 ghost use Rattle.app_cells.specs.Spots.{IsFrame, IsPlaced, IsSpot};
 ghost use Rattle.app_cells.specs.declared.app.CellInfo.{CellInfo as Info};
@@ -89,7 +90,8 @@ fn given_cell(
 
 // Adds a formula, if there is one.
 fn put_cell(alloc: Global, cell: Option<&Cell>, cells: &mut Vec<Cell>) -> Result<(), Memory>
-    ensures { OnOk result (cells.new.items ≡ cells.old.items ++ cons_option (option_map (λ c. c.now) cell.entry) []) }
+    ensures { OnOk result (cells.new.items ≡ cells.old.items
+        ++ cons_option (option_map (λ c. c.now) cell.entry) []) }
 {
     if let Some(cell) = cell {
         cells.push(copy_cell(alloc, cell)?)?;
@@ -97,7 +99,8 @@ fn put_cell(alloc: Global, cell: Option<&Cell>, cells: &mut Vec<Cell>) -> Result
     Ok(())
 }
 
-// What stands at a place: at the edited one what is given, and at each other one what is written there.
+// What stands at a place: at the edited one what is given, and at each other one what is written
+// there.
 fn standing_at<'a>(
     alloc: Global,
     numbers: &BTreeMap<Place, usize>,
@@ -107,7 +110,8 @@ fn standing_at<'a>(
     here: &Spot,
 ) -> Result<Option<&'a Cell>, Memory>
     requires { AreNumbers numbers.now cells.now }
-    ensures { IfOk result (λ o. option_map (λ c. c.now) o ≡ edits.edited_cell (map (λ (i : Info). i.cell) cells.now) spot.now given.now here.now) }
+    ensures { IfOk result (λ o. option_map (λ c. c.now) o
+        ≡ edits.edited_cell (map (λ (i : Info). i.cell) cells.now) spot.now given.now here.now) }
 {
     if is_same(here, spot) {
         return Ok(given.as_ref());
@@ -123,7 +127,8 @@ fn standing_cells(
     spot: &Spot,
     given: &Option<Cell>,
 ) -> Result<Vec<Cell>, Memory>
-    ensures { IfOk result (λ v. v.items ≡ filter_map (edits.edited_cell (map (λ (i : Info). i.cell) cells.now) spot.now given.now) spots.now) }
+    ensures { IfOk result (λ v. v.items ≡ filter_map
+        (edits.edited_cell (map (λ (i : Info). i.cell) cells.now) spot.now given.now) spots.now) }
 {
     let numbers = numbers_of(alloc, cells)?;
     let mut standing = Vec::new(alloc);
@@ -134,9 +139,9 @@ fn standing_cells(
     Ok(standing)
 }
 
-/// The formulas of an app in which the one at this address is that of a text, beside what the app has beside its formulas. An
-/// empty text takes a formula away that has no name. It is refused that no formula can stand at the address, that the text
-/// is too long, or why it is no formula.
+/// The formulas of an app in which the one at this address is that of a text, beside what the app
+/// has beside its formulas. An empty text takes a formula away that has no name. It is refused that
+/// no formula can stand at the address, that the text is too long, or why it is no formula.
 pub fn edit_cells(
     alloc: Global,
     app: &App,

@@ -1,5 +1,6 @@
 //! The texts of an app file's formulas, where they stand.
-ghost use Rattle.std.specs.Prelude.{◌≡◌, ◌≤◌, ◌+◌, ◌++◌, ◌∷◌, [], IfOk, OnOk, encode_utf8_all, length};
+ghost use Rattle.std.specs.Prelude.{◌≡◌, ◌≤◌, ◌+◌, ◌++◌, ◌∷◌, [], IfOk, OnOk, encode_utf8_all};
+ghost use Rattle.std.specs.Prelude.{length};
 ghost use Rattle.std.specs.List.{filter};
 ghost use Rattle.app_texts.specs.Files as files;
 ghost use Rattle.app_texts.specs.Files.{IsSoundFile, formula_texts};
@@ -25,7 +26,8 @@ fn is_empty(text: &Words) -> bool
 
 // Adds a text, if it is a formula's.
 fn put_text(alloc: Global, spot: Spot, text: &Words, texts: &mut Vec<Text>) -> Result<(), Memory>
-    ensures { OnOk result (texts.new.items ≡ texts.old.items ++ filter files.is_written (files.text_of_spot spot text.now ∷ [])) }
+    ensures { OnOk result (texts.new.items ≡ texts.old.items
+        ++ filter files.is_written (files.text_of_spot spot text.now ∷ [])) }
 {
     if !is_empty(text) {
         let text = text.copy(alloc)?;
@@ -41,7 +43,8 @@ fn put_properties(
     control: &ControlShape,
     texts: &mut Vec<Text>,
 ) -> Result<(), Memory>
-    ensures { OnOk result (texts.new.items ≡ texts.old.items ++ filter files.is_written (files.property_texts number control.now)) }
+    ensures { OnOk result (texts.new.items ≡ texts.old.items
+        ++ filter files.is_written (files.property_texts number control.now)) }
 {
     for property in control.properties.as_slice() {
         let spot = Spot::Property(number, property.name.copy(alloc)?);
@@ -58,7 +61,8 @@ fn put_controls(
     texts: &mut Vec<Text>,
 ) -> Result<(), Memory>
     requires { first + length controls.now ≤ 500 }
-    ensures { OnOk result (texts.new.items ≡ texts.old.items ++ filter files.is_written (files.texts_of_controls first controls.now)) }
+    ensures { OnOk result (texts.new.items ≡ texts.old.items
+        ++ filter files.is_written (files.texts_of_controls first controls.now)) }
 {
     let mut number = first;
     for control in controls {
@@ -72,7 +76,8 @@ fn put_controls(
 fn put_screens(alloc: Global, screens: &[ScreenShape], texts: &mut Vec<Text>) -> Result<(), Memory>
     requires few { length screens.now ≤ 64 }
     requires few_controls { length (files.controls_from 0 0 screens.now) ≤ 500 }
-    ensures { OnOk result (texts.new.items ≡ texts.old.items ++ filter files.is_written (files.texts_of_screens 0 0 screens.now)) }
+    ensures { OnOk result (texts.new.items ≡ texts.old.items
+        ++ filter files.is_written (files.texts_of_screens 0 0 screens.now)) }
 {
     let mut number = 0;
     let mut first = 0;

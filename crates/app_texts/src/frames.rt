@@ -44,7 +44,8 @@ fn put_controls(
 ) -> Result<(), Memory>
     requires few { first + length shapes.now ≤ 500 }
     requires galleries { All (λ (c : Shape). files.IsGalleryShapeAt shapes.now c.gallery) shapes.now }
-    ensures { OnOk result (controls.new ≡ controls.old ++ map (files.control_of screen first) shapes.now) }
+    ensures { OnOk result (controls.new ≡ controls.old
+        ++ map (files.control_of screen first) shapes.now) }
 {
     for shape in shapes {
         controls.push(control_of(alloc, screen, first, shape)?)?;

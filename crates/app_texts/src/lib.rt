@@ -1,4 +1,5 @@
-//! From an app file, or a text of named formulas, to its formulas with their trees, or to the texts that are none.
+//! From an app file, or a text of named formulas, to its formulas with their trees, or to the texts
+//! that are none.
 #![tactic(auto)]
 
 pub mod copies;

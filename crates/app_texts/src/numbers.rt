@@ -64,7 +64,8 @@ pub(crate) fn written_at<'a>(
     spot: &Spot,
 ) -> Result<Option<&'a Cell>, Memory>
     requires { AreNumbers numbers.now cells.now }
-    ensures { IfOk result (λ o. option_map (λ c. c.now) o ≡ edits.written_at (map (λ (i : Info). i.cell) cells.now) spot.now) }
+    ensures { IfOk result (λ o. option_map (λ c. c.now) o
+        ≡ edits.written_at (map (λ (i : Info). i.cell) cells.now) spot.now) }
 {
     let place = place_of(alloc, spot)?;
     match numbers.get(&place) {
@@ -75,7 +76,8 @@ pub(crate) fn written_at<'a>(
 
 // The formula of a number.
 fn cell_at(cells: &[CellInfo], number: usize) -> Option<&Cell>
-    ensures { option_map (λ c. c.now) result ≡ option_map (λ (i : Info). i.cell) (slice_get cells.now number) }
+    ensures { option_map (λ c. c.now) result ≡ option_map (λ (i : Info). i.cell)
+        (slice_get cells.now number) }
 {
     Some(&cells.get(number)?.cell)
 }

@@ -15,7 +15,8 @@ use std::alloc::Global;
 
 // Adds the places of named formulas.
 fn put_formulas(alloc: Global, cells: &[CellInfo], spots: &mut Vec<Spot>) -> Result<(), Memory>
-    ensures { OnOk result (spots.new.items ≡ spots.old.items ++ flat_map (λ (i : Info). places.named_spot i.cell.spot) cells.now) }
+    ensures { OnOk result (spots.new.items ≡ spots.old.items
+        ++ flat_map (λ (i : Info). places.named_spot i.cell.spot) cells.now) }
 {
     for info in cells {
         if let Spot::Formula(name) = &info.cell.spot {
@@ -50,7 +51,8 @@ fn put_controls(
     spots: &mut Vec<Spot>,
 ) -> Result<(), Memory>
     requires { length controls.now ≤ 500 }
-    ensures { OnOk result (spots.new.items ≡ spots.old.items ++ places.control_spots screen 0 controls.now) }
+    ensures { OnOk result (spots.new.items ≡ spots.old.items
+        ++ places.control_spots screen 0 controls.now) }
 {
     let mut number = 0;
     for control in controls {
@@ -62,7 +64,8 @@ fn put_controls(
     Ok(())
 }
 
-// Adds for each screen where the formula stands that runs when it is shown, and the places of its controls.
+// Adds for each screen where the formula stands that runs when it is shown, and the places of its
+// controls.
 fn put_screens(
     alloc: Global,
     screens: &[Words],
@@ -71,7 +74,8 @@ fn put_screens(
 ) -> Result<(), Memory>
     requires screens { length screens.now ≤ 64 }
     requires controls { length controls.now ≤ 500 }
-    ensures { OnOk result (spots.new.items ≡ spots.old.items ++ places.screen_spots controls.now 0 screens.now) }
+    ensures { OnOk result (spots.new.items ≡ spots.old.items
+        ++ places.screen_spots controls.now 0 screens.now) }
 {
     let mut number = 0;
     for _name in screens {
@@ -82,8 +86,9 @@ fn put_screens(
     Ok(())
 }
 
-/// The places of an app, in its order: those of its named formulas, `App.OnStart`, and for each screen its `OnVisible` and
-/// the properties of its controls, whether a formula is written there or not.
+/// The places of an app, in its order: those of its named formulas, `App.OnStart`, and for each
+/// screen its `OnVisible` and the properties of its controls, whether a formula is written there or
+/// not.
 pub fn spots_of(alloc: Global, frame: &Frame, cells: &[CellInfo]) -> Result<Vec<Spot>, Memory>
     requires { IsFrame frame.now }
     ensures { IfOk result (λ v. v.items ≡ places.spots_in frame.now cells.now) }

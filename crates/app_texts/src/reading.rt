@@ -1,10 +1,14 @@
 //! From texts to formulas.
-ghost use Rattle.std.specs.Prelude.{◌≡◌, ◌<◌, ◌^◌, ◌∷◌, [], All, Err, IfErr, IfOk, Ok, OnOk, codes, encode_utf8_all, length};
+ghost use Rattle.std.specs.Prelude.{◌≡◌, ◌<◌, ◌^◌, ◌∷◌, [], All, Err, IfErr, IfOk, Ok, OnOk, codes};
+ghost use Rattle.std.specs.Prelude.{encode_utf8_all, length};
 ghost use Rattle.fx_core.specs.declared.broken.Broken.{Broken as Break};
 ghost use Rattle.app_cells.specs.Spots.{IsFrame, IsPlaced, IsSpot};
 ghost use Rattle.app_texts.specs.Files.{IsSoundFile};
-ghost use Rattle.app_texts.specs.Texts.{AreNamedAt, AreNamedCells, AreReadAt, IsNamedCell, IsNamedReading, IsReadAt, IsReading, IsStart, IsToldOfText, IsUnreadAt, TellsBreak, TellsBreaks, bare_frame};
-ghost use Rattle.app_texts.specs.Steps.{AreReadable, BeginsAt, HasSomeTree, IsFilled, ArePutBehind, IsPutBehind};
+ghost use Rattle.app_texts.specs.Texts.{AreNamedAt, AreNamedCells, AreReadAt, IsNamedCell};
+ghost use Rattle.app_texts.specs.Texts.{IsNamedReading, IsReadAt, IsReading, IsStart, IsToldOfText};
+ghost use Rattle.app_texts.specs.Texts.{IsUnreadAt, TellsBreak, TellsBreaks, bare_frame};
+ghost use Rattle.app_texts.specs.Steps.{AreReadable, BeginsAt, HasSomeTree, IsFilled, ArePutBehind};
+ghost use Rattle.app_texts.specs.Steps.{IsPutBehind};
 
 use crate::file_texts::{Text, texts_of};
 use crate::frames::frame_of;
@@ -50,8 +54,8 @@ fn start_of(alloc: Global, spot: &Spot, source: &str) -> Result<u32, Memory>
     }
 }
 
-/// The formula of a text that stands by itself, at a place of an app. This is how the formulas of a file are read that
-/// aren't named, and any formula that an edit gives.
+/// The formula of a text that stands by itself, at a place of an app. This is how the formulas of a
+/// file are read that aren't named, and any formula that an edit gives.
 pub fn read_text(
     alloc: Global,
     frame: &Frame,
@@ -85,7 +89,8 @@ fn put_text(
 ) -> Result<(), Memory>
     requires spot { IsSpot frame.now text.spot }
     requires short { length (encode_utf8_all text.text) < 2 ^ 32 }
-    ensures { OnOk result (IsPutBehind (AreReadAt frame.now (text ∷ [])) cells.old.items cells.new.items breaks.old.items breaks.new.items) }
+    ensures { OnOk result (IsPutBehind (AreReadAt frame.now (text ∷ [])) cells.old.items
+        cells.new.items breaks.old.items breaks.new.items) }
 {
     match read_text(alloc, frame, text.spot, text.text) {
         Ok(cell) => cells.push(cell)?,
@@ -104,7 +109,8 @@ fn put_texts(
     breaks: &mut Vec<Broken>,
 ) -> Result<(), Memory>
     requires { AreReadable frame.now texts.items }
-    ensures { OnOk result (IsPutBehind (AreReadAt frame.now texts.items) cells.old.items cells.new.items breaks.old.items breaks.new.items) }
+    ensures { OnOk result (IsPutBehind (AreReadAt frame.now texts.items) cells.old.items
+        cells.new.items breaks.old.items breaks.new.items) }
 {
     for text in texts {
         put_text(alloc, frame, text, cells, breaks)?;
@@ -135,7 +141,8 @@ fn put_formulas(
     breaks: &mut Vec<Broken>,
 ) -> Result<(), Memory>
     requires { length source.now < 2 ^ 32 }
-    ensures { OnOk result (IsPutBehind (AreNamedAt frame.now source.now) cells.old.items cells.new.items breaks.old.items breaks.new.items) }
+    ensures { OnOk result (IsPutBehind (AreNamedAt frame.now source.now) cells.old.items
+        cells.new.items breaks.old.items breaks.new.items) }
 {
     match parse_named(alloc, source) {
         Ok(all) => put_named(alloc, frame, all, cells),
@@ -150,7 +157,8 @@ fn put_named(
     all: Vec<Named>,
     cells: &mut Vec<Cell>,
 ) -> Result<(), Memory>
-    ensures { OnOk result (ArePutBehind (AreNamedCells frame.now all.items) cells.old.items cells.new.items) }
+    ensures { OnOk result (ArePutBehind (AreNamedCells frame.now all.items) cells.old.items
+        cells.new.items) }
 {
     for named in all {
         cells.push(named_cell(alloc, frame, named)?)?;
@@ -166,7 +174,8 @@ fn put_unread(
     breaks: &mut Vec<Broken>,
 ) -> Result<(), Memory>
     requires { length source.now < 2 ^ 32 }
-    ensures { OnOk result (ArePutBehind (λ bs. (b : Break) × (bs ≡ b ∷ []) × IsToldOfText (codes "App.Formulas") source.now end b) breaks.old.items breaks.new.items) }
+    ensures { OnOk result (ArePutBehind (λ bs. (b : Break) × (bs ≡ b ∷ [])
+        × IsToldOfText (codes "App.Formulas") source.now end b) breaks.old.items breaks.new.items) }
 {
     let cell = Words::of(alloc, "App.Formulas")?;
     match break_of_text(alloc, cell, source, end) {
@@ -191,8 +200,8 @@ fn unless_broken(
     }
 }
 
-/// The formulas of an app file and what it has beside them, or the breaks of its texts: of the text of named formulas, and
-/// of each other text, one break at most.
+/// The formulas of an app file and what it has beside them, or the breaks of its texts: of the text
+/// of named formulas, and of each other text, one break at most.
 pub fn read_texts(alloc: Global, file: AppFile) -> Result<(Frame, Vec<Cell>), AppEnd>
     requires { IsSoundFile file }
     ensures formulas { IfOk result (λ r. IsReading file (Ok (r.0, r.1.items))) }
@@ -230,8 +239,8 @@ fn bare(alloc: Global) -> Frame
     }
 }
 
-/// The formulas of a text of named formulas, `A = 1; B = A + 1;`, and what an app has beside them that has nothing else; or
-/// what is broken of the text.
+/// The formulas of a text of named formulas, `A = 1; B = A + 1;`, and what an app has beside them
+/// that has nothing else; or what is broken of the text.
 pub fn read_named(alloc: Global, source: &str) -> Result<(Frame, Vec<Cell>), AppEnd>
     requires { length source.now < 2 ^ 32 }
     ensures formulas { IfOk result (λ r. IsNamedReading source.now (Ok (r.0, r.1.items))) }

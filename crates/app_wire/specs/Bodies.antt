@@ -1,5 +1,6 @@
 -- How long the body of a request is, by the fields of its head.
-use Rattle.std.specs.Prelude.{ℕ, ◌&&◌, Bool, nat_le, List, [], ◌∷◌, length, map, codes, if◌then◌else◌, bytes_eq}
+use Rattle.std.specs.Prelude.{ℕ, ◌&&◌, Bool, nat_le, List, [], ◌∷◌, length, map, codes}
+use Rattle.std.specs.Prelude.{if◌then◌else◌, bytes_eq}
 use Rattle.std.specs.List.{filter, list_all, list_any}
 use Rattle.std.specs.Char.{is_ascii_digit, to_ascii_lowercase}
 use Rattle.std.specs.Str.Parse.{digits_value}
@@ -20,7 +21,8 @@ values_named lower fields = map (λ field. field.1) (filter (λ field. is_name l
 
 -- 1 to 19 digits
 abbrev pub is_length : List ℕ → Bool
-is_length value = nat_le 1 (length value) && nat_le (length value) 19 && list_all is_ascii_digit value
+is_length value = nat_le 1 (length value) && nat_le (length value) 19
+    && list_all is_ascii_digit value
 
 -- the most bytes of a body
 abbrev pub most_body : ℕ
@@ -29,7 +31,8 @@ most_body = 1048576
 -- by the value of the one `Content-Length`
 abbrev pub length_in : List ℕ → BodyLength
 length_in value =
-    if is_length value then (if nat_le (digits_value 10 value) most_body then Bytes (digits_value 10 value) else TooLong)
+    if is_length value then (if nat_le (digits_value 10 value) most_body then Bytes
+    (digits_value 10 value) else TooLong)
     else Bad
 
 -- by the values of all of them: with none the body is empty, and more than one are bad

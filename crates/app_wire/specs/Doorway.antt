@@ -1,9 +1,10 @@
 -- What doors tell of their conversations, and what each call of them does to it.
-use Rattle.std.specs.Prelude.{◌≡◌, ℕ, ◌<◌, Bool, true, false, List, [], ◌∷◌, ◌++◌, length, Option, Some}
+use Rattle.std.specs.Prelude.{◌≡◌, ℕ, ◌<◌, Bool, true, false, List, [], ◌∷◌, ◌++◌, length, Option}
+use Rattle.std.specs.Prelude.{Some}
 use Rattle.fx_base.specs.Faults.{counted}
 
--- What was done with a conversation that has become the present one: the bytes that were read of it, those that were written
--- to it, and how often it was hung up.
+-- What was done with a conversation that has become the present one: the bytes that were read of
+-- it, those that were written to it, and how often it was hung up.
 pub record Talk : Type 0 where
   pub taken : List ℕ
   pub written : List ℕ

@@ -1,5 +1,6 @@
 -- What the bytes of a conversation begin with.
-use Rattle.std.specs.Prelude.{◌≡◌, ℕ, ◌+◌, ◌<◌, ◌≤◌, ◌⊎◌, Bool, true, false, List, [], ◌++◌, length, take, drop, slice_range, codes}
+use Rattle.std.specs.Prelude.{◌≡◌, ℕ, ◌+◌, ◌<◌, ◌≤◌, ◌⊎◌, Bool, true, false, List, [], ◌++◌, length}
+use Rattle.std.specs.Prelude.{take, drop, slice_range, codes}
 use Rattle.httparse.specs.Grammar.{RequestHead}
 use Rattle.app_wire.specs.Head.{IsHead, length_of_body, method_named, target_path}
 use Rattle.app_wire.specs.declared.body.BodyLength.{BodyLength}
@@ -23,7 +24,11 @@ asked r = record { method = r.method; path = r.path.items; body = r.body.items }
 
 -- the request of a head with this body
 abbrev pub request_of : RequestHead → List ℕ → Asked
-request_of h body = record { method = method_named h.method; path = target_path h.target; body = body }
+request_of h body = record {
+  method = method_named h.method;
+  path = target_path h.target;
+  body = body;
+}
 
 -- the bytes end with a blank line: an LF, an optional CR and an LF
 abbrev pub EndsBlank : List ℕ → Type 0
@@ -61,7 +66,8 @@ pub record Announces (bytes : List ℕ) (body : BodyLength) : Type 0 where
   pub is : IsHead (take start bytes) head
   pub body_is : length_of_body head ≡ body
 
--- the first len bytes are this request: a head, and behind it a body of so many bytes as its fields say
+-- the first len bytes are this request: a head, and behind it a body of so many bytes as its fields
+-- say
 pub record IsWholeRequest (bytes : List ℕ) (request : Asked) (len : ℕ) : Type 0 where
   pub size : ℕ
   pub head : Announces bytes (Bytes size)

@@ -1,5 +1,6 @@
 -- What the head of a request says, by RFC 9112.
-use Rattle.std.specs.Prelude.{◌≡◌, ℕ, ◌≤◌, ◌==◌, List, [], length, map, take, position, unwrap_or, codes, if◌then◌else◌, bytes_eq}
+use Rattle.std.specs.Prelude.{◌≡◌, ℕ, ◌≤◌, ◌==◌, List, [], length, map, take, position, unwrap_or}
+use Rattle.std.specs.Prelude.{codes, if◌then◌else◌, bytes_eq}
 use Rattle.httparse.specs.Grammar.{RequestHead, ReadsRequest}
 use Rattle.httparse.specs.Spans.{name_and_value}
 use Rattle.app_wire.specs.Bodies.{body_length}
@@ -35,4 +36,5 @@ target_path target = take (unwrap_or (position (λ b. b == 63) target) (length t
 abbrev pub HeadReads : List ℕ → Head → Type 0
 HeadReads front Bad = (h : RequestHead) → IsHead front h → ⊥
 HeadReads front (Whole method path body) =
-    (h : RequestHead) × IsHead front h × (body ≡ length_of_body h) × (method ≡ method_named h.method) × (path.now ≡ target_path h.target)
+    (h : RequestHead) × IsHead front h × (body ≡ length_of_body h)
+    × (method ≡ method_named h.method) × (path.now ≡ target_path h.target)

@@ -1,5 +1,6 @@
 -- The next request of a conversation over doors.
-use Rattle.std.specs.Prelude.{◌≡◌, ◌⊎◌, ◌<◌, ◌≤◌, ℕ, true, List, [], ◌++◌, length, drop, Option, Some, None, Result, Ok, Err}
+use Rattle.std.specs.Prelude.{◌≡◌, ◌⊎◌, ◌<◌, ◌≤◌, ℕ, true, List, [], ◌++◌, length, drop, Option}
+use Rattle.std.specs.Prelude.{Some, None, Result, Ok, Err}
 use Rattle.fx_number.specs.declared.memory.Memory.{Memory}
 use Rattle.app_wire.specs.Doorway.{Doorway, DoorsTake}
 use Rattle.app_wire.specs.Framing.{asked, nothing, refused, whole, Framing, IsStillOpen}
@@ -21,17 +22,20 @@ pub record Keeps (held held' : List ℕ) (a b : Doorway) : Type 0 where
   pub held_is : held' ≡ held ++ read
   pub takes : DoorsTake read a b
 
--- nothing was read, or the last read, of at most 512 bytes, was made while no request was whole and none refused
+-- nothing was read, or the last read, of at most 512 bytes, was made while no request was whole and
+-- none refused
 abbrev pub ReadsLittle : List ℕ → List ℕ → Type 0
 ReadsLittle held read =
     (read ≡ [])
-    ⊎ ((earlier : List ℕ) × (last : List ℕ) × IsStillOpen (held ++ earlier) × (length last ≤ 512) × (read ≡ earlier ++ last))
+    ⊎ ((earlier : List ℕ) × (last : List ℕ) × IsStillOpen (held ++ earlier) × (length last ≤ 512)
+    × (read ≡ earlier ++ last))
 
--- What the rest of the conversation, to its end, begins with, where these bytes of it came, and what of them is held then.
--- Memory runs out only where a byte is left.
+-- What the rest of the conversation, to its end, begins with, where these bytes of it came, and
+-- what of them is held then. Memory runs out only where a byte is left.
 abbrev pub Begins : Found → List ℕ → List ℕ → List ℕ → Type 0
 Begins (next.Whole request) rest came held' =
-    (len : ℕ) × Framing rest true (whole (asked request) len) × (len ≤ length came) × (held' ≡ drop len came)
+    (len : ℕ) × Framing rest true (whole (asked request) len) × (len ≤ length came)
+    × (held' ≡ drop len came)
 Begins (next.Refused code) rest came held' = Framing rest true (refused code) × (held' ≡ came)
 Begins next.Quiet rest came held' = Framing rest true nothing × (held' ≡ came)
 Begins next.Memory rest came held' = 0 < length rest

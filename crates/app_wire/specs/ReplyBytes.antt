@@ -17,7 +17,8 @@ reply status body = reply_head status (reason_of status) (length body) ++ body
 -- the body of a refusal with no detail
 abbrev pub refusal_body : ℕ → List ℕ
 refusal_body code =
-    codes "{\"refused\":{\"code\":" ++ decimal code ++ codes ",\"detail\":null,\"name\":\"" ++ name_of_code code ++ codes "\"}}"
+    codes "{\"refused\":{\"code\":" ++ decimal code ++ codes ",\"detail\":null,\"name\":\""
+    ++ name_of_code code ++ codes "\"}}"
 
 -- the whole reply of a refusal with no detail
 unfoldable pub refusal : ℕ → List ℕ
@@ -26,5 +27,6 @@ refusal code = reply (refusal_status code) (refusal_body code)
 -- the refusals whose replies take no memory
 abbrev pub is_fixed : ℕ → Bool
 is_fixed code =
-    (code == 1) || (code == 2) || (code == 3) || (code == 4) || (code == 5) || (code == 6) || (code == 7) || (code == 8)
+    (code == 1) || (code == 2) || (code == 3) || (code == 4) || (code == 5) || (code == 6)
+    || (code == 7) || (code == 8)
     || (code == 25) || (code == 26)

@@ -1,14 +1,17 @@
 -- The router's table, the place that it finds, and the parts that are read there.
-use Rattle.std.specs.Prelude.{◌≡◌, ℕ, ◌≤◌, List, [], ◌∷◌, ◌++◌, Option, Some, None, length, map, codes, Result, Ok, Err}
+use Rattle.std.specs.Prelude.{◌≡◌, ℕ, ◌≤◌, List, [], ◌∷◌, ◌++◌, Option, Some, None, length, map}
+use Rattle.std.specs.Prelude.{codes, Result, Ok, Err}
 use Rattle.std.specs.List.{AllZip}
 use Rattle.matchit.specs.Rows.{RowsOf, param_token}
 use Rattle.matchit.specs.Router.{RouteOf}
-use Rattle.app_wire.specs.Routing.{IsCallerName, IsRouteNumber, IsTitle, HasPath, RoutePart, SaysPart, method_of, path_parts}
+use Rattle.app_wire.specs.Routing.{IsCallerName, IsRouteNumber, IsTitle, HasPath, RoutePart}
+use Rattle.app_wire.specs.Routing.{SaysPart, method_of, path_parts}
 use Rattle.app_wire.specs.declared.head.Method.{Method}
 use Rattle.app_wire.specs.declared.route.Place.{Place}
 use Rattle.app_wire.specs.declared.route.Place.TheVariants as place
 use Rattle.app_wire.specs.declared.route.Route.{Route}
-use Rattle.app_wire.specs.declared.route.Route.TheVariants.{Begin, End, View, Named, Items, Event, Input, Rows, Edit, Page, Plan, Graph}
+use Rattle.app_wire.specs.declared.route.Route.TheVariants.{Begin, End, View, Named, Items, Event}
+use Rattle.app_wire.specs.declared.route.Route.TheVariants.{Input, Rows, Edit, Page, Plan, Graph}
 use Rattle.app_wire.specs.declared.route.RouteEnd.{RouteEnd}
 use Rattle.app_wire.specs.declared.route.RouteEnd.TheVariants.{NoRoute, WrongMethod, Memory}
 
@@ -46,7 +49,11 @@ abbrev pub route_pattern : Place → List ℕ × List (ℕ × ℕ)
 route_pattern place.Session = (codes "/s/{name}", (4, 8) ∷ [])
 route_pattern place.View = (codes "/s/{name}/view", (4, 8) ∷ [])
 route_pattern place.Named = (codes "/s/{name}/named", (4, 8) ∷ [])
-route_pattern place.Items = (codes "/s/{name}/items/{gallery}/{from}", (4, 8) ∷ (17, 24) ∷ (27, 31) ∷ [])
+route_pattern place.Items = (
+  codes "/s/{name}/items/{gallery}/{from}",
+  (4, 8) ∷ (17, 24) ∷ (27, 31)
+      ∷ [],
+)
 route_pattern place.Event = (codes "/s/{name}/event", (4, 8) ∷ [])
 route_pattern place.Input = (codes "/s/{name}/input", (4, 8) ∷ [])
 route_pattern place.Rows = (codes "/desk/{name}/rows", (7, 11) ∷ [])
@@ -56,12 +63,18 @@ route_pattern place.Plan = (codes "/plan", [])
 route_pattern place.Graph = (codes "/graph", [])
 
 abbrev pub route_row : Place → RouteOf Place
-route_row p = record { pattern = tokens (kinds p); text = (route_pattern p).0; names = (route_pattern p).1; value = p }
+route_row p = record {
+  pattern = tokens (kinds p);
+  text = (route_pattern p).0;
+  names = (route_pattern p).1;
+  value = p;
+}
 
 -- all places, in the router's order: a pattern stands after those that go on from it
 abbrev pub places : List Place
 places =
-    place.Edit ∷ place.Rows ∷ place.Graph ∷ place.Plan ∷ place.Page ∷ place.Event ∷ place.Input ∷ place.Items ∷ place.Named
+    place.Edit ∷ place.Rows ∷ place.Graph ∷ place.Plan ∷ place.Page ∷ place.Event ∷ place.Input
+    ∷ place.Items ∷ place.Named
     ∷ place.View ∷ place.Session ∷ []
 
 -- the router's rows
@@ -93,7 +106,8 @@ Is title bytes = IsTitle bytes
 Is number bytes = IsRouteNumber bytes
 
 -- a part is read: it says the value, or is not of its kind
-abbrev pub RoutePartReads : {A : Type 0} → Kind → (A → RoutePart) → List ℕ → Result A RouteEnd → Type 0
+abbrev pub RoutePartReads : {A : Type 0} → Kind → (A → RoutePart) → List ℕ → Result A RouteEnd
+    → Type 0
 RoutePartReads kind part bytes (Ok value) = SaysPart bytes (part value)
 RoutePartReads kind part bytes (Err NoRoute) = Is kind bytes → ⊥
 RoutePartReads kind part bytes (Err WrongMethod) = ⊥
@@ -114,10 +128,14 @@ route_index (Page name after) = place.Page
 route_index Plan = place.Plan
 route_index Graph = place.Graph
 
--- A route is read at its place: of the routes of this path the one with this method, where one has it; or the path has none there.
+-- A route is read at its place: of the routes of this path the one with this method, where one has
+-- it; or the path has none there.
 abbrev pub RouterFinds : Place → Method → List ℕ → Result Route RouteEnd → Type 0
 RouterFinds p method path (Ok route) =
-    HasPath path route × (route_index route ≡ p) × ((other : Route) → route_index other ≡ p → method_of other ≡ method → method_of route ≡ method)
-RouterFinds p method path (Err NoRoute) = (route : Route) → route_index route ≡ p → HasPath path route → ⊥
+    HasPath path route × (route_index route ≡ p)
+    × ((other : Route) → route_index other ≡ p → method_of other ≡ method
+    → method_of route ≡ method)
+RouterFinds p method path (Err NoRoute) = (route : Route) → route_index route ≡ p
+    → HasPath path route → ⊥
 RouterFinds p method path (Err WrongMethod) = ⊥
 RouterFinds p method path (Err Memory) = Unit {0}

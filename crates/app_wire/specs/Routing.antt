@@ -1,5 +1,6 @@
 -- Which route a request has.
-use Rattle.std.specs.Prelude.{◌≡◌, ◌≢◌, ℕ, ◌<◌, ◌≤◌, ◌+◌, ◌==◌, ◌||◌, Bool, true, List, [], ◌∷◌, length, slice_index, codes, if◌then◌else◌, Result, Ok, Err}
+use Rattle.std.specs.Prelude.{◌≡◌, ◌≢◌, ℕ, ◌<◌, ◌≤◌, ◌+◌, ◌==◌, ◌||◌, Bool, true, List, [], ◌∷◌}
+use Rattle.std.specs.Prelude.{length, slice_index, codes, if◌then◌else◌, Result, Ok, Err}
 use Rattle.std.specs.List.{AllZip, list_all}
 use Rattle.std.specs.Char.{is_ascii_alphanumeric, is_ascii_digit, is_digit}
 use Rattle.std.specs.Str.{IsUtf8}
@@ -9,7 +10,8 @@ use Rattle.fx_types.specs.Words.{scalars_of}
 use Rattle.app_wire.specs.declared.head.Method.{Method}
 use Rattle.app_wire.specs.declared.head.Method.TheVariants.{Get, Put, Post, Delete}
 use Rattle.app_wire.specs.declared.route.Route.{Route}
-use Rattle.app_wire.specs.declared.route.Route.TheVariants.{Begin, End, View, Named, Items, Event, Input, Rows, Edit, Page, Plan, Graph}
+use Rattle.app_wire.specs.declared.route.Route.TheVariants.{Begin, End, View, Named, Items, Event}
+use Rattle.app_wire.specs.declared.route.Route.TheVariants.{Input, Rows, Edit, Page, Plan, Graph}
 use Rattle.app_wire.specs.declared.route.RouteEnd.{RouteEnd}
 use Rattle.app_wire.specs.declared.route.RouteEnd.TheVariants.{NoRoute, WrongMethod, Memory}
 
@@ -36,9 +38,11 @@ pub record IsCallerName (name : List ℕ) : Type 0 where
 abbrev pub HasWholeEscapes : List ℕ → Type 0
 HasWholeEscapes bytes =
     (i : ℕ) → i < length bytes → slice_index bytes i ≡ 37
-    → (i + 2 < length bytes) × (is_digit (slice_index bytes (i + 1)) 16 ≡ true) × (is_digit (slice_index bytes (i + 2)) 16 ≡ true)
+    → (i + 2 < length bytes) × (is_digit (slice_index bytes (i + 1)) 16 ≡ true)
+    × (is_digit (slice_index bytes (i + 2)) 16 ≡ true)
 
--- The name of a gallery or a table, percent-encoded: at least one byte. It is UTF-8 as it stands, and once it is decoded.
+-- The name of a gallery or a table, percent-encoded: at least one byte. It is UTF-8 as it stands,
+-- and once it is decoded.
 pub record IsTitle (bytes : List ℕ) : Type 0 where
   pub some : 1 ≤ length bytes
   pub escapes : HasWholeEscapes bytes
@@ -52,7 +56,8 @@ pub record IsRouteNumber (bytes : List ℕ) : Type 0 where
   pub digits : list_all is_ascii_digit bytes ≡ true
   pub within : digits_value 10 bytes ≤ 4294967295
 
--- what a part of a path may say: a word of the route, the name of a caller, that of a gallery or a table, or a number
+-- what a part of a path may say: a word of the route, the name of a caller, that of a gallery or a
+-- table, or a number
 pub data RoutePart : Type 0 where
   word : List ℕ → RoutePart
   caller : List ℕ → RoutePart
@@ -72,7 +77,8 @@ route_path (Begin name) = word (codes "s") ∷ caller name ∷ []
 route_path (End name) = word (codes "s") ∷ caller name ∷ []
 route_path (View name) = word (codes "s") ∷ caller name ∷ word (codes "view") ∷ []
 route_path (Named name) = word (codes "s") ∷ caller name ∷ word (codes "named") ∷ []
-route_path (Items name gallery from) = word (codes "s") ∷ caller name ∷ word (codes "items") ∷ title gallery ∷ number from ∷ []
+route_path (Items name gallery from) = word (codes "s") ∷ caller name ∷ word (codes "items")
+    ∷ title gallery ∷ number from ∷ []
 route_path (Event name) = word (codes "s") ∷ caller name ∷ word (codes "event") ∷ []
 route_path (Input name) = word (codes "s") ∷ caller name ∷ word (codes "input") ∷ []
 route_path (Rows name) = word (codes "desk") ∷ caller name ∷ word (codes "rows") ∷ []
@@ -100,11 +106,13 @@ method_of (Page name after) = Get
 method_of Plan = Get
 method_of Graph = Get
 
--- The answer to a method and a path: the route that has both; WrongMethod exactly where the path has routes, none of them with
--- this method; NoRoute exactly where it has none. Want of memory may stand anywhere.
+-- The answer to a method and a path: the route that has both; WrongMethod exactly where the path
+-- has routes, none of them with this method; NoRoute exactly where it has none. Want of memory may
+-- stand anywhere.
 abbrev pub Routing : Method → List ℕ → Result Route RouteEnd → Type 0
 Routing method path (Ok route) = HasPath path route × (method_of route ≡ method)
-Routing method path (Err WrongMethod) = ((route : Route) × HasPath path route) × ((route : Route) → HasPath path route → method_of route ≢ method)
+Routing method path (Err WrongMethod) = ((route : Route) × HasPath path route)
+    × ((route : Route) → HasPath path route → method_of route ≢ method)
 Routing method path (Err NoRoute) = (route : Route) → HasPath path route → ⊥
 Routing method path (Err Memory) = Unit {0}
 

@@ -1,5 +1,6 @@
 //! How long the body of a request is.
-ghost use Rattle.std.specs.Prelude.{◌≡◌, ℕ, Some, None, All, length, map, codes, position, if◌then◌else◌};
+ghost use Rattle.std.specs.Prelude.{◌≡◌, ℕ, Some, None, All, length, map, codes, position};
+ghost use Rattle.std.specs.Prelude.{if◌then◌else◌};
 ghost use Rattle.std.specs.List.{list_all, list_any};
 ghost use Rattle.std.specs.Char.{is_ascii_digit};
 ghost use Rattle.std.specs.Str.Parse.{digits_value};
@@ -41,21 +42,24 @@ fn is_length_name(name: &[u8]) -> bool
 
 fn any_coding(front: &[u8], headers: &[HeaderSpan]) -> bool
     requires { All (IsHeaderWithin (length front.now)) headers.now }
-    ensures { result ≡ list_any (λ h. is_name (codes "transfer-encoding") (span_bytes front.now h.name)) headers.now }
+    ensures { result ≡ list_any (λ h. is_name (codes "transfer-encoding")
+        (span_bytes front.now h.name)) headers.now }
 {
     headers.iter().any(|h| is_coding_name(h.name.of(front)))
 }
 
 fn any_length(front: &[u8], headers: &[HeaderSpan]) -> bool
     requires { All (IsHeaderWithin (length front.now)) headers.now }
-    ensures { result ≡ list_any (λ h. is_name (codes "content-length") (span_bytes front.now h.name)) headers.now }
+    ensures { result ≡ list_any (λ h. is_name (codes "content-length")
+        (span_bytes front.now h.name)) headers.now }
 {
     headers.iter().any(|h| is_length_name(h.name.of(front)))
 }
 
 fn first_length(front: &[u8], headers: &[HeaderSpan]) -> Option<usize>
     requires { All (IsHeaderWithin (length front.now)) headers.now }
-    ensures { result ≡ position (λ h. is_name (codes "content-length") (span_bytes front.now h.name)) headers.now }
+    ensures { result ≡ position (λ h. is_name (codes "content-length")
+        (span_bytes front.now h.name)) headers.now }
 {
     headers
         .iter()

@@ -5,8 +5,8 @@ ghost use Rattle.app_wire.specs.Moments.{Tick};
 use std::marker::Model;
 use std::time::{SystemTime, UNIX_EPOCH};
 
-/// A clock. Where told, its meaning is the list of the moments that it will give; the last one repeats, and an empty list
-/// gives 0.
+/// A clock. Where told, its meaning is the list of the moments that it will give; the last one
+/// repeats, and an empty list gives 0.
 pub trait Clock {
     ghost told: { Self → Option (List ℕ) };
 
@@ -48,7 +48,8 @@ impl Clock for ListClock {
     }
 }
 
-/// The system's clock. Where the system gives no moment it repeats its last one, at first 0. It is seen as that one.
+/// The system's clock. Where the system gives no moment it repeats its last one, at first 0. It is
+/// seen as that one.
 #[derive(Drop)]
 pub struct SystemClock<R> {
     runtime: R,

@@ -1,14 +1,16 @@
 //! Conversations.
-ghost use Rattle.std.specs.Prelude.{◌≡◌, ℕ, ◌<◌, ◌≤◌, Bool, IfOk, OnErr, OnOk, Option, length, take};
+ghost use Rattle.std.specs.Prelude.{◌≡◌, ℕ, ◌<◌, ◌≤◌, Bool, IfOk, OnErr, OnOk, Option, length};
+ghost use Rattle.std.specs.Prelude.{take};
 ghost use Rattle.std.specs.Io.{ReadsAtMost, WritesAtMost};
 ghost use Rattle.fx_base.specs.Faults.{HasFaultCause};
 ghost use Rattle.fx_base.specs.Telling.{Changes, Stays, Tells};
-ghost use Rattle.app_wire.specs.Doorway.{Closes, NextComes, Doorway, Listens, DoorsRead, Writes, WritesPart};
+ghost use Rattle.app_wire.specs.Doorway.{Closes, NextComes, Doorway, Listens, DoorsRead, Writes};
+ghost use Rattle.app_wire.specs.Doorway.{WritesPart};
 
 use fx_base::Failed;
 
-/// Conversations, one after another, each with bytes to read and bytes to write. A call fails only where the count of
-/// faults rose in it, and leaves all else that is told as it was.
+/// Conversations, one after another, each with bytes to read and bytes to write. A call fails only
+/// where the count of faults rose in it, and leaves all else that is told as it was.
 pub trait Doors {
     ghost told: { Self → Option Doorway };
 
@@ -30,11 +32,12 @@ pub trait Doors {
         ensures single { single self.new ≡ single self.old }
         ensures cause { HasFaultCause (faults self.old) (faults self.new) result };
 
-    /// Reads some bytes of the present conversation. Into room that isn't empty it reads none only at the end of the
-    /// input.
+    /// Reads some bytes of the present conversation. Into room that isn't empty it reads none only
+    /// at the end of the input.
     fn read(&mut self, room: &mut [u8]) -> Result<usize, Failed>
         ensures bound { ReadsAtMost result room.new }
-        ensures ok { IfOk result (λ n. Changes (DoorsRead (take n room.new) (length room.old)) (told self.old) (told self.new)) }
+        ensures ok { IfOk result (λ n. Changes (DoorsRead (take n room.new) (length room.old))
+            (told self.old) (told self.new)) }
         ensures err { OnErr result (Changes Stays (told self.old) (told self.new)) }
         ensures single { single self.new ≡ single self.old }
         ensures cause { HasFaultCause (faults self.old) (faults self.new) result };
@@ -43,7 +46,8 @@ pub trait Doors {
     fn write(&mut self, piece: &[u8]) -> Result<usize, Failed>
         ensures bound { WritesAtMost result piece.now }
         ensures some { IfOk result (λ n. 0 < length piece.now → 0 < n) }
-        ensures ok { IfOk result (λ n. Changes (Writes (take n piece.now)) (told self.old) (told self.new)) }
+        ensures ok { IfOk result (λ n. Changes (Writes (take n piece.now)) (told self.old)
+            (told self.new)) }
         ensures err { OnErr result (Changes Stays (told self.old) (told self.new)) }
         ensures single { single self.new ≡ single self.old }
         ensures cause { HasFaultCause (faults self.old) (faults self.new) result };

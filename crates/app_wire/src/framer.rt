@@ -1,5 +1,6 @@
 //! Requests from the pieces of a conversation.
-ghost use Rattle.std.specs.Prelude.{◌≡◌, ◌<◌, ◌≤◌, ◌++◌, IfOk, OnErr, [], drop, length, vec_len, ◌↔◌, IsTrue, true};
+ghost use Rattle.std.specs.Prelude.{◌≡◌, ◌<◌, ◌≤◌, ◌++◌, IfOk, OnErr, [], drop, length, vec_len};
+ghost use Rattle.std.specs.Prelude.{◌↔◌, IsTrue, true};
 ghost use Rattle.app_wire.specs.Framing.{LookFinds, Feeds, Framing, refused};
 
 use crate::body::BodyLength;
@@ -77,8 +78,8 @@ pub(crate) fn drop_front(bytes: &mut Vec<u8>, n: usize)
     bytes.truncate(left);
 }
 
-/// Finds the requests in a conversation's bytes, however they were cut. It is seen as the bytes that it holds: those
-/// that came and belong to no request handed out.
+/// Finds the requests in a conversation's bytes, however they were cut. It is seen as the bytes
+/// that it holds: those that came and belong to no request handed out.
 #[derive(Drop)]
 pub struct Framer {
     alloc: Global,
@@ -104,8 +105,8 @@ impl Framer {
         }
     }
 
-    /// Answers by the bytes so far: the next whole request, which is taken from them, a refusal, or that more is needed.
-    /// On want of memory, which comes only where a byte came, nothing changes.
+    /// Answers by the bytes so far: the next whole request, which is taken from them, a refusal, or
+    /// that more is needed. On want of memory, which comes only where a byte came, nothing changes.
     pub fn more(&mut self) -> Result<Fed, Memory>
         ensures fed { IfOk result (λ fed. Feeds self.old fed self.new) }
         ensures err { OnErr result (self.new ≡ self.old) }
@@ -123,8 +124,8 @@ impl Framer {
         }
     }
 
-    /// Takes the next piece of the conversation, and answers as `more` does. On want of memory, which comes only where a
-    /// byte came, nothing changes, and the piece wasn't taken.
+    /// Takes the next piece of the conversation, and answers as `more` does. On want of memory,
+    /// which comes only where a byte came, nothing changes, and the piece wasn't taken.
     pub fn feed(&mut self, piece: &[u8]) -> Result<Fed, Memory>
         ensures fed { IfOk result (λ fed. Feeds (self.old ++ piece.now) fed self.new) }
         ensures err { OnErr result (self.new ≡ self.old) }

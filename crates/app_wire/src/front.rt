@@ -14,7 +14,8 @@ fn ends_blank(bytes: &[u8]) -> bool
 
 /// The length of the head that the bytes begin with.
 pub(crate) fn head_end(bytes: &[u8]) -> Option<usize>
-    ensures { MatchOption result (HasNoBlank bytes.now (min (length bytes.now) HEAD_ROOM)) (IsHeadEnd bytes.now) }
+    ensures { MatchOption result (HasNoBlank bytes.now (min (length bytes.now) HEAD_ROOM))
+        (IsHeadEnd bytes.now) }
 {
     let room = bytes.len().min(HEAD_ROOM);
     for k in 0..room {

@@ -1,5 +1,6 @@
 //! The head of a request.
-ghost use Rattle.std.specs.Prelude.{◌≡◌, ◌==◌, position, ◌≤◌, ◌<◌, ℕ, length, map, take, IsTrue, All};
+ghost use Rattle.std.specs.Prelude.{◌≡◌, ◌==◌, position, ◌≤◌, ◌<◌, ℕ, length, map, take, IsTrue};
+ghost use Rattle.std.specs.Prelude.{All};
 ghost use Rattle.app_wire.specs.Head.{method_named, target_path, HeadReads};
 
 use crate::body::{BodyLength, body_length};

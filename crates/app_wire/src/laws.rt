@@ -1,7 +1,8 @@
 //! Laws of framing.
 ghost use Rattle.app_wire.specs.Framing.{IsOneThing, FramesStand};
 
-/// What was found of the bytes so far stands, however they go on: so it doesn't matter how they are cut.
+/// What was found of the bytes so far stands, however they go on: so it doesn't matter how they are
+/// cut.
 pub fn stands()
     ensures { FramesStand }
 {}

@@ -1,4 +1,5 @@
-//! Bytes to requests and replies to bytes: conversations, framing, routes, and the moments of a clock.
+//! Bytes to requests and replies to bytes: conversations, framing, routes, and the moments of a
+//! clock.
 #![tactic(auto)]
 
 mod body;

@@ -30,7 +30,12 @@ impl Model for MemoryDoors {
     ghost Value = { DoorsInMemory };
 
     ghost view = { λ m. record {
-      way = record { port = m.port; coming = map (λ c. c.items) m.coming.items; unread = m.unread.items; begun = m.talks.items };
+      way = record {
+        port = m.port;
+        coming = map (λ c. c.items) m.coming.items;
+        unread = m.unread.items;
+        begun = m.talks.items;
+      };
       single = m.one;
       plan = m.plan;
     } };
@@ -39,9 +44,10 @@ impl Model for MemoryDoors {
 }
 
 impl MemoryDoors {
-    /// Doors with these conversations, where each read and each write takes at most `piece` bytes and the calls of the
-    /// numbers `fails`, counted from 1, fail; `hang_up` and `one` aren't counted. A call fails too where memory runs out,
-    /// and a write where no conversation has begun.
+    /// Doors with these conversations, where each read and each write takes at most `piece` bytes
+    /// and the calls of the numbers `fails`, counted from 1, fail; `hang_up` and `one` aren't
+    /// counted. A call fails too where memory runs out, and a write where no conversation has
+    /// begun.
     pub fn new(
         alloc: Global,
         conversations: Vec<Vec<u8>>,
@@ -64,7 +70,8 @@ impl MemoryDoors {
         }
     }
 
-    /// What was written to a conversation, counted from 0; none for one that hasn't become the present one yet.
+    /// What was written to a conversation, counted from 0; none for one that hasn't become the
+    /// present one yet.
     pub fn written(&self, conversation: usize) -> Option<&[u8]>
         ensures { option_map (λ bytes. bytes.now) result ≡ written_to conversation self.now.way }
     {

@@ -33,10 +33,11 @@ fn found_of(fed: Result<Fed, Memory>) -> Option<Found>
     }
 }
 
-/// Finds the next request of the present conversation, of whose bytes the framer holds those that came. It reads only
-/// while they hold no whole request.
+/// Finds the next request of the present conversation, of whose bytes the framer holds those that
+/// came. It reads only while they hold no whole request.
 pub fn next_request<D: Doors>(framer: &mut Framer, doors: &mut D) -> Found
-    ensures found { Tells (FindsNext result framer.old framer.new) (D.told doors.old) (D.told doors.new) }
+    ensures found { Tells (FindsNext result framer.old framer.new) (D.told doors.old)
+        (D.told doors.new) }
     ensures code { HasCode result }
     ensures single { D.single doors.new ≡ D.single doors.old }
     ensures later { D.faults doors.old ≤ D.faults doors.new }

@@ -1,5 +1,7 @@
-//! The parts of a path, which stand between its slashes. They are counted from 0, and the first one is empty.
-ghost use Rattle.std.specs.Prelude.{◌≡◌, ℕ, ◌<◌, ◌+◌, ◌==◌, [], length, slice_index, get_or, true, IsTrue, ◌↔◌};
+//! The parts of a path, which stand between its slashes. They are counted from 0, and the first one
+//! is empty.
+ghost use Rattle.std.specs.Prelude.{◌≡◌, ℕ, ◌<◌, ◌+◌, ◌==◌, [], length, slice_index, get_or, true};
+ghost use Rattle.std.specs.Prelude.{IsTrue, ◌↔◌};
 ghost use Rattle.std.specs.List.{after_first, before_first, list_all};
 ghost use Rattle.std.specs.Char.{is_digit};
 ghost use Rattle.app_wire.specs.Routing.{HasWholeEscapes, IsCallerName, is_name_byte, path_parts};
@@ -81,7 +83,9 @@ pub(crate) fn caller_at(alloc: Global, path: &str, number: usize) -> Result<Word
 }
 
 fn is_escape_at(bytes: &[u8], at: usize) -> bool
-    ensures { IsTrue result ↔ ((at + 2 < length bytes.now) × (is_digit (slice_index bytes.now (at + 1)) 16 ≡ true) × (is_digit (slice_index bytes.now (at + 2)) 16 ≡ true)) }
+    ensures { IsTrue result ↔ ((at + 2 < length bytes.now)
+        × (is_digit (slice_index bytes.now (at + 1)) 16 ≡ true)
+        × (is_digit (slice_index bytes.now (at + 2)) 16 ≡ true)) }
 {
     match bytes.get(at..) {
         Some([_, high, low, ..]) => {

@@ -61,7 +61,8 @@ pub enum Route {
     Graph,
 }
 
-// By hand, so that it is called: what is derived is opened wherever a value may end, which costs proofs seconds each time.
+// By hand, so that it is called: what is derived is opened wherever a value may end, which costs
+// proofs seconds each time.
 impl Drop for Route {
     fn drop(self) {
         match self {

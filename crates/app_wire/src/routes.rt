@@ -19,7 +19,8 @@ fn make(alloc: Global) -> Result<Router<Place>, InsertError>
     Ok(router)
 }
 
-// Apart from what owns the router: a value that is owned is let go at each exit, and each of these calls has one.
+// Apart from what owns the router: a value that is owned is let go at each exit, and each of these
+// calls has one.
 fn add_places(router: &mut Router<Place>) -> Result<(), InsertError>
     requires { router.old ≡ [] }
     ensures { OnOk result (router.new ≡ route_table) }
@@ -48,7 +49,8 @@ fn place_of(router: &Router<Place>, path: &str) -> Option<Place>
     }
 }
 
-/// The route of a path at its place: of the two of a session the one with this method, if one has it.
+/// The route of a path at its place: of the two of a session the one with this method, if one has
+/// it.
 fn route_at(alloc: Global, place: Place, method: Method, path: &str) -> Result<Route, RouteEnd>
     requires { Placed path.now (Some place) }
     ensures { RouterFinds place method path.now result }

@@ -6,8 +6,8 @@ use fx_base::Failed;
 use std::io::{Read, Write};
 use std::marker::Model;
 
-/// One conversation over a reader and a writer, such as standard input and output. It tells nothing of them, and is seen
-/// as its count of faults.
+/// One conversation over a reader and a writer, such as standard input and output. It tells nothing
+/// of them, and is seen as its count of faults.
 #[derive(Drop)]
 pub struct StreamDoors<R, W> {
     input: R,

@@ -1,13 +1,14 @@
 //! What doors in memory keep of a conversation.
 ghost use Rattle.std.specs.Prelude.{◌≡◌, ◌<◌, vec_len};
 ghost use Rattle.std.specs.Bool.{OnFalse, OnTrue};
-ghost use Rattle.app_wire.specs.Doorway.{fresh_talk, with_hang_up, with_last, with_taken, with_written};
+ghost use Rattle.app_wire.specs.Doorway.{fresh_talk, with_hang_up, with_last, with_taken};
+ghost use Rattle.app_wire.specs.Doorway.{with_written};
 
 use std::alloc::Global;
 use std::marker::Model;
 
-/// A conversation that has become the present one: what was read of it, what was written to it, and how often it was hung
-/// up.
+/// A conversation that has become the present one: what was read of it, what was written to it, and
+/// how often it was hung up.
 #[derive(Drop)]
 pub(crate) struct MemoryTalk {
     taken: Vec<u8>,
@@ -20,7 +21,11 @@ impl Model for MemoryTalk {
 
     ghost Value = { Talk };
 
-    ghost view = { λ t. record { taken = t.taken.items; written = t.written.items; hang_ups = t.hang_ups } };
+    ghost view = { λ t. record {
+      taken = t.taken.items;
+      written = t.written.items;
+      hang_ups = t.hang_ups;
+    } };
 }
 
 impl MemoryTalk {
@@ -66,7 +71,8 @@ impl MemoryTalk {
     }
 }
 
-/// These bytes were read of the last conversation, if there is one. It says no where memory runs out.
+/// These bytes were read of the last conversation, if there is one. It says no where memory runs
+/// out.
 pub(crate) fn take_of_last(talks: &mut [MemoryTalk], bytes: &[u8]) -> bool
     ensures yes { OnTrue result (talks.new ≡ with_last (with_taken bytes.now) talks.old) }
     ensures no { OnFalse result (talks.new ≡ talks.old) }
@@ -75,7 +81,8 @@ pub(crate) fn take_of_last(talks: &mut [MemoryTalk], bytes: &[u8]) -> bool
     count == 0 || talks[count - 1].take(bytes)
 }
 
-/// These bytes were written to the last conversation. It says no where there is none, and where memory runs out.
+/// These bytes were written to the last conversation. It says no where there is none, and where
+/// memory runs out.
 pub(crate) fn write_to_last(talks: &mut [MemoryTalk], bytes: &[u8]) -> bool
     ensures yes { OnTrue result (talks.new ≡ with_last (with_written bytes.now) talks.old) }
     ensures no { OnFalse result (talks.new ≡ talks.old) }

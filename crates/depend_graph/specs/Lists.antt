@@ -17,7 +17,8 @@ HoldBelow count lists = (place : ℕ) → All (λ n. n < count) (nth_list lists 
 
 -- each list at one of these places got the item, and no list got anything else
 abbrev pub AddsEach : List ℕ → ℕ → List (List ℕ) → List (List ℕ) → Type 0
-AddsEach places item old new = (place n : ℕ) → Contains (nth_list new place) n ↔ (Contains (nth_list old place) n ⊎ (Contains places place × (n ≡ item)))
+AddsEach places item old new = (place n : ℕ) → Contains (nth_list new place) n
+    ↔ (Contains (nth_list old place) n ⊎ (Contains places place × (n ≡ item)))
 
 -- b has the reader a exactly where an edge says that a reads b
 abbrev pub AreReaders : List (ℕ × ℕ) → List (List ℕ) → Type 0
@@ -25,4 +26,5 @@ AreReaders edges readers = (a b : ℕ) → Contains (nth_list readers b) a ↔ C
 
 -- a reads b exactly where b has the reader a
 abbrev pub AreTurned : List (List ℕ) → List (List ℕ) → Type 0
-AreTurned readers reads = (a b : ℕ) → Contains (nth_list reads a) b ↔ Contains (nth_list readers b) a
+AreTurned readers reads = (a b : ℕ) → Contains (nth_list reads a) b
+    ↔ Contains (nth_list readers b) a

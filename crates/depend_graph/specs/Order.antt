@@ -10,7 +10,8 @@ AreBelow count edges = All (λ e. (e.0 < count) × (e.1 < count)) edges
 pub record IsOrder (count : ℕ) (edges : List (ℕ × ℕ)) (order : List ℕ) : Type 0 where
   pub all : (n : ℕ) → Contains order n ↔ (n < count)
   pub once : AllPairs (λ a b. a ≢ b) order
-  pub behind : (k b : ℕ) → k < length order → Contains edges (slice_index order k, b) → Contains (take k order) b
+  pub behind : (k b : ℕ) → k < length order → Contains edges (slice_index order k, b)
+      → Contains (take k order) b
 
 -- a path of one step at least, which begins and ends with its least number
 pub record IsCircle (Reads : ℕ → ℕ → Type 0) (path : List ℕ) : Type 0 where

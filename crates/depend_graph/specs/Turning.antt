@@ -1,5 +1,6 @@
 -- A circle of numbers, written from its least one.
-use Rattle.std.specs.Prelude.{◌≡◌, ℕ, ◌<◌, ◌≤◌, ◌++◌, ◌∷◌, [], List, length, take, drop, slice_index, EachIndex}
+use Rattle.std.specs.Prelude.{◌≡◌, ℕ, ◌<◌, ◌≤◌, ◌++◌, ◌∷◌, [], List, length, take, drop}
+use Rattle.std.specs.Prelude.{slice_index, EachIndex}
 
 -- from this place on to the end, from the beginning, and this place's number again
 abbrev pub turned_at : ℕ → List ℕ → List ℕ

@@ -9,7 +9,8 @@ use std::alloc::Global;
 fn least_place(numbers: &[u32]) -> usize
     requires { 0 < length numbers.now }
     ensures within { result < length numbers.now }
-    ensures least { EachIndex numbers.now (λ k. slice_index numbers.now result ≤ slice_index numbers.now k) }
+    ensures least { EachIndex numbers.now (λ k. slice_index numbers.now result
+        ≤ slice_index numbers.now k) }
 {
     let mut least = 0;
     for (place, number) in numbers.iter().enumerate() {

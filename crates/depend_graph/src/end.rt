@@ -6,7 +6,8 @@ use std::alloc::{AllocError, AllocFailed};
 /// Why there is no order.
 #[derive(Debug, Drop)]
 pub enum OrderEnd {
-    /// Numbers that read one another in a circle. The first is the least, and stands at the end again.
+    /// Numbers that read one another in a circle. The first is the least, and stands at the end
+    /// again.
     Cycle(Vec<u32>),
     /// Memory ran out.
     Memory,

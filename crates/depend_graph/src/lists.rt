@@ -1,7 +1,9 @@
 //! For each number a list of others: its readers, or what it reads.
-ghost use Rattle.std.specs.Prelude.{◌≡◌, ◌⊎◌, ℕ, ◌<◌, ◌≤◌, ◌^◌, ◌++◌, ◌∷◌, [], ◌↔◌, length, vec_len, All, Contains, IfOk, OnOk, slice_set};
+ghost use Rattle.std.specs.Prelude.{◌≡◌, ◌⊎◌, ℕ, ◌<◌, ◌≤◌, ◌^◌, ◌++◌, ◌∷◌, [], ◌↔◌, length};
+ghost use Rattle.std.specs.Prelude.{vec_len, All, Contains, IfOk, OnOk, slice_set};
 ghost use Rattle.depend_graph.specs.Order.{AreBelow};
-ghost use Rattle.depend_graph.specs.Lists.{nth_list, lists_of, AddsEach, AreReaders, AreTurned, HoldBelow};
+ghost use Rattle.depend_graph.specs.Lists.{nth_list, lists_of, AddsEach, AreReaders, AreTurned};
+ghost use Rattle.depend_graph.specs.Lists.{HoldBelow};
 
 use fx_number::Memory;
 use std::alloc::Global;
@@ -23,7 +25,8 @@ fn add_at(lists: &mut Vec<Vec<u32>>, place: u32, item: u32) -> Result<(), Memory
     requires { place < vec_len lists.old }
     ensures len { vec_len lists.new ≡ vec_len lists.old }
     ensures ok { OnOk result (lists_of lists.new.items ≡
-        slice_set (lists_of lists.old.items) place (nth_list (lists_of lists.old.items) place ++ item ∷ [])) }
+        slice_set (lists_of lists.old.items) place
+        (nth_list (lists_of lists.old.items) place ++ item ∷ [])) }
 {
     lists[place as usize].push(item)?;
     Ok(())
@@ -33,7 +36,8 @@ fn add_at(lists: &mut Vec<Vec<u32>>, place: u32, item: u32) -> Result<(), Memory
 fn add_to_each(lists: &mut Vec<Vec<u32>>, places: &[u32], item: u32) -> Result<(), Memory>
     requires { All (λ place. place < vec_len lists.old) places.now }
     ensures len { vec_len lists.new ≡ vec_len lists.old }
-    ensures ok { OnOk result (AddsEach places.now item (lists_of lists.old.items) (lists_of lists.new.items)) }
+    ensures ok { OnOk result (AddsEach places.now item (lists_of lists.old.items)
+        (lists_of lists.new.items)) }
 {
     for place in places {
         add_at(lists, *place, item)?;

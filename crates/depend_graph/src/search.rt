@@ -1,6 +1,8 @@
-//! The search: down from one number to what it reads, with a stack of its own. A recursion would go as deep as the
-//! longest path.
-ghost use Rattle.std.specs.Prelude.{◌≡◌, ◌≢◌, ℕ, ◌+◌, ◌<◌, ◌≤◌, ◌-◌, ◌^◌, ◌++◌, ◌∷◌, [], vec_len, Some, slice_set, slice_get, take, drop, length, slice_index, IfOk, IfErr, OnOk};
+//! The search: down from one number to what it reads, with a stack of its own. A recursion would go
+//! as deep as the longest path.
+ghost use Rattle.std.specs.Prelude.{◌≡◌, ◌≢◌, ℕ, ◌+◌, ◌<◌, ◌≤◌, ◌-◌, ◌^◌, ◌++◌, ◌∷◌, [], vec_len};
+ghost use Rattle.std.specs.Prelude.{Some, slice_set, slice_get, take, drop, length, slice_index};
+ghost use Rattle.std.specs.Prelude.{IfOk, IfErr, OnOk};
 ghost use Rattle.std.specs.List.{sum_by, Contains};
 ghost use Rattle.depend_graph.specs.Lists.{nth_list, lists_of, HoldBelow};
 ghost use Rattle.depend_graph.specs.Turning.{TurnsToLeast};
@@ -26,7 +28,8 @@ fn read_at(reads: &[Vec<u32>], number: u32, left: usize) -> u32
     requires number { number < length reads.now }
     requires any { 0 < left }
     requires within { left ≤ length (nth_list (lists_of reads.now) number) }
-    ensures { result ≡ slice_index (nth_list (lists_of reads.now) number) (length (nth_list (lists_of reads.now) number) - left) }
+    ensures { result ≡ slice_index (nth_list (lists_of reads.now) number)
+        (length (nth_list (lists_of reads.now) number) - left) }
 {
     let list = &reads[number as usize];
     list[list.len() - left]
@@ -65,13 +68,16 @@ impl Search {
         requires number { number < vec_len self.old.states }
         requires len { length reads.now ≡ vec_len self.old.states }
         requires below { HoldBelow (vec_len self.old.states) (lists_of reads.now) }
-        requires search { IsSearchState (lists_of reads.now) self.old.states.items self.old.path.items self.old.order.items }
+        requires search { IsSearchState (lists_of reads.now) self.old.states.items
+            self.old.path.items self.old.order.items }
         requires path { self.old.path.items ≡ [] }
         ensures len { OnOk result (vec_len self.new.states ≡ vec_len self.old.states) }
-        ensures search { OnOk result (IsSearchState (lists_of reads.now) self.new.states.items self.new.path.items self.new.order.items) }
+        ensures search { OnOk result (IsSearchState (lists_of reads.now) self.new.states.items
+            self.new.path.items self.new.order.items) }
         ensures path { OnOk result (self.new.path.items ≡ []) }
         ensures seen { OnOk result (visit_state self.new.states.items number ≢ New) }
-        ensures stay { OnOk result ((n : ℕ) → visit_state self.new.states.items n ≡ New → visit_state self.old.states.items n ≡ New) }
+        ensures stay { OnOk result ((n : ℕ) → visit_state self.new.states.items n ≡ New
+            → visit_state self.old.states.items n ≡ New) }
         ensures end { IfErr result (HasCauseIn (lists_of reads.now)) }
     {
         if let State::New = self.states[number as usize] {
@@ -88,11 +94,15 @@ impl Search {
         requires last { slice_get self.old.path.items (vec_len self.old.path - 1) ≡ Some last }
         requires len { length reads.now ≡ vec_len self.old.states }
         requires below { HoldBelow (vec_len self.old.states) (lists_of reads.now) }
-        requires search { IsSearchState (lists_of reads.now) self.old.states.items self.old.path.items self.old.order.items }
+        requires search { IsSearchState (lists_of reads.now) self.old.states.items
+            self.old.path.items self.old.order.items }
         ensures len { OnOk result (vec_len self.new.states ≡ vec_len self.old.states) }
-        ensures search { OnOk result (IsSearchState (lists_of reads.now) self.new.states.items self.new.path.items self.new.order.items) }
-        ensures stay { OnOk result ((n : ℕ) → visit_state self.new.states.items n ≡ New → visit_state self.old.states.items n ≡ New) }
-        ensures less { OnOk result (sum_by work_of self.new.states.items < sum_by work_of self.old.states.items) }
+        ensures search { OnOk result (IsSearchState (lists_of reads.now) self.new.states.items
+            self.new.path.items self.new.order.items) }
+        ensures stay { OnOk result ((n : ℕ) → visit_state self.new.states.items n ≡ New
+            → visit_state self.old.states.items n ≡ New) }
+        ensures less { OnOk result (sum_by work_of self.new.states.items
+            < sum_by work_of self.old.states.items) }
         ensures end { IfErr result (HasCauseIn (lists_of reads.now)) }
     {
         let State::Open { place, left } = self.states[last as usize] else {
@@ -118,7 +128,8 @@ impl Search {
         Ok(())
     }
 
-    /// The numbers of the path from this place on, from the least of them, which stands at the end again.
+    /// The numbers of the path from this place on, from the least of them, which stands at the end
+    /// again.
     fn circle_from(&self, alloc: Global, place: usize) -> Result<Vec<u32>, Memory>
         requires { place < vec_len self.now.path }
         ensures { IfOk result (λ path. TurnsToLeast (drop place self.now.path.items) path.items) }
@@ -146,8 +157,10 @@ impl Search {
     /// Takes the last number from the path into the order.
     fn close(&mut self, last: u32) -> Result<(), Memory>
         requires { last < vec_len self.old.states }
-        ensures states { OnOk result (self.new.states.items ≡ slice_set self.old.states.items last Done) }
-        ensures path { OnOk result (self.new.path.items ≡ take (vec_len self.old.path - 1) self.old.path.items) }
+        ensures states { OnOk result (self.new.states.items
+            ≡ slice_set self.old.states.items last Done) }
+        ensures path { OnOk result (self.new.path.items
+            ≡ take (vec_len self.old.path - 1) self.old.path.items) }
         ensures order { OnOk result (self.new.order.items ≡ self.old.order.items ++ last ∷ []) }
     {
         self.order.push(last)?;

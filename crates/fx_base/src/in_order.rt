@@ -1,12 +1,14 @@
 //! Lists of things that are told by their places.
-ghost use Rattle.std.specs.Prelude.{◌≡◌, ◌≤◌, ◌++◌, ◌∷◌, [], length, slice_get, Some, IfOk, OnOk, OnErr, MatchOption};
+ghost use Rattle.std.specs.Prelude.{◌≡◌, ◌≤◌, ◌++◌, ◌∷◌, [], length, slice_get, Some, IfOk, OnOk};
+ghost use Rattle.std.specs.Prelude.{OnErr, MatchOption};
 
 use crate::Memory;
 use std::alloc::Global;
 use std::marker::Model;
 
 /// Things in order. A thing's number is its place, from 0.
-// Contracts see the things alone: of a bare `Vec` in a struct, an equation would also speak of its capacity.
+// Contracts see the things alone: of a bare `Vec` in a struct, an equation would also speak of its
+// capacity.
 #[derive(Drop)]
 pub struct InOrder<T> {
     items: Vec<T>,

@@ -16,8 +16,8 @@ pub use Rattle.fx_semantics.specs.Places.{IsPlaced}
 
 -- ---- trees
 
--- the tree has the type where it stands, by a typing in which the columns of all types rise, and what acts in it acts
--- in its place
+-- the tree has the type where it stands, by a typing in which the columns of all types rise, and
+-- what acts in it acts in its place
 pub record IsActable (types : SourceTypes) (s : ScopeValues) (t : Term) (u : Shape) : Type 0 where
   pub context : Context
   pub suits : Suits types s context
@@ -47,7 +47,8 @@ LastHasType types s u (t ∷ k ∷ ts) = CanAct types s t × LastHasType types s
 abbrev pub AreActingBranches : SourceTypes → ScopeValues → Shape → List Term → Type 0
 AreActingBranches types s u [] = Unit {0}
 AreActingBranches types s u (t ∷ []) = IsActable types s t u
-AreActingBranches types s u (c ∷ t ∷ ts) = CanAct types s c × IsActable types s t u × AreActingBranches types s u ts
+AreActingBranches types s u (c ∷ t ∷ ts) = CanAct types s c × IsActable types s t u
+    × AreActingBranches types s u ts
 
 -- a match of a type that is compared with this one
 abbrev pub IsActingMatch : SourceTypes → ScopeValues → Shape → Term → Type 0
@@ -57,7 +58,8 @@ IsActingMatch types s k t = (q : Shape) × IsActable types s t q × (is_comparab
 abbrev pub AreActingMatches : SourceTypes → ScopeValues → Shape → Shape → List Term → Type 0
 AreActingMatches types s k u [] = Unit {0}
 AreActingMatches types s k u (t ∷ []) = IsActable types s t u
-AreActingMatches types s k u (m ∷ t ∷ ts) = IsActingMatch types s k m × IsActable types s t u × AreActingMatches types s k u ts
+AreActingMatches types s k u (m ∷ t ∷ ts) = IsActingMatch types s k m × IsActable types s t u
+    × AreActingMatches types s k u ts
 
 -- the same for a value that is compared with the matches
 abbrev pub IsMatchedBy : SourceTypes → ScopeValues → Data → Shape → List Term → Type 0
@@ -66,7 +68,8 @@ IsMatchedBy types s w u ts = (k : Shape) × IsComparable w k × AreActingMatches
 -- the value that is compared, before its matches
 abbrev pub IsActingSwitch : SourceTypes → ScopeValues → Shape → List Term → Type 0
 IsActingSwitch types s u [] = ⊥
-IsActingSwitch types s u (t ∷ ts) = (k : Shape) × IsActable types s t k × AreActingMatches types s k u ts
+IsActingSwitch types s u (t ∷ ts) = (k : Shape) × IsActable types s t k
+    × AreActingMatches types s k u ts
 
 -- a fallback, where any error was caught
 abbrev pub IsActingFallback : SourceTypes → ScopeValues → Shape → Term → Type 0
@@ -76,12 +79,14 @@ IsActingFallback types s u t = (k : Kind) (cs : List ℕ) → IsActable types (c
 abbrev pub AreActingRecoveries : SourceTypes → ScopeValues → Shape → List Term → Type 0
 AreActingRecoveries types s u [] = Unit {0}
 AreActingRecoveries types s u (t ∷ []) = IsActable types s t u
-AreActingRecoveries types s u (t ∷ f ∷ ts) = IsActable types s t u × IsActingFallback types s u f × AreActingRecoveries types s u ts
+AreActingRecoveries types s u (t ∷ f ∷ ts) = IsActable types s t u × IsActingFallback types s u f
+    × AreActingRecoveries types s u ts
 
 -- a formula in the scope of each of these rows
 abbrev pub IsActableInside : SourceTypes → ScopeValues → Shape → Term → List Row → Type 0
 IsActableInside types s u f [] = Unit {0}
-IsActableInside types s u f (r ∷ rs) = IsActable types (inner s (record_of r)) f u × IsActableInside types s u f rs
+IsActableInside types s u f (r ∷ rs) = IsActable types (inner s (record_of r)) f u
+    × IsActableInside types s u f rs
 
 -- there are two parts
 abbrev pub AreTwo : List Term → Type 0

@@ -1,5 +1,5 @@
--- What a behaviour formula has done that was cut off on the way, by recursion on the tree: the parts before have done
--- what they do whole, and one was cut off.
+-- What a behaviour formula has done that was cut off on the way, by recursion on the tree: the
+-- parts before have done what they do whole, and one was cut off.
 use Rattle.std.specs.Prelude.{◌≡◌, ◌⊎◌, List, [], ◌∷◌, Bool, true, false}
 use Rattle.fx_types.specs.Values.{Data}
 use Rattle.fx_env.specs.Scopes.{ScopeValues}
@@ -21,7 +21,8 @@ use Rattle.fx_semantics.specs.Places.{is_for_all}
 use Rattle.fx_deeds.specs.CutOff.{CutDeed, CutUpdate}
 use Rattle.fx_deeds.specs.State.{EvalFrame, Giving, Ground, WorldState}
 use Rattle.fx_deeds.specs.Within.{Within}
-use Rattle.fx_behave.specs.Perform.{PerformsEach, ArePerformed, Doing, Performs, switch_decision, performing}
+use Rattle.fx_behave.specs.Perform.{PerformsEach, ArePerformed, Doing, Performs, switch_decision}
+use Rattle.fx_behave.specs.Perform.{performing}
 use Rattle.fx_behave.specs.Unique.{GivesOne}
 
 -- what a formula may leave that was cut off where it stands
@@ -61,7 +62,8 @@ Chosen (Error f) P Q = ⊥
 abbrev pub IsBranchCut : {A : Type 0} → (Data → Decision) → List (CutPart A) → Cutting A
 IsBranchCut D [] h s u = ⊥
 IsBranchCut D (P ∷ []) h s u = P.cut h s u
-IsBranchCut D (C ∷ P ∷ Ps) h s u = CutOr C (λ w m. Chosen (D w) (P.cut h m u) (IsBranchCut D Ps h m u)) h s u
+IsBranchCut D (C ∷ P ∷ Ps) h s u = CutOr C (λ w m. Chosen (D w) (P.cut h m u)
+    (IsBranchCut D Ps h m u)) h s u
 
 -- the value is no error, and P
 abbrev pub Unless : Data → Type 0 → Type 0
@@ -70,14 +72,16 @@ Unless w P = CaughtOr w (λ k cs. ⊥) P
 -- `Switch`
 abbrev pub IsSwitchCut : {A : Type 0} → List (CutPart A) → Cutting A
 IsSwitchCut [] h s u = ⊥
-IsSwitchCut (P ∷ Ps) h s u = CutOr P (λ w m. Unless w (IsBranchCut (switch_decision w) Ps h m u)) h s u
+IsSwitchCut (P ∷ Ps) h s u = CutOr P (λ w m. Unless w (IsBranchCut (switch_decision w) Ps h m u)) h
+    s u
 
 -- `IfError`
 abbrev pub IsRecoveryCut : {A : Type 0} → List (CutPart A) → Cutting A
 IsRecoveryCut [] h s u = ⊥
 IsRecoveryCut (P ∷ []) h s u = P.cut h s u
 IsRecoveryCut (P ∷ F ∷ Ps) h s u =
-    CutOr P (λ w m. CaughtOr w (λ k cs. F.cut (caught_in h k cs) m u) (IsRecoveryCut Ps h m u)) h s u
+    CutOr P (λ w m. CaughtOr w (λ k cs. F.cut (caught_in h k cs) m u) (IsRecoveryCut Ps h m u)) h s
+    u
 
 -- ---- scopes
 
@@ -87,7 +91,8 @@ IsWithinCut (P ∷ F ∷ []) h s u = CutOr P (λ w m. Unless w (F.cut (inner h w
 IsWithinCut Ps h s u = ⊥
 
 -- a formula was performed for rows in order, up to one for which it was cut off, or for all
-abbrev pub AreEachCut : {A : Type 0} → CutPart A → ScopeValues → List Row → WorldState A → WorldState A → Type 0
+abbrev pub AreEachCut : {A : Type 0} → CutPart A → ScopeValues → List Row → WorldState A
+    → WorldState A → Type 0
 AreEachCut P h [] s u = u ≡ s
 AreEachCut P h (r ∷ rs) s u = CutOr P (λ x m. AreEachCut P h rs m u) (inner h (record_of r)) s u
 
@@ -103,20 +108,24 @@ IsOverAllCut false Ps h s u = ⊥
 -- ---- deeds
 
 -- the changes of rows were cut off, or all were found and the deed was cut off
-abbrev pub AreChangesCut : {A : Type 0} → Ground A → Target → CutPart A → ScopeValues → List Row → WorldState A → WorldState A → Type 0
+abbrev pub AreChangesCut : {A : Type 0} → Ground A → Target → CutPart A → ScopeValues → List Row
+    → WorldState A → WorldState A → Type 0
 AreChangesCut {A} g p F h rs s u =
-    AreEachCut F h rs s u ⊎ ((es : List Data) × (o : WorldState A) × PerformsEach F.whole h rs s es o × CutUpdate g.frame p rs es o u)
+    AreEachCut F h rs s u ⊎ ((es : List Data) × (o : WorldState A)
+    × PerformsEach F.whole h rs s es o × CutUpdate g.frame p rs es o u)
 
 -- `UpdateIf`
 abbrev pub IsUpdateIfCut : {A : Type 0} → Ground A → Target → List (CutPart A) → Cutting A
-IsUpdateIfCut g p (P ∷ F ∷ []) h s u = CutOr P (λ w m. Unless w (AreChangesCut g p F h (rows_in w) m u)) h s u
+IsUpdateIfCut g p (P ∷ F ∷ []) h s u = CutOr P
+    (λ w m. Unless w (AreChangesCut g p F h (rows_in w) m u)) h s u
 IsUpdateIfCut g p Ps h s u = ⊥
 
 -- the parts were cut off, or all were performed and the deed was cut off
 abbrev pub IsActCut : {A : Type 0} → Ground A → Deed → List (CutPart A) → Cutting A
 IsActCut g (deed.UpdateIf p) Ps h s u = IsUpdateIfCut g p Ps h s u
 IsActCut {A} g d Ps h s u =
-    AreCut Ps h s u ⊎ ((ds : List Data) × (m : WorldState A) × ArePerformed (wholes Ps) h s ds m × CutDeed g.frame d ds m u)
+    AreCut Ps h s u ⊎ ((ds : List Data) × (m : WorldState A) × ArePerformed (wholes Ps) h s ds m
+    × CutDeed g.frame d ds m u)
 
 -- ---- trees
 
@@ -153,12 +162,15 @@ abbrev pub cut_part : {A : Type 0} → Ground A → Term → CutPart A
 cut_part g t = record { whole = performing g t; cut = cutting g t }
 
 -- PERFORMING a tree where it stands WAS CUT OFF, and has taken the state s to u
-abbrev pub IsCutOff : {A : Type 0} → Ground A → Term → ScopeValues → WorldState A → WorldState A → Type 0
+abbrev pub IsCutOff : {A : Type 0} → Ground A → Term → ScopeValues → WorldState A → WorldState A
+    → Type 0
 IsCutOff g t h s u = cutting g t h s u
 
--- over sources that give one value each the whole performing goes on from where it was cut off: what was written by then is
--- among what it writes
+-- over sources that give one value each the whole performing goes on from where it was cut off:
+-- what was written by then is among what it writes
 abbrev pub CutsGoOn : {A : Type 0} → Giving A → Type 0
 CutsGoOn {A} gives =
-    (f : EvalFrame) → GivesOne gives → (c : Term) (h : ScopeValues) (x : Data) (s u v : WorldState A) →
-    IsCutOff (record { gives = gives; frame = f }) c h s u → Performs (record { gives = gives; frame = f }) c h x s v → Within u v
+    (f : EvalFrame) → GivesOne gives → (c : Term) (h : ScopeValues) (x : Data)
+    (s u v : WorldState A) →
+    IsCutOff (record { gives = gives; frame = f }) c h s u
+    → Performs (record { gives = gives; frame = f }) c h x s v → Within u v

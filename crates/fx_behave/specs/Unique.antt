@@ -10,14 +10,19 @@ use Rattle.fx_deeds.specs.Within.{Within}
 
 -- each source gives one value at most in a state
 abbrev pub GivesOne : {A : Type 0} → Giving A → Type 0
-GivesOne {A} gives = (s : WorldState A) (x : Source) (v w : Data) → gives s x v → gives s x w → v ≡ w
+GivesOne {A} gives = (s : WorldState A) (x : Source) (v w : Data) → gives s x v → gives s x w
+    → v ≡ w
 
--- over sources that give one value each a tree has one performing at most: one value, and one state that it leaves
+-- over sources that give one value each a tree has one performing at most: one value, and one state
+-- that it leaves
 abbrev pub OnePerforming : {A : Type 0} → Giving A → Type 0
 OnePerforming {A} gives =
-    (f : EvalFrame) → GivesOne gives → (c : Term) (h : ScopeValues) (x y : Data) (s t u : WorldState A) →
-    Performs (record { gives = gives; frame = f }) c h x s t → Performs (record { gives = gives; frame = f }) c h y s u → (x ≡ y) × (t ≡ u)
+    (f : EvalFrame) → GivesOne gives → (c : Term) (h : ScopeValues) (x y : Data)
+    (s t u : WorldState A) →
+    Performs (record { gives = gives; frame = f }) c h x s t
+    → Performs (record { gives = gives; frame = f }) c h y s u → (x ≡ y) × (t ≡ u)
 
 -- what a performing leaves is as it was, but for the sources that it writes
 abbrev pub PerformingsWrite : {A : Type 0} → Giving A → Type 0
-PerformingsWrite {A} gives = (f : EvalFrame) (c : Term) (h : ScopeValues) (x : Data) (s t : WorldState A) → Performs (record { gives = gives; frame = f }) c h x s t → Within s t
+PerformingsWrite {A} gives = (f : EvalFrame) (c : Term) (h : ScopeValues) (x : Data)
+    (s t : WorldState A) → Performs (record { gives = gives; frame = f }) c h x s t → Within s t

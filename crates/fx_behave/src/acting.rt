@@ -17,9 +17,16 @@ ghost use Rattle.fx_deeds.specs.Fitting.{AreOf};
 ghost use Rattle.fx_deeds.specs.StagesOver.{Passed, StateBecomes};
 ghost use Rattle.fx_deeds.specs.State.{ground};
 ghost use Rattle.fx_deeds.specs.Writable.{WritesOnly};
-ghost use Rattle.fx_behave.specs.Actable.{AreActable, AreActingBranches, AreActingRecoveries, AreTwo, CanAct, LastHasType, IsActable, IsActableInside, IsMatchedBy, IsActingSwitch};
-ghost use Rattle.fx_behave.specs.CutOff.{AreCut, AreEachCut, IsActCut, IsBranchCut, IsCutOff, IsForAllCut, IsRecoveryCut, IsSwitchCut, IsUpdateIfCut, IsWithinCut, cut_part as part_of, parts as parts_of};
-ghost use Rattle.fx_behave.specs.Perform.{PerformsEach, ArePerformed, IsAct, IsBranched, IsChain, IsForAll, PerformsIfError, PerformsSwitch, IsUpdateIf, PerformsWith, Performs, switch_decision, performing, performings};
+ghost use Rattle.fx_behave.specs.Actable.{AreActable, AreActingBranches, AreActingRecoveries};
+ghost use Rattle.fx_behave.specs.Actable.{AreTwo, CanAct, LastHasType, IsActable, IsActableInside};
+ghost use Rattle.fx_behave.specs.Actable.{IsMatchedBy, IsActingSwitch};
+ghost use Rattle.fx_behave.specs.CutOff.{AreCut, AreEachCut, IsActCut, IsBranchCut, IsCutOff};
+ghost use Rattle.fx_behave.specs.CutOff.{IsForAllCut, IsRecoveryCut, IsSwitchCut, IsUpdateIfCut};
+ghost use Rattle.fx_behave.specs.CutOff.{IsWithinCut, cut_part as part_of, parts as parts_of};
+ghost use Rattle.fx_behave.specs.Perform.{PerformsEach, ArePerformed, IsAct, IsBranched, IsChain};
+ghost use Rattle.fx_behave.specs.Perform.{IsForAll, PerformsIfError, PerformsSwitch, IsUpdateIf};
+ghost use Rattle.fx_behave.specs.Perform.{PerformsWith, Performs, switch_decision, performing};
+ghost use Rattle.fx_behave.specs.Perform.{performings};
 ghost use Rattle.fx_behave.specs.Writable.{AnyMayWrite, MayWrite};
 
 use crate::perform::evaluate;
@@ -36,10 +43,11 @@ use fx_value::coerce;
 use std::alloc::Global;
 use std::sync::ledger::Ledger;
 
-/// Performs a behaviour formula, which is well typed under the world's names and acts in its places alone, in a
-/// scope that fits it: what acts in it changes the world, from left to right. At each exit what has changed was written,
-/// and no source was but those that its deeds name. After a `Stop` the world holds the changes up to where the performing
-/// was cut off. `Keeper` only where a fault was counted.
+/// Performs a behaviour formula, which is well typed under the world's names and acts in its places
+/// alone, in a scope that fits it: what acts in it changes the world, from left to right. At each
+/// exit what has changed was written, and no source was but those that its deeds name. After a
+/// `Stop` the world holds the changes up to where the performing was cut off. `Keeper` only where a
+/// fault was counted.
 pub fn act<W: World, L: Ledger>(
     alloc: Global,
     world: &mut W,
@@ -52,12 +60,14 @@ pub fn act<W: World, L: Ledger>(
     ensures only { StateBecomes W.Env W.World.own world.old world.new
         (WritesOnly (MayWrite core.now)) }
     ensures scope { scope.new ≡ scope.old }
-    ensures keeper { IsErrOf result Stop.Keeper → Rose (W.marks world.old).faults (W.marks world.new).faults }
+    ensures keeper { IsErrOf result Stop.Keeper
+        → Rose (W.marks world.old).faults (W.marks world.new).faults }
     ensures done { IfOk result (λ v. StateBecomes W.Env W.World.own world.old world.new
         (λ s t. Performs (ground W.gives (W.fixed world.old)) core.now scope.old (view v) s t)) }
     ensures cut { OnErr result (StateBecomes W.Env W.World.own world.old world.new
         (IsCutOff (ground W.gives (W.fixed world.old)) core.now scope.old)) }
-    ensures fits { (u : Shape) → IsActable (W.fixed world.old).types scope.old core.now u → IfOk result (λ v. fits_in (view v) u ≡ true) }
+    ensures fits { (u : Shape) → IsActable (W.fixed world.old).types scope.old core.now u
+        → IfOk result (λ v. fits_in (view v) u ≡ true) }
 {
     perform(alloc, world, scope, core, steps)
 }
@@ -76,12 +86,14 @@ fn perform<W: World, L: Ledger>(
     ensures only { StateBecomes W.Env W.World.own world.old world.new
         (WritesOnly (MayWrite core.now)) }
     ensures scope { scope.new ≡ scope.old }
-    ensures keeper { IsErrOf result Stop.Keeper → Rose (W.marks world.old).faults (W.marks world.new).faults }
+    ensures keeper { IsErrOf result Stop.Keeper
+        → Rose (W.marks world.old).faults (W.marks world.new).faults }
     ensures done { IfOk result (λ v. StateBecomes W.Env W.World.own world.old world.new
         (λ s t. Performs (ground W.gives (W.fixed world.old)) core.now scope.old (view v) s t)) }
     ensures cut { OnErr result (StateBecomes W.Env W.World.own world.old world.new
         (IsCutOff (ground W.gives (W.fixed world.old)) core.now scope.old)) }
-    ensures fits { (u : Shape) → IsActable (W.fixed world.old).types scope.old core.now u → IfOk result (λ v. fits_in (view v) u ≡ true) }
+    ensures fits { (u : Shape) → IsActable (W.fixed world.old).types scope.old core.now u
+        → IfOk result (λ v. fits_in (view v) u ≡ true) }
 {
     if acts(core) {
         node(alloc, world, scope, core, steps)
@@ -105,12 +117,14 @@ fn node<W: World, L: Ledger>(
     ensures only { StateBecomes W.Env W.World.own world.old world.new
         (WritesOnly (MayWrite core.now)) }
     ensures scope { scope.new ≡ scope.old }
-    ensures keeper { IsErrOf result Stop.Keeper → Rose (W.marks world.old).faults (W.marks world.new).faults }
+    ensures keeper { IsErrOf result Stop.Keeper
+        → Rose (W.marks world.old).faults (W.marks world.new).faults }
     ensures done { IfOk result (λ v. StateBecomes W.Env W.World.own world.old world.new
         (λ s t. Performs (ground W.gives (W.fixed world.old)) core.now scope.old (view v) s t)) }
     ensures cut { OnErr result (StateBecomes W.Env W.World.own world.old world.new
         (IsCutOff (ground W.gives (W.fixed world.old)) core.now scope.old)) }
-    ensures fits { (u : Shape) → IsActable (W.fixed world.old).types scope.old core.now u → IfOk result (λ v. fits_in (view v) u ≡ true) }
+    ensures fits { (u : Shape) → IsActable (W.fixed world.old).types scope.old core.now u
+        → IfOk result (λ v. fits_in (view v) u ≡ true) }
 {
     match &core.node {
         CoreNode::Chain(parts) => chain(alloc, world, scope, parts.as_slice(), steps),
@@ -169,12 +183,16 @@ fn act_deed<W: World, L: Ledger>(
     ensures only { StateBecomes W.Env W.World.own world.old world.new
         (WritesOnly (MayWrite (of (deed_head deed.now) (all parts.now)))) }
     ensures scope { scope.new ≡ scope.old }
-    ensures keeper { IsErrOf result Stop.Keeper → Rose (W.marks world.old).faults (W.marks world.new).faults }
+    ensures keeper { IsErrOf result Stop.Keeper
+        → Rose (W.marks world.old).faults (W.marks world.new).faults }
     ensures done { IfOk result (λ v. StateBecomes W.Env W.World.own world.old world.new
-        (λ s t. IsAct (ground W.gives (W.fixed world.old)) deed.now (performings (ground W.gives (W.fixed world.old)) (all parts.now)) scope.old s (view v) t)) }
+        (λ s t. IsAct (ground W.gives (W.fixed world.old)) deed.now
+        (performings (ground W.gives (W.fixed world.old)) (all parts.now)) scope.old s (view v) t)) }
     ensures cut { OnErr result (StateBecomes W.Env W.World.own world.old world.new
-        (IsActCut (ground W.gives (W.fixed world.old)) deed.now (parts_of (ground W.gives (W.fixed world.old)) (all parts.now)) scope.old)) }
-    ensures fits { (u : Shape) → IsActable (W.fixed world.old).types scope.old (of (deed_head deed.now) (all parts.now)) u → IfOk result (λ v. fits_in (view v) u ≡ true) }
+        (IsActCut (ground W.gives (W.fixed world.old)) deed.now
+        (parts_of (ground W.gives (W.fixed world.old)) (all parts.now)) scope.old)) }
+    ensures fits { (u : Shape) → IsActable (W.fixed world.old).types scope.old
+        (of (deed_head deed.now) (all parts.now)) u → IfOk result (λ v. fits_in (view v) u ≡ true) }
 {
     match deed {
         Deed::UpdateIf(target) => update_if(alloc, world, scope, *target, parts, steps),
@@ -195,16 +213,20 @@ fn update_if<W: World, L: Ledger>(
     parts: &[Core],
     steps: &mut Steps<L>,
 ) -> Result<Value, Stop>
-    requires { CanAct (W.fixed world.old).types scope.old (of (deed_head (deed.UpdateIf target)) (all parts.now)) }
+    requires { CanAct (W.fixed world.old).types scope.old
+        (of (deed_head (deed.UpdateIf target)) (all parts.now)) }
     ensures passed { Passed W.Env W.World.own world.old world.new }
     ensures only { StateBecomes W.Env W.World.own world.old world.new
         (WritesOnly (MayWrite (of (deed_head (deed.UpdateIf target)) (all parts.now)))) }
     ensures scope { scope.new ≡ scope.old }
-    ensures keeper { IsErrOf result Stop.Keeper → Rose (W.marks world.old).faults (W.marks world.new).faults }
+    ensures keeper { IsErrOf result Stop.Keeper
+        → Rose (W.marks world.old).faults (W.marks world.new).faults }
     ensures done { IfOk result (λ v. StateBecomes W.Env W.World.own world.old world.new
-        (λ s t. IsUpdateIf (ground W.gives (W.fixed world.old)) target (performings (ground W.gives (W.fixed world.old)) (all parts.now)) scope.old s (view v) t)) }
+        (λ s t. IsUpdateIf (ground W.gives (W.fixed world.old)) target
+        (performings (ground W.gives (W.fixed world.old)) (all parts.now)) scope.old s (view v) t)) }
     ensures cut { OnErr result (StateBecomes W.Env W.World.own world.old world.new
-        (IsUpdateIfCut (ground W.gives (W.fixed world.old)) target (parts_of (ground W.gives (W.fixed world.old)) (all parts.now)) scope.old)) }
+        (IsUpdateIfCut (ground W.gives (W.fixed world.old)) target
+        (parts_of (ground W.gives (W.fixed world.old)) (all parts.now)) scope.old)) }
     ensures fits { IfOk result (λ v. fits_in (view v) booleans ≡ true) }
 {
     let (filter, change) = filter_and_change(parts);
@@ -247,12 +269,15 @@ fn chain<W: World, L: Ledger>(
     ensures only { StateBecomes W.Env W.World.own world.old world.new
         (WritesOnly (AnyMayWrite (all parts.now))) }
     ensures scope { scope.new ≡ scope.old }
-    ensures keeper { IsErrOf result Stop.Keeper → Rose (W.marks world.old).faults (W.marks world.new).faults }
+    ensures keeper { IsErrOf result Stop.Keeper
+        → Rose (W.marks world.old).faults (W.marks world.new).faults }
     ensures done { IfOk result (λ v. StateBecomes W.Env W.World.own world.old world.new
-        (λ s t. IsChain (performings (ground W.gives (W.fixed world.old)) (all parts.now)) scope.old s (view v) t)) }
+        (λ s t. IsChain (performings (ground W.gives (W.fixed world.old)) (all parts.now)) scope.old
+        s (view v) t)) }
     ensures cut { OnErr result (StateBecomes W.Env W.World.own world.old world.new
         (AreCut (parts_of (ground W.gives (W.fixed world.old)) (all parts.now)) scope.old)) }
-    ensures fits { (u : Shape) → LastHasType (W.fixed world.old).types scope.old u parts.now → IfOk result (λ v. fits_in (view v) u ≡ true) }
+    ensures fits { (u : Shape) → LastHasType (W.fixed world.old).types scope.old u parts.now
+        → IfOk result (λ v. fits_in (view v) u ≡ true) }
 {
     let mut rest = parts;
     while let Some((part, others)) = rest.split_first() {
@@ -279,12 +304,16 @@ fn branches<W: World, L: Ledger>(
     ensures only { StateBecomes W.Env W.World.own world.old world.new
         (WritesOnly (AnyMayWrite (all parts.now))) }
     ensures scope { scope.new ≡ scope.old }
-    ensures keeper { IsErrOf result Stop.Keeper → Rose (W.marks world.old).faults (W.marks world.new).faults }
+    ensures keeper { IsErrOf result Stop.Keeper
+        → Rose (W.marks world.old).faults (W.marks world.new).faults }
     ensures done { IfOk result (λ v. StateBecomes W.Env W.World.own world.old world.new
-        (λ s t. IsBranched decision_of (performings (ground W.gives (W.fixed world.old)) (all parts.now)) scope.old s (view v) t)) }
+        (λ s t. IsBranched decision_of (performings (ground W.gives (W.fixed world.old))
+        (all parts.now)) scope.old s (view v) t)) }
     ensures cut { OnErr result (StateBecomes W.Env W.World.own world.old world.new
-        (IsBranchCut decision_of (parts_of (ground W.gives (W.fixed world.old)) (all parts.now)) scope.old)) }
-    ensures fits { (u : Shape) → AreActingBranches (W.fixed world.old).types scope.old u parts.now → IfOk result (λ v. fits_in (view v) u ≡ true) }
+        (IsBranchCut decision_of (parts_of (ground W.gives (W.fixed world.old)) (all parts.now))
+        scope.old)) }
+    ensures fits { (u : Shape) → AreActingBranches (W.fixed world.old).types scope.old u parts.now
+        → IfOk result (λ v. fits_in (view v) u ≡ true) }
 {
     let mut rest = parts;
     while let Some((part, others)) = rest.split_first() {
@@ -315,12 +344,15 @@ fn switch<W: World, L: Ledger>(
     ensures only { StateBecomes W.Env W.World.own world.old world.new
         (WritesOnly (AnyMayWrite (all parts.now))) }
     ensures scope { scope.new ≡ scope.old }
-    ensures keeper { IsErrOf result Stop.Keeper → Rose (W.marks world.old).faults (W.marks world.new).faults }
+    ensures keeper { IsErrOf result Stop.Keeper
+        → Rose (W.marks world.old).faults (W.marks world.new).faults }
     ensures done { IfOk result (λ v. StateBecomes W.Env W.World.own world.old world.new
-        (λ s t. PerformsSwitch (performings (ground W.gives (W.fixed world.old)) (all parts.now)) scope.old s (view v) t)) }
+        (λ s t. PerformsSwitch (performings (ground W.gives (W.fixed world.old)) (all parts.now))
+        scope.old s (view v) t)) }
     ensures cut { OnErr result (StateBecomes W.Env W.World.own world.old world.new
         (IsSwitchCut (parts_of (ground W.gives (W.fixed world.old)) (all parts.now)) scope.old)) }
-    ensures fits { (u : Shape) → IsActingSwitch (W.fixed world.old).types scope.old u parts.now → IfOk result (λ v. fits_in (view v) u ≡ true) }
+    ensures fits { (u : Shape) → IsActingSwitch (W.fixed world.old).types scope.old u parts.now
+        → IfOk result (λ v. fits_in (view v) u ≡ true) }
 {
     let Some((part, others)) = parts.split_first() else {
         unreachable!()
@@ -342,17 +374,22 @@ fn matches<W: World, L: Ledger>(
     parts: &[Core],
     steps: &mut Steps<L>,
 ) -> Result<Value, Stop>
-    requires { (u : Shape) × IsMatchedBy (W.fixed world.old).types scope.old (view wanted) u parts.now }
+    requires { (u : Shape) × IsMatchedBy (W.fixed world.old).types scope.old (view wanted) u
+        parts.now }
     ensures passed { Passed W.Env W.World.own world.old world.new }
     ensures only { StateBecomes W.Env W.World.own world.old world.new
         (WritesOnly (AnyMayWrite (all parts.now))) }
     ensures scope { scope.new ≡ scope.old }
-    ensures keeper { IsErrOf result Stop.Keeper → Rose (W.marks world.old).faults (W.marks world.new).faults }
+    ensures keeper { IsErrOf result Stop.Keeper
+        → Rose (W.marks world.old).faults (W.marks world.new).faults }
     ensures done { IfOk result (λ v. StateBecomes W.Env W.World.own world.old world.new
-        (λ s t. IsBranched (switch_decision (view wanted)) (performings (ground W.gives (W.fixed world.old)) (all parts.now)) scope.old s (view v) t)) }
+        (λ s t. IsBranched (switch_decision (view wanted))
+        (performings (ground W.gives (W.fixed world.old)) (all parts.now)) scope.old s (view v) t)) }
     ensures cut { OnErr result (StateBecomes W.Env W.World.own world.old world.new
-        (IsBranchCut (switch_decision (view wanted)) (parts_of (ground W.gives (W.fixed world.old)) (all parts.now)) scope.old)) }
-    ensures fits { (u : Shape) → IsMatchedBy (W.fixed world.old).types scope.old (view wanted) u parts.now → IfOk result (λ v. fits_in (view v) u ≡ true) }
+        (IsBranchCut (switch_decision (view wanted))
+        (parts_of (ground W.gives (W.fixed world.old)) (all parts.now)) scope.old)) }
+    ensures fits { (u : Shape) → IsMatchedBy (W.fixed world.old).types scope.old (view wanted) u
+        parts.now → IfOk result (λ v. fits_in (view v) u ≡ true) }
 {
     let mut rest = parts;
     while let Some((part, others)) = rest.split_first() {
@@ -383,12 +420,15 @@ fn recover<W: World, L: Ledger>(
     ensures only { StateBecomes W.Env W.World.own world.old world.new
         (WritesOnly (AnyMayWrite (all parts.now))) }
     ensures scope { scope.new ≡ scope.old }
-    ensures keeper { IsErrOf result Stop.Keeper → Rose (W.marks world.old).faults (W.marks world.new).faults }
+    ensures keeper { IsErrOf result Stop.Keeper
+        → Rose (W.marks world.old).faults (W.marks world.new).faults }
     ensures done { IfOk result (λ v. StateBecomes W.Env W.World.own world.old world.new
-        (λ s t. PerformsIfError (none_left_of form.IfError) (performings (ground W.gives (W.fixed world.old)) (all parts.now)) scope.old s (view v) t)) }
+        (λ s t. PerformsIfError (none_left_of form.IfError)
+        (performings (ground W.gives (W.fixed world.old)) (all parts.now)) scope.old s (view v) t)) }
     ensures cut { OnErr result (StateBecomes W.Env W.World.own world.old world.new
         (IsRecoveryCut (parts_of (ground W.gives (W.fixed world.old)) (all parts.now)) scope.old)) }
-    ensures fits { (u : Shape) → AreActingRecoveries (W.fixed world.old).types scope.old u parts.now → IfOk result (λ v. fits_in (view v) u ≡ true) }
+    ensures fits { (u : Shape) → AreActingRecoveries (W.fixed world.old).types scope.old u parts.now
+        → IfOk result (λ v. fits_in (view v) u ≡ true) }
 {
     let mut last = Value::Blank;
     let mut rest = parts;
@@ -423,17 +463,23 @@ fn catch_error<W: World, L: Ledger>(
     formula: &Core,
     steps: &mut Steps<L>,
 ) -> Result<Value, Stop>
-    requires { CanAct (W.fixed world.old).types (caught_in scope.old fault.kind fault.message) formula.now }
+    requires { CanAct (W.fixed world.old).types (caught_in scope.old fault.kind fault.message)
+        formula.now }
     ensures passed { Passed W.Env W.World.own world.old world.new }
     ensures only { StateBecomes W.Env W.World.own world.old world.new
         (WritesOnly (MayWrite formula.now)) }
     ensures scope { scope.new ≡ scope.old }
-    ensures keeper { IsErrOf result Stop.Keeper → Rose (W.marks world.old).faults (W.marks world.new).faults }
+    ensures keeper { IsErrOf result Stop.Keeper
+        → Rose (W.marks world.old).faults (W.marks world.new).faults }
     ensures done { IfOk result (λ v. StateBecomes W.Env W.World.own world.old world.new
-        (λ s t. Performs (ground W.gives (W.fixed world.old)) formula.now (caught_in scope.old fault.kind fault.message) (view v) s t)) }
+        (λ s t. Performs (ground W.gives (W.fixed world.old)) formula.now
+        (caught_in scope.old fault.kind fault.message) (view v) s t)) }
     ensures cut { OnErr result (StateBecomes W.Env W.World.own world.old world.new
-        (IsCutOff (ground W.gives (W.fixed world.old)) formula.now (caught_in scope.old fault.kind fault.message))) }
-    ensures fits { (u : Shape) → IsActable (W.fixed world.old).types (caught_in scope.old fault.kind fault.message) formula.now u → IfOk result (λ v. fits_in (view v) u ≡ true) }
+        (IsCutOff (ground W.gives (W.fixed world.old)) formula.now
+        (caught_in scope.old fault.kind fault.message))) }
+    ensures fits { (u : Shape) → IsActable (W.fixed world.old).types
+        (caught_in scope.old fault.kind fault.message) formula.now u
+        → IfOk result (λ v. fits_in (view v) u ≡ true) }
 {
     let outer = scope.caught.replace(fault);
     // Without `?`, so that the error is let go also where there is no value.
@@ -452,17 +498,23 @@ fn within<W: World, L: Ledger>(
     formula: &Core,
     steps: &mut Steps<L>,
 ) -> Result<Value, Stop>
-    requires { CanAct (W.fixed world.old).types scope.old (of scoped (cons part.now (cons formula.now nil))) }
+    requires { CanAct (W.fixed world.old).types scope.old
+        (of scoped (cons part.now (cons formula.now nil))) }
     ensures passed { Passed W.Env W.World.own world.old world.new }
     ensures only { StateBecomes W.Env W.World.own world.old world.new
         (WritesOnly (AnyMayWrite (cons part.now (cons formula.now nil)))) }
     ensures scope { scope.new ≡ scope.old }
-    ensures keeper { IsErrOf result Stop.Keeper → Rose (W.marks world.old).faults (W.marks world.new).faults }
+    ensures keeper { IsErrOf result Stop.Keeper
+        → Rose (W.marks world.old).faults (W.marks world.new).faults }
     ensures done { IfOk result (λ v. StateBecomes W.Env W.World.own world.old world.new
-        (λ s t. PerformsWith (performings (ground W.gives (W.fixed world.old)) (cons part.now (cons formula.now nil))) scope.old s (view v) t)) }
+        (λ s t. PerformsWith (performings (ground W.gives (W.fixed world.old))
+        (cons part.now (cons formula.now nil))) scope.old s (view v) t)) }
     ensures cut { OnErr result (StateBecomes W.Env W.World.own world.old world.new
-        (IsWithinCut (parts_of (ground W.gives (W.fixed world.old)) (cons part.now (cons formula.now nil))) scope.old)) }
-    ensures fits { (u : Shape) → IsActable (W.fixed world.old).types scope.old (of scoped (cons part.now (cons formula.now nil))) u → IfOk result (λ v. fits_in (view v) u ≡ true) }
+        (IsWithinCut (parts_of (ground W.gives (W.fixed world.old))
+        (cons part.now (cons formula.now nil))) scope.old)) }
+    ensures fits { (u : Shape) → IsActable (W.fixed world.old).types scope.old
+        (of scoped (cons part.now (cons formula.now nil))) u
+        → IfOk result (λ v. fits_in (view v) u ≡ true) }
 {
     let value = perform(alloc, world, scope, part, steps)?;
     match without_error(value) {
@@ -486,12 +538,15 @@ fn in_scope<W: World, L: Ledger>(
     ensures only { StateBecomes W.Env W.World.own world.old world.new
         (WritesOnly (MayWrite formula.now)) }
     ensures scope { scope.new ≡ scope.old }
-    ensures keeper { IsErrOf result Stop.Keeper → Rose (W.marks world.old).faults (W.marks world.new).faults }
+    ensures keeper { IsErrOf result Stop.Keeper
+        → Rose (W.marks world.old).faults (W.marks world.new).faults }
     ensures done { IfOk result (λ v. StateBecomes W.Env W.World.own world.old world.new
-        (λ s t. Performs (ground W.gives (W.fixed world.old)) formula.now (inner scope.old (view row)) (view v) s t)) }
+        (λ s t. Performs (ground W.gives (W.fixed world.old)) formula.now
+        (inner scope.old (view row)) (view v) s t)) }
     ensures cut { OnErr result (StateBecomes W.Env W.World.own world.old world.new
         (IsCutOff (ground W.gives (W.fixed world.old)) formula.now (inner scope.old (view row)))) }
-    ensures fits { (u : Shape) → IsActable (W.fixed world.old).types (inner scope.old (view row)) formula.now u → IfOk result (λ v. fits_in (view v) u ≡ true) }
+    ensures fits { (u : Shape) → IsActable (W.fixed world.old).types (inner scope.old (view row))
+        formula.now u → IfOk result (λ v. fits_in (view v) u ≡ true) }
 {
     scope.rows.push(row)?;
     // Without `?`, so that the scope is left also where there is no value.
@@ -510,17 +565,23 @@ fn for_all<W: World, L: Ledger>(
     parts: &[Core],
     steps: &mut Steps<L>,
 ) -> Result<Value, Stop>
-    requires { CanAct (W.fixed world.old).types scope.old (of (over fun.ForAll) (cons table.now (all parts.now))) }
+    requires { CanAct (W.fixed world.old).types scope.old
+        (of (over fun.ForAll) (cons table.now (all parts.now))) }
     ensures passed { Passed W.Env W.World.own world.old world.new }
     ensures only { StateBecomes W.Env W.World.own world.old world.new
         (WritesOnly (AnyMayWrite (cons table.now (all parts.now)))) }
     ensures scope { scope.new ≡ scope.old }
-    ensures keeper { IsErrOf result Stop.Keeper → Rose (W.marks world.old).faults (W.marks world.new).faults }
+    ensures keeper { IsErrOf result Stop.Keeper
+        → Rose (W.marks world.old).faults (W.marks world.new).faults }
     ensures done { IfOk result (λ v. StateBecomes W.Env W.World.own world.old world.new
-        (λ s t. IsForAll (performings (ground W.gives (W.fixed world.old)) (cons table.now (all parts.now))) scope.old s (view v) t)) }
+        (λ s t. IsForAll (performings (ground W.gives (W.fixed world.old))
+        (cons table.now (all parts.now))) scope.old s (view v) t)) }
     ensures cut { OnErr result (StateBecomes W.Env W.World.own world.old world.new
-        (IsForAllCut (parts_of (ground W.gives (W.fixed world.old)) (cons table.now (all parts.now))) scope.old)) }
-    ensures fits { (u : Shape) → IsActable (W.fixed world.old).types scope.old (of (over fun.ForAll) (cons table.now (all parts.now))) u → IfOk result (λ v. fits_in (view v) u ≡ true) }
+        (IsForAllCut (parts_of (ground W.gives (W.fixed world.old))
+        (cons table.now (all parts.now))) scope.old)) }
+    ensures fits { (u : Shape) → IsActable (W.fixed world.old).types scope.old
+        (of (over fun.ForAll) (cons table.now (all parts.now))) u
+        → IfOk result (λ v. fits_in (view v) u ≡ true) }
 {
     let Some((formula, _)) = parts.split_first() else {
         unreachable!()
@@ -535,7 +596,8 @@ fn for_all<W: World, L: Ledger>(
     }
 }
 
-// The values of a formula for these rows, each in the scope of its row and over what the row before left.
+// The values of a formula for these rows, each in the scope of its row and over what the row before
+// left.
 #[cycle(perform)]
 fn each<W: World, L: Ledger>(
     alloc: Global,
@@ -545,17 +607,21 @@ fn each<W: World, L: Ledger>(
     formula: &Core,
     steps: &mut Steps<L>,
 ) -> Result<Vec<Value>, Stop>
-    requires { (u : Shape) × IsActableInside (W.fixed world.old).types scope.old u formula.now rows.now }
+    requires { (u : Shape) × IsActableInside (W.fixed world.old).types scope.old u formula.now
+        rows.now }
     ensures passed { Passed W.Env W.World.own world.old world.new }
     ensures only { StateBecomes W.Env W.World.own world.old world.new
         (WritesOnly (MayWrite formula.now)) }
     ensures scope { scope.new ≡ scope.old }
-    ensures keeper { IsErrOf result Stop.Keeper → Rose (W.marks world.old).faults (W.marks world.new).faults }
+    ensures keeper { IsErrOf result Stop.Keeper
+        → Rose (W.marks world.old).faults (W.marks world.new).faults }
     ensures done { IfOk result (λ vs. StateBecomes W.Env W.World.own world.old world.new
-        (λ s t. PerformsEach (performing (ground W.gives (W.fixed world.old)) formula.now) scope.old rows.now s (map view vs.items) t)) }
+        (λ s t. PerformsEach (performing (ground W.gives (W.fixed world.old)) formula.now) scope.old
+        rows.now s (map view vs.items) t)) }
     ensures cut { OnErr result (StateBecomes W.Env W.World.own world.old world.new
         (AreEachCut (part_of (ground W.gives (W.fixed world.old)) formula.now) scope.old rows.now)) }
-    ensures fits { (u : Shape) → IsActableInside (W.fixed world.old).types scope.old u formula.now rows.now → IfOk result (λ vs. AreOf u (map view vs.items)) }
+    ensures fits { (u : Shape) → IsActableInside (W.fixed world.old).types scope.old u formula.now
+        rows.now → IfOk result (λ vs. AreOf u (map view vs.items)) }
 {
     let mut values = Vec::new(alloc);
     let mut rest = rows;
@@ -582,12 +648,15 @@ fn part_values<W: World, L: Ledger>(
     ensures only { StateBecomes W.Env W.World.own world.old world.new
         (WritesOnly (AnyMayWrite (all parts.now))) }
     ensures scope { scope.new ≡ scope.old }
-    ensures keeper { IsErrOf result Stop.Keeper → Rose (W.marks world.old).faults (W.marks world.new).faults }
+    ensures keeper { IsErrOf result Stop.Keeper
+        → Rose (W.marks world.old).faults (W.marks world.new).faults }
     ensures done { IfOk result (λ vs. StateBecomes W.Env W.World.own world.old world.new
-        (λ s t. ArePerformed (performings (ground W.gives (W.fixed world.old)) (all parts.now)) scope.old s (map view vs.items) t)) }
+        (λ s t. ArePerformed (performings (ground W.gives (W.fixed world.old)) (all parts.now))
+        scope.old s (map view vs.items) t)) }
     ensures cut { OnErr result (StateBecomes W.Env W.World.own world.old world.new
         (AreCut (parts_of (ground W.gives (W.fixed world.old)) (all parts.now)) scope.old)) }
-    ensures fits { (us : List Shape) → AreActable (W.fixed world.old).types scope.old us parts.now → IfOk result (λ vs. AreFit (map view vs.items) us) }
+    ensures fits { (us : List Shape) → AreActable (W.fixed world.old).types scope.old us parts.now
+        → IfOk result (λ vs. AreFit (map view vs.items) us) }
 {
     let mut values = Vec::new(alloc);
     let mut rest = parts;

@@ -24,7 +24,8 @@ pub fn performings_write<W: World>()
     ensures { PerformingsWrite W.gives }
 {}
 
-/// A law, and no work: over sources that give one value each, the whole performing goes on from where one was cut off.
+/// A law, and no work: over sources that give one value each, the whole performing goes on from
+/// where one was cut off.
 pub fn cuts_go_on<W: World>()
     ensures { CutsGoOn W.gives }
 {

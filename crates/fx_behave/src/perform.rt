@@ -22,7 +22,8 @@ use fx_types::Value;
 use std::alloc::Global;
 use std::sync::ledger::Ledger;
 
-/// The value of a formula that doesn't act, with no more rows of a query expression than it may take.
+/// The value of a formula that doesn't act, with no more rows of a query expression than it may
+/// take.
 pub(crate) fn evaluate<W: World, L: Ledger>(
     alloc: Global,
     world: &mut W,
@@ -34,10 +35,12 @@ pub(crate) fn evaluate<W: World, L: Ledger>(
     ensures passed { Passed W.Env W.World.own world.old world.new }
     ensures stays { StateBecomes W.Env W.World.own world.old world.new Stays }
     ensures scope { scope.new ≡ scope.old }
-    ensures keeper { IsErrOf result Stop.Keeper → Rose (W.marks world.old).faults (W.marks world.new).faults }
+    ensures keeper { IsErrOf result Stop.Keeper
+        → Rose (W.marks world.old).faults (W.marks world.new).faults }
     ensures done { IfOk result (λ v. StateBecomes W.Env W.World.own world.old world.new
         (λ s t. Performs (ground W.gives (W.fixed world.old)) core.now scope.old (view v) s t)) }
-    ensures fits { (u : Shape) → IsTypedHere (W.fixed world.old).types scope.old core.now u → IfOk result (λ v. fits_in (view v) u ≡ true) }
+    ensures fits { (u : Shape) → IsTypedHere (W.fixed world.old).types scope.old core.now u
+        → IfOk result (λ v. fits_in (view v) u ≡ true) }
 {
     // A law, which is called for what it says.
     limited_types();
@@ -46,14 +49,16 @@ pub(crate) fn evaluate<W: World, L: Ledger>(
     eval(alloc, world, scope, &taking, steps)
 }
 
-// The formula where it stands, in which query expressions that aren't taken whole give their first rows.
+// The formula where it stands, in which query expressions that aren't taken whole give their first
+// rows.
 fn limit_queries<W: World>(
     alloc: Global,
     world: &W,
     scope: &Scope,
     core: &Core,
 ) -> Result<Core, Memory>
-    ensures { IfOk result (λ c. c ≡ limited (W.fixed world.now).schema.tables (W.fixed world.now).limit (length scope.now.rows) false core.now) }
+    ensures { IfOk result (λ c. c ≡ limited (W.fixed world.now).schema.tables
+        (W.fixed world.now).limit (length scope.now.rows) false core.now) }
 {
     limit_queries_under(alloc, world.schema(), world.limit(), core, depth(scope)?)
 }

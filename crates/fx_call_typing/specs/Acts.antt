@@ -8,7 +8,8 @@ use Rattle.fx_core.specs.declared.names.Names.{Names}
 use Rattle.fx_core.specs.Term.{Term}
 use Rattle.fx_core.specs.Rules as rules
 use Rattle.fx_typing.specs.Parts.{JudgedPart}
-use Rattle.fx_typing.specs.Deeds.{set_of, collect_of, clear_of, patch_of, remove_of, navigate_of, reset_of}
+use Rattle.fx_typing.specs.Deeds.{set_of, collect_of, clear_of, patch_of, remove_of, navigate_of}
+use Rattle.fx_typing.specs.Deeds.{reset_of}
 
 -- whether the first part is a name alone
 abbrev pub is_by_name : Acting → Bool

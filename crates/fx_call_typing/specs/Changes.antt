@@ -34,12 +34,15 @@ unless_broken (Some rule) r = Err (rule_number rule)
 
 -- the trees of a row that is patched and of what changes in it
 abbrev pub patched : Target × ColumnList → Term × Shape → List (Term × Shape) → Result (List Term) ℕ
-patched r base changes = lowest (λ b ys. b.0 ∷ firsts ys) (row_typed r.0 r.1 base) (changes_of r.0 r.1 changes)
+patched r base changes = lowest (λ b ys. b.0 ∷ firsts ys) (row_typed r.0 r.1 base)
+    (changes_of r.0 r.1 changes)
 
 -- the rows that are removed
 abbrev pub removed : Target × ColumnList → List (Term × Shape) → Result (Term × Shape) ℕ
-removed r xs = and_then (rows_named_by r.0 r.1 xs) (λ ys. Ok (done_by (deed.Remove r.0) (firsts ys)))
+removed r xs = and_then (rows_named_by r.0 r.1 xs)
+    (λ ys. Ok (done_by (deed.Remove r.0) (firsts ys)))
 
 -- the filtered rows of a table that are taken away
-abbrev pub removed_from : Target × ColumnList → Option (List ℕ) → List JudgedPart → Result (Term × Shape) ℕ
+abbrev pub removed_from : Target × ColumnList → Option (List ℕ) → List JudgedPart
+    → Result (Term × Shape) ℕ
 removed_from r a qs = and_then (filter_of r a qs) (λ f. Ok (done_by (deed.RemoveIf r.0) (f.0 ∷ [])))

@@ -1,5 +1,6 @@
 //! Calls, by the table of functions.
-ghost use Rattle.std.specs.Prelude.{◌≡◌, ◌&&◌, IfOk, List, Result, encode_utf8_all, is_some, map, option_map, ℕ};
+ghost use Rattle.std.specs.Prelude.{◌≡◌, ◌&&◌, IfOk, List, Result, encode_utf8_all, is_some, map};
+ghost use Rattle.std.specs.Prelude.{option_map, ℕ};
 ghost use Rattle.fx_types.specs.Types.{Shape, column_list};
 ghost use Rattle.fx_types.specs.Values.{field_list};
 ghost use Rattle.fx_core.specs.Signatures.{signature_in};
@@ -107,7 +108,8 @@ fn blank_record(alloc: Global, columns: Columns) -> Result<Typed, Memory>
 // `Defaults`: rows.
 fn defaults_of(alloc: Global, names: &Names, all: Vec<Part>) -> Result<Typed, Wrong>
     requires { IsLawful names.now }
-    ensures { IsAnswerOf typed (by_first_name (map judged_part all.entry.items) (calls.defaults_of names.now)) result }
+    ensures { IsAnswerOf typed (by_first_name (map judged_part all.entry.items)
+        (calls.defaults_of names.now)) result }
 {
     let (name, _) = take_name(all)?;
     let rows = find_rows(alloc, names, &name)?;
@@ -156,7 +158,8 @@ fn make_or_lowest(alloc: Global, fun: Fun, all: Vec<Part>) -> Result<Typed, Wron
 // An acting call that gives values to variables of its screen alone.
 fn act_on_screen(alloc: Global, at: &Place, acting: Acting, all: Vec<Part>) -> Result<Typed, Wrong>
     requires { IsLawful at.now.names.now }
-    ensures { IsAnswerOf typed (calls.acted_on_screen (place_view at.now) acting (map judged_part all.entry.items)) result }
+    ensures { IsAnswerOf typed (calls.acted_on_screen (place_view at.now) acting
+        (map judged_part all.entry.items)) result }
 {
     let known = gives_variables(at.names, at.screen, acting, all.as_slice());
     let found = act(alloc, at.names, at.screen, acting, all);
@@ -164,20 +167,22 @@ fn act_on_screen(alloc: Global, at: &Place, acting: Acting, all: Vec<Part>) -> R
     unless(!known, Rule::NotAVariable, found)
 }
 
-// Whether the types are settled, and that of a variable or collection that is given a value passes the
-// limits.
+// Whether the types are settled, and that of a variable or collection that is given a value passes
+// the limits.
 fn is_large(at: &Place, acting: Acting, all: &[Part]) -> bool
     requires { IsLawful at.now.names.now }
-    ensures { result ≡ (is_some (large_given at.now.names.now at.now.screen acting (map judged_part all.now)) && at.now.settled) }
+    ensures { result ≡ (is_some (large_given at.now.names.now at.now.screen acting
+        (map judged_part all.now)) && at.now.settled) }
 {
     first_large_type(at.names, at.screen, acting, all).is_some() && at.settled
 }
 
-// An acting call at its place. While types aren't settled no value is of a wrong type for a variable, and no
-// type passes the limits; but what is no variable is none.
+// An acting call at its place. While types aren't settled no value is of a wrong type for a
+// variable, and no type passes the limits; but what is no variable is none.
 fn act_at(alloc: Global, at: &Place, acting: Acting, all: Vec<Part>) -> Result<Typed, Wrong>
     requires { IsLawful at.now.names.now }
-    ensures { IsAnswerOf typed (calls.acted_by (place_view at.now) acting (map judged_part all.entry.items)) result }
+    ensures { IsAnswerOf typed (calls.acted_by (place_view at.now) acting
+        (map judged_part all.entry.items)) result }
 {
     let large = is_large(at, acting, all.as_slice());
     let found = act_on_screen(alloc, at, acting, all);
@@ -194,7 +199,8 @@ fn act_or_lowest(
 ) -> Result<Typed, Wrong>
     requires { IsLawful at.now.names.now }
     ensures { (ss : List meaning.Scope)
-        → IsAnswerOf typed (calls.acted_or_lowest (place_view at.now) (setting ss stand) acting (map judged_part all.entry.items)) result }
+        → IsAnswerOf typed (calls.acted_or_lowest (place_view at.now) (setting ss stand) acting
+        (map judged_part all.entry.items)) result }
 {
     let fits = could_act(alloc, acting, all.as_slice())?;
     let found = act_at(alloc, at, acting, all);
@@ -212,7 +218,8 @@ pub fn call_by_shape(
 ) -> Result<Typed, Wrong>
     requires { IsLawful at.now.names.now }
     ensures { (ss : List meaning.Scope)
-        → IsAnswerOf typed (calls.called_by (place_view at.now) (setting ss stand) shape (map judged_part all.entry.items)) result }
+        → IsAnswerOf typed (calls.called_by (place_view at.now) (setting ss stand) shape
+        (map judged_part all.entry.items)) result }
 {
     match shape {
         SigShape::One(fun) => make_or_lowest(alloc, fun, all),
@@ -243,7 +250,8 @@ fn call_within_limits(
 ) -> Result<Typed, Wrong>
     requires { IsLawful at.now.names.now }
     ensures { (ss : List meaning.Scope) → IsAnswerOf typed (builds.bounded
-        (calls.called_by (place_view at.now) (setting ss stand) shape (map judged_part all.entry.items))) result }
+        (calls.called_by (place_view at.now) (setting ss stand) shape
+        (map judged_part all.entry.items))) result }
 {
     let made = call_by_shape(alloc, at, stand, shape, all)?;
     check_limits(made)
@@ -259,7 +267,8 @@ fn call_by_signature(
 ) -> Result<Typed, Wrong>
     requires { IsLawful at.now.names.now }
     ensures { (ss : List meaning.Scope)
-        → IsAnswerOf typed (calls.called_with (place_view at.now) (setting ss stand) signature (map judged_part all.entry.items)) result }
+        → IsAnswerOf typed (calls.called_with (place_view at.now) (setting ss stand) signature
+        (map judged_part all.entry.items)) result }
 {
     let Some(signature) = signature else {
         return Err(Wrong::Refused(Rule::NoFunction));
@@ -277,7 +286,8 @@ fn signature_of(names: &Names, name: &Words) -> Option<Signature>
     signature_in(names.signatures, name.as_str())
 }
 
-/// A call of the function of this name, of these parts, where it stands, or the rule that is broken.
+/// A call of the function of this name, of these parts, where it stands, or the rule that is
+/// broken.
 pub fn call(
     alloc: Global,
     at: &Place,
@@ -287,7 +297,8 @@ pub fn call(
 ) -> Result<Typed, Wrong>
     requires { IsLawful at.now.names.now }
     ensures { (ss : List meaning.Scope)
-        → IsAnswerOf typed (calls.called (place_view at.now) (setting ss stand) name.now (map judged_part all.entry.items)) result }
+        → IsAnswerOf typed (calls.called (place_view at.now) (setting ss stand) name.now
+        (map judged_part all.entry.items)) result }
 {
     let signature = signature_of(at.names, name);
     call_by_signature(alloc, at, stand, signature, all)

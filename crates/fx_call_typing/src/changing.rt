@@ -35,7 +35,8 @@ pub struct Changing {
 
 // Whether the fields that are columns join to their types.
 fn fields_join(alloc: Global, columns: &Columns, fields: &Columns) -> Result<bool, Memory>
-    ensures { IfOk result (λ b. b ≡ deeds.fields_join (column_list columns.now) (column_list fields.now)) }
+    ensures { IfOk result (λ b. b ≡ deeds.fields_join (column_list columns.now)
+        (column_list fields.now)) }
 {
     for (name, ty) in fields.as_slice() {
         if let Some(column) = field_in(name, columns)
@@ -49,7 +50,8 @@ fn fields_join(alloc: Global, columns: &Columns, fields: &Columns) -> Result<boo
 
 // The rule that fields break which are not some of the columns: `UnknownColumn` or `WrongType`.
 fn misfit(alloc: Global, columns: &Columns, fields: &Columns) -> Result<Rule, Memory>
-    ensures { IfOk result (λ r. rule_number r ≡ deeds.misfit (column_list columns.now) (column_list fields.now)) }
+    ensures { IfOk result (λ r. rule_number r
+        ≡ deeds.misfit (column_list columns.now) (column_list fields.now)) }
 {
     if fields_join(alloc, columns, fields)? {
         return Ok(Rule::UnknownColumn);
@@ -59,7 +61,8 @@ fn misfit(alloc: Global, columns: &Columns, fields: &Columns) -> Result<Rule, Me
 
 // Whether fields are some of the columns.
 fn are_columns(alloc: Global, columns: &Columns, fields: &Columns) -> Result<bool, Memory>
-    ensures { IfOk result (λ b. b ≡ deeds.joins_to (records (column_list columns.now)) (records (column_list fields.now))) }
+    ensures { IfOk result (λ b. b ≡ deeds.joins_to (records (column_list columns.now))
+        (records (column_list fields.now))) }
 {
     let row = Ty::Rec(columns.copy(alloc)?);
     let own = Ty::Rec(fields.copy(alloc)?);
@@ -73,7 +76,8 @@ fn break_by_fields(
     fields: &Columns,
 ) -> Result<Option<Rule>, Memory>
     ensures { IfOk result (λ o. (r : Result (Term × Shape) ℕ)
-        → deeds.when_columns (column_list columns.now) (column_list fields.now) r ≡ unless_broken o r) }
+        → deeds.when_columns (column_list columns.now) (column_list fields.now) r
+        ≡ unless_broken o r) }
 {
     if are_columns(alloc, columns, fields)? {
         return Ok(None);
@@ -99,7 +103,8 @@ fn id_columns(alloc: Global) -> Result<Columns, Memory>
 
 // The rule that fields break which have no number `ID`: `UnknownColumn` or `WrongType`.
 fn break_by_id(alloc: Global, fields: &Columns) -> Result<Option<Rule>, Memory>
-    ensures { IfOk result (λ o. (c : Term) → deeds.by_id c (column_list fields.now) (field_in (codes "ID") (column_list fields.now))
+    ensures { IfOk result (λ o. (c : Term) → deeds.by_id c (column_list fields.now)
+        (field_in (codes "ID") (column_list fields.now))
         ≡ unless_broken o (Ok (c, records (column_list fields.now)))) }
 {
     let id = id_name(alloc)?;
@@ -112,7 +117,8 @@ fn break_by_id(alloc: Global, fields: &Columns) -> Result<Option<Rule>, Memory>
 
 // A record with a field `ID`, which is a number.
 fn by_id(alloc: Global, core: Core, fields: Columns) -> Result<Typed, Wrong>
-    ensures { IsAnswerOf typed (deeds.by_id core (column_list fields) (field_in (codes "ID") (column_list fields))) result }
+    ensures { IsAnswerOf typed (deeds.by_id core (column_list fields)
+        (field_in (codes "ID") (column_list fields))) result }
 {
     let broken = break_by_id(alloc, &fields)?;
     match broken {
@@ -126,7 +132,10 @@ fn by_id(alloc: Global, core: Core, fields: Columns) -> Result<Typed, Wrong>
 
 // A value of type Blank as a record of these columns.
 fn blank_of(alloc: Global, core: Core, columns: Columns) -> Result<Typed, Memory>
-    ensures { IfOk result (λ t. typed t ≡ (local.coerced core (records (column_list columns)), records (column_list columns))) }
+    ensures { IfOk result (λ t. typed t ≡ (
+      local.coerced core (records (column_list columns)),
+      records (column_list columns),
+    )) }
 {
     let ty = Ty::Rec(columns);
     Ok(Typed {
@@ -137,7 +146,8 @@ fn blank_of(alloc: Global, core: Core, columns: Columns) -> Result<Typed, Memory
 
 // A record as one of these columns.
 fn come_whole(alloc: Global, columns: &Columns, core: Core, fields: Columns) -> Result<Typed, Wrong>
-    ensures { IsAnswerOf typed (local.by_way (way (records (column_list fields)) (records (column_list columns.now)))
+    ensures { IsAnswerOf typed (local.by_way (way (records (column_list fields))
+        (records (column_list columns.now)))
         core (records (column_list columns.now))) result }
 {
     let whole = columns.copy(alloc)?;
@@ -151,7 +161,8 @@ fn come_whole(alloc: Global, columns: &Columns, core: Core, fields: Columns) -> 
 // A record of some of the columns, as one of all.
 fn whole_row(alloc: Global, columns: &Columns, core: Core, fields: Columns) -> Result<Typed, Wrong>
     ensures { IsAnswerOf typed (deeds.when_columns (column_list columns.now) (column_list fields)
-        (local.by_way (way (records (column_list fields)) (records (column_list columns.now))) core (records (column_list columns.now)))) result }
+        (local.by_way (way (records (column_list fields)) (records (column_list columns.now))) core
+        (records (column_list columns.now)))) result }
 {
     let broken = break_by_fields(alloc, columns, &fields)?;
     match broken {
@@ -160,10 +171,11 @@ fn whole_row(alloc: Global, columns: &Columns, core: Core, fields: Columns) -> R
     }
 }
 
-/// A row that is named for a change: in a table by its `ID`, in a collection by all that it has. One
-/// of type Blank is a blank record. The rule is `WrongType` or `UnknownColumn`.
+/// A row that is named for a change: in a table by its `ID`, in a collection by all that it has.
+/// One of type Blank is a blank record. The rule is `WrongType` or `UnknownColumn`.
 pub fn identify_row(alloc: Global, rows: &Changing, named: Typed) -> Result<Typed, Wrong>
-    ensures { IsAnswerOf typed (deeds.row_typed rows.now.target (column_list rows.now.columns) (typed named)) result }
+    ensures { IsAnswerOf typed (deeds.row_typed rows.now.target (column_list rows.now.columns)
+        (typed named)) result }
 {
     let Typed { core, ty } = named;
     match rows.target {
@@ -183,7 +195,8 @@ pub fn identify_row(alloc: Global, rows: &Changing, named: Typed) -> Result<Type
 /// Rows that are named for a change, in turn, or the lowest rule that one of them breaks.
 pub fn identify_rows(alloc: Global, rows: &Changing, named: Vec<Typed>) -> Result<Vec<Typed>, Wrong>
     ensures { IsAnswerOf (λ xs. map typed xs.items)
-        (deeds.rows_named_by rows.now.target (column_list rows.now.columns) (map typed named.items)) result }
+        (deeds.rows_named_by rows.now.target (column_list rows.now.columns) (map typed named.items))
+        result }
 {
     let mut found = Ok(Vec::new(alloc));
     for one in named {
@@ -218,7 +231,8 @@ fn row_of_one(alloc: Global, core: Core, fields: Columns) -> Result<Typed, Memor
 
 /// The columns that a change may set: of a table all but `ID`.
 pub fn settable(alloc: Global, rows: &Changing) -> Result<Columns, Memory>
-    ensures { IfOk result (λ cs. column_list cs ≡ deeds.settable rows.now.target (column_list rows.now.columns)) }
+    ensures { IfOk result (λ cs. column_list cs
+        ≡ deeds.settable rows.now.target (column_list rows.now.columns)) }
 {
     let columns = rows.columns.copy(alloc)?;
     match rows.target {
@@ -232,7 +246,8 @@ pub fn settable(alloc: Global, rows: &Changing) -> Result<Columns, Memory>
 
 // Whether a change of these fields is one of the rows.
 fn is_change(alloc: Global, rows: &Changing, fields: &Columns) -> Result<bool, Memory>
-    ensures { IfOk result (λ b. b ≡ (deeds.joins_to (records (column_list rows.now.columns)) (records (column_list fields.now))
+    ensures { IfOk result (λ b. b ≡ (deeds.joins_to (records (column_list rows.now.columns))
+        (records (column_list fields.now))
         && deeds.leaves_id rows.now.target (column_list fields.now))) }
 {
     Ok(are_columns(alloc, &rows.columns, fields)? && leaves_id(alloc, rows.target, fields)?)
@@ -241,7 +256,8 @@ fn is_change(alloc: Global, rows: &Changing, fields: &Columns) -> Result<bool, M
 // The rule that a change of these fields breaks, if it breaks one: `UnknownColumn` or `WrongType`.
 fn break_by_change(alloc: Global, rows: &Changing, fields: &Columns) -> Result<Option<Rule>, Memory>
     ensures { IfOk result (λ o. (c : Term)
-        → deeds.change_of rows.now.target (column_list rows.now.columns) (c, records (column_list fields.now))
+        → deeds.change_of rows.now.target (column_list rows.now.columns)
+        (c, records (column_list fields.now))
         ≡ unless_broken o (Ok (deeds.row_of_one c (column_list fields.now)))) }
 {
     if is_change(alloc, rows, fields)? {
@@ -253,7 +269,8 @@ fn break_by_change(alloc: Global, rows: &Changing, fields: &Columns) -> Result<O
 
 // A record of some of the columns, as a change.
 fn change_by(alloc: Global, rows: &Changing, core: Core, fields: Columns) -> Result<Typed, Wrong>
-    ensures { IsAnswerOf typed (deeds.change_of rows.now.target (column_list rows.now.columns) (core, records (column_list fields))) result }
+    ensures { IsAnswerOf typed (deeds.change_of rows.now.target (column_list rows.now.columns)
+        (core, records (column_list fields))) result }
 {
     let broken = break_by_change(alloc, rows, &fields)?;
     match broken {
@@ -264,7 +281,8 @@ fn change_by(alloc: Global, rows: &Changing, core: Core, fields: Columns) -> Res
 
 // A change without fields.
 fn no_change(alloc: Global, core: Core) -> Result<Typed, Memory>
-    ensures { IfOk result (λ t. typed t ≡ deeds.row_of_one (local.coerced core (records no_columns)) no_columns) }
+    ensures { IfOk result (λ t. typed t ≡ deeds.row_of_one (local.coerced core (records no_columns))
+        no_columns) }
 {
     let none = Ty::Rec(Columns::new(alloc));
     let core = coerce(alloc, core, &none)?;
@@ -274,7 +292,8 @@ fn no_change(alloc: Global, core: Core) -> Result<Typed, Memory>
 /// What changes in a row: a record of some of the columns, `ID` aside in a table, as a table of one
 /// row. One of type Blank has no fields. The rule is `WrongType` or `UnknownColumn`.
 pub fn change_of(alloc: Global, rows: &Changing, change: Typed) -> Result<Typed, Wrong>
-    ensures { IsAnswerOf typed (deeds.change_of rows.now.target (column_list rows.now.columns) (typed change)) result }
+    ensures { IsAnswerOf typed (deeds.change_of rows.now.target (column_list rows.now.columns)
+        (typed change)) result }
 {
     let Typed { core, ty } = change;
     match ty {
@@ -287,7 +306,8 @@ pub fn change_of(alloc: Global, rows: &Changing, change: Typed) -> Result<Typed,
 /// What changes in a row, in turn, or the lowest rule that one of the changes breaks.
 pub fn changes_of(alloc: Global, rows: &Changing, changes: Vec<Typed>) -> Result<Vec<Typed>, Wrong>
     ensures { IsAnswerOf (λ xs. map typed xs.items)
-        (deeds.changes_of rows.now.target (column_list rows.now.columns) (map typed changes.items)) result }
+        (deeds.changes_of rows.now.target (column_list rows.now.columns) (map typed changes.items))
+        result }
 {
     let mut found = Ok(Vec::new(alloc));
     for one in changes {

@@ -30,7 +30,8 @@ fn collect_to(
     collection: &Collection,
     values: Vec<Typed>,
 ) -> Result<Typed, Wrong>
-    ensures { IsAnswerOf typed (deeds.collect_to (if clears then deed.ClearCollect else deed.Collect)
+    ensures { IsAnswerOf typed (deeds.collect_to
+        (if clears then deed.ClearCollect else deed.Collect)
         (number, collection.now) (map typed values.items)) result }
 {
     if values.is_empty() {
@@ -49,7 +50,8 @@ pub fn collect_of(
     parts: Vec<Part>,
 ) -> Result<Typed, Wrong>
     requires { IsLawful names.now }
-    ensures { IsAnswerOf typed (deeds.collect_of (if clears then deed.ClearCollect else deed.Collect)
+    ensures { IsAnswerOf typed (deeds.collect_of
+        (if clears then deed.ClearCollect else deed.Collect)
         names.now name.now (map judged_part parts.entry.items)) result }
 {
     let values = values(alloc, parts)?;
@@ -67,7 +69,8 @@ pub fn clear_of(
     parts: Vec<Part>,
 ) -> Result<Typed, Wrong>
     requires { IsLawful names.now }
-    ensures { IsAnswerOf typed (deeds.clear_of names.now name.now (map judged_part parts.entry.items)) result }
+    ensures { IsAnswerOf typed (deeds.clear_of names.now name.now
+        (map judged_part parts.entry.items)) result }
 {
     let Some((number, collection)) = find_collection(names, name) else {
         return Err(Wrong::Refused(Rule::NotAVariable));

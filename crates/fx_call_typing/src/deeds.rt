@@ -33,7 +33,8 @@ use std::alloc::Global;
 // `Navigate`: a screen.
 fn navigate_of(alloc: Global, names: &Names, name: &Words, parts: Vec<Part>) -> Result<Typed, Wrong>
     requires { IsLawful names.now }
-    ensures { IsAnswerOf typed (deeds.navigate_of names.now name.now (map judged_part parts.entry.items)) result }
+    ensures { IsAnswerOf typed (deeds.navigate_of names.now name.now
+        (map judged_part parts.entry.items)) result }
 {
     let Some((number, _)) = find_screen(names, name) else {
         return Err(Wrong::Refused(Rule::NotAVariable));
@@ -55,7 +56,8 @@ fn notify_of(alloc: Global, values: Vec<Typed>) -> Result<Typed, Wrong>
 // `Reset`: a control that takes input.
 fn reset_of(alloc: Global, names: &Names, name: &Words, parts: Vec<Part>) -> Result<Typed, Wrong>
     requires { IsLawful names.now }
-    ensures { IsAnswerOf typed (deeds.reset_of names.now name.now (map judged_part parts.entry.items)) result }
+    ensures { IsAnswerOf typed (deeds.reset_of names.now name.now
+        (map judged_part parts.entry.items)) result }
 {
     let Some((number, control)) = find_control(names, name) else {
         return Err(Wrong::Refused(Rule::NotAVariable));
@@ -85,7 +87,8 @@ fn act_on(
     rest: Vec<Part>,
 ) -> Result<Typed, Wrong>
     requires { IsLawful names.now }
-    ensures { IsAnswerOf typed (named_call names.now acting name.now (map judged_part rest.entry.items)) result }
+    ensures { IsAnswerOf typed (named_call names.now acting name.now
+        (map judged_part rest.entry.items)) result }
 {
     match acting {
         Acting::Set => set_of(alloc, names, name, rest),
@@ -110,7 +113,8 @@ fn act_plainly(
 ) -> Result<Typed, Wrong>
     requires lawful { IsLawful names.now }
     requires plain { is_by_name acting ≡ false }
-    ensures { IsAnswerOf typed (deeds.acted names.now screen acting (map judged_part parts.entry.items)) result }
+    ensures { IsAnswerOf typed (deeds.acted names.now screen acting
+        (map judged_part parts.entry.items)) result }
 {
     match acting {
         Acting::UpdateContext => update_of(alloc, names, screen, parts),
@@ -130,7 +134,8 @@ pub fn act(
     parts: Vec<Part>,
 ) -> Result<Typed, Wrong>
     requires { IsLawful names.now }
-    ensures { IsAnswerOf typed (deeds.acted names.now screen acting (map judged_part parts.entry.items)) result }
+    ensures { IsAnswerOf typed (deeds.acted names.now screen acting
+        (map judged_part parts.entry.items)) result }
 {
     if !is_by_name(acting) {
         return act_plainly(alloc, names, screen, acting, parts);
@@ -139,8 +144,8 @@ pub fn act(
     act_on(alloc, names, acting, &name, rest)
 }
 
-/// What an acting call comes to: until the types of variables and collections are settled, one that gives
-/// a value of a wrong type is done, and changes nothing.
+/// What an acting call comes to: until the types of variables and collections are settled, one that
+/// gives a value of a wrong type is done, and changes nothing.
 pub fn until_settled(
     alloc: Global,
     settled: bool,

@@ -1,5 +1,5 @@
-//! Rows that are filtered for a change. Each function looks at one thing and calls the next, so that no proof has many
-//! ways to follow.
+//! Rows that are filtered for a change. Each function looks at one thing and calls the next, so
+//! that no proof has many ways to follow.
 ghost use Rattle.std.specs.Prelude.{◌≡◌, ◌∷◌, [], IfOk, map};
 ghost use Rattle.fx_types.specs.Types.{column_list, tables};
 ghost use Rattle.fx_typing.specs.Deeds as deeds;
@@ -43,7 +43,11 @@ fn target_source(target: Target) -> Source
 // All rows that may change.
 fn all_rows(alloc: Global, rows: &Changing) -> Result<Typed, Memory>
     ensures { IfOk result (λ t. typed t
-        ≡ (term.of (term.read (target_source rows.now.target)) term.nil, tables (column_list rows.now.columns))) }
+        ≡ (
+          term.of (term.read (target_source rows.now.target)) term.nil,
+          tables
+              (column_list rows.now.columns),
+        )) }
 {
     Ok(Typed {
         core: make_core::read(target_source(rows.target)),
@@ -58,7 +62,8 @@ fn filter_of(
     alias: Option<Words>,
     conditions: Vec<Part>,
 ) -> Result<Typed, Wrong>
-    ensures { IsAnswerOf typed (deeds.filter_of (changing_view rows.now) alias (map judged_part conditions.entry.items)) result }
+    ensures { IsAnswerOf typed (deeds.filter_of (changing_view rows.now) alias
+        (map judged_part conditions.entry.items)) result }
 {
     let table = all_rows(alloc, rows)?;
     let pieces = pieces_behind(alloc, Piece::Value(alias, table), conditions)?;
@@ -72,7 +77,8 @@ fn remove_from(
     alias: Option<Words>,
     conditions: Vec<Part>,
 ) -> Result<Typed, Wrong>
-    ensures { IsAnswerOf typed (removed_from (changing_view rows.now) alias (map judged_part conditions.entry.items)) result }
+    ensures { IsAnswerOf typed (removed_from (changing_view rows.now) alias
+        (map judged_part conditions.entry.items)) result }
 {
     let filtered = filter_of(alloc, rows, alias, conditions)?;
     let cores = alone(alloc, filtered.core)?;
@@ -89,7 +95,8 @@ fn remove_named(
 ) -> Result<Typed, Wrong>
     requires { IsLawful names.now }
     ensures { IsAnswerOf typed
-        (deeds.remove_if names.now (parts.target alias name.now ∷ map judged_part conditions.entry.items)) result }
+        (deeds.remove_if names.now (parts.target alias name.now
+        ∷ map judged_part conditions.entry.items)) result }
 {
     let rows = find_rows(alloc, names, name)?;
     remove_from(alloc, &rows, alias, conditions)
@@ -104,7 +111,8 @@ fn remove_on(
 ) -> Result<Typed, Wrong>
     requires { IsLawful names.now }
     ensures { IsAnswerOf typed
-        (deeds.remove_if names.now (judged_part target.entry ∷ map judged_part conditions.entry.items)) result }
+        (deeds.remove_if names.now (judged_part target.entry
+        ∷ map judged_part conditions.entry.items)) result }
 {
     match target {
         Part::Target(alias, name) => remove_named(alloc, names, alias, &name, conditions),
@@ -115,7 +123,8 @@ fn remove_on(
 /// `RemoveIf`: rows, which may have a name, and conditions.
 pub fn remove_if(alloc: Global, names: &Names, parts: Vec<Part>) -> Result<Typed, Wrong>
     requires { IsLawful names.now }
-    ensures { IsAnswerOf typed (deeds.remove_if names.now (map judged_part parts.entry.items)) result }
+    ensures { IsAnswerOf typed (deeds.remove_if names.now (map judged_part parts.entry.items))
+        result }
 {
     match first(parts) {
         Some((target, conditions)) => remove_on(alloc, names, target, conditions),
@@ -141,7 +150,8 @@ fn update_by(
     change: Typed,
 ) -> Result<Typed, Wrong>
     ensures { IsAnswerOf typed
-        (deeds.update_to (changing_view rows.now) alias (judged_part condition.entry) (typed change ∷ [])) result }
+        (deeds.update_to (changing_view rows.now) alias (judged_part condition.entry)
+        (typed change ∷ [])) result }
 {
     let conditions = only(alloc, condition)?;
     let filtered = filter_of(alloc, rows, alias, conditions)?;
@@ -160,7 +170,8 @@ fn update_to(
     changes: Vec<Typed>,
 ) -> Result<Typed, Wrong>
     ensures { IsAnswerOf typed
-        (deeds.update_to (changing_view rows.now) alias (judged_part condition.entry) (map typed changes.items)) result }
+        (deeds.update_to (changing_view rows.now) alias (judged_part condition.entry)
+        (map typed changes.items)) result }
 {
     match one(changes) {
         Some(change) => update_by(alloc, rows, alias, condition, change),
@@ -179,7 +190,8 @@ fn update_named(
 ) -> Result<Typed, Wrong>
     requires { IsLawful names.now }
     ensures { IsAnswerOf typed (deeds.update_if names.now
-        (parts.target alias name.now ∷ judged_part condition.entry ∷ map judged_part changes.entry.items)) result }
+        (parts.target alias name.now ∷ judged_part condition.entry
+        ∷ map judged_part changes.entry.items)) result }
 {
     let changes = values(alloc, changes)?;
     let rows = find_rows(alloc, names, name)?;
@@ -196,7 +208,8 @@ fn update_on(
 ) -> Result<Typed, Wrong>
     requires { IsLawful names.now }
     ensures { IsAnswerOf typed (deeds.update_if names.now
-        (judged_part target.entry ∷ judged_part condition.entry ∷ map judged_part changes.entry.items)) result }
+        (judged_part target.entry ∷ judged_part condition.entry
+        ∷ map judged_part changes.entry.items)) result }
 {
     match target {
         Part::Target(alias, name) => update_named(alloc, names, alias, &name, condition, changes),
@@ -207,7 +220,8 @@ fn update_on(
 /// `UpdateIf`: rows, which may have a name, a condition, and what changes.
 pub fn update_if(alloc: Global, names: &Names, parts: Vec<Part>) -> Result<Typed, Wrong>
     requires { IsLawful names.now }
-    ensures { IsAnswerOf typed (deeds.update_if names.now (map judged_part parts.entry.items)) result }
+    ensures { IsAnswerOf typed (deeds.update_if names.now (map judged_part parts.entry.items))
+        result }
 {
     let Some((target, rest)) = first(parts) else {
         return Err(Wrong::Refused(Rule::NotAVariable));

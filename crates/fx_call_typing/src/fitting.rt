@@ -43,7 +43,8 @@ fn message_name(alloc: Global) -> Result<Words, Memory>
 
 // Whether fields have a `Message` that is no text.
 fn has_no_text(alloc: Global, columns: &Columns) -> Result<bool, Memory>
-    ensures { IfOk result (λ b. b ≡ not (is_told_or_missing (field_in (codes "Message") (column_list columns.now)))) }
+    ensures { IfOk result (λ b. b ≡ not (is_told_or_missing
+        (field_in (codes "Message") (column_list columns.now)))) }
 {
     let message = message_name(alloc)?;
     match field_in(&message, columns) {
@@ -109,7 +110,8 @@ fn could_be_condition(alloc: Global, one: &Part) -> Result<bool, Memory>
 
 // Whether all parts can be conditions.
 fn could_be_conditions(alloc: Global, all: &[Part]) -> Result<bool, Memory>
-    ensures { IfOk result (λ b. b ≡ breaks.all_could breaks.could_be_condition (map judged_part all.now)) }
+    ensures { IfOk result (λ b. b ≡ breaks.all_could breaks.could_be_condition
+        (map judged_part all.now)) }
 {
     for one in all {
         if !could_be_condition(alloc, one)? {
@@ -121,7 +123,8 @@ fn could_be_conditions(alloc: Global, all: &[Part]) -> Result<bool, Memory>
 
 // Whether parts can be a condition and changes.
 fn could_update(alloc: Global, all: &[Part]) -> Result<bool, Memory>
-    ensures { (q : parts.JudgedPart) → IfOk result (λ b. b ≡ breaks.could_act acts.UpdateIf (q ∷ map judged_part all.now)) }
+    ensures { (q : parts.JudgedPart) → IfOk result
+        (λ b. b ≡ breaks.could_act acts.UpdateIf (q ∷ map judged_part all.now)) }
 {
     let Some((condition, changes)) = all.split_first() else {
         return Ok(true);
@@ -157,7 +160,8 @@ fn all_on_screen(names: &Names, screen: Option<u32>, variables: &[Words]) -> boo
     true
 }
 
-/// Whether an acting call gives values of a screen's variables to what is a variable of this screen.
+/// Whether an acting call gives values of a screen's variables to what is a variable of this
+/// screen.
 pub fn gives_variables(names: &Names, screen: Option<u32>, acting: Acting, all: &[Part]) -> bool
     requires { IsLawful names.now }
     ensures { result ≡ breaks.gives_variables names.now screen acting (map judged_part all.now) }

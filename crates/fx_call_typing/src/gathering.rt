@@ -38,7 +38,8 @@ fn rows_of(alloc: Global, value: Typed) -> Result<Typed, Memory>
 
 // A collected value as rows that are given to a collection of this type.
 fn give_rows(alloc: Global, ty: &Ty, value: Typed) -> Result<Typed, Wrong>
-    ensures { IsAnswerOf typed (deeds.given_variable (shape ty.now) (deeds.rows_collected (typed value))) result }
+    ensures { IsAnswerOf typed (deeds.given_variable (shape ty.now)
+        (deeds.rows_collected (typed value))) result }
 {
     let rows = rows_of(alloc, value)?;
     give(alloc, ty, rows)
@@ -47,7 +48,8 @@ fn give_rows(alloc: Global, ty: &Ty, value: Typed) -> Result<Typed, Wrong>
 /// Collected values as rows that are given to a collection of this type, or the rule that the first
 /// wrong one breaks.
 pub fn rows_for(alloc: Global, ty: &Ty, collected: Vec<Typed>) -> Result<Vec<Typed>, Wrong>
-    ensures { IsAnswerOf (λ rs. map typed rs.items) (deeds.rows_given (shape ty.now) (map typed collected.items)) result }
+    ensures { IsAnswerOf (λ rs. map typed rs.items)
+        (deeds.rows_given (shape ty.now) (map typed collected.items)) result }
 {
     let mut rows = Vec::new(alloc);
     for value in collected {

@@ -59,8 +59,8 @@ fn large_on_screen<'n>(names: &'n Names, screen: Option<u32>, variables: &[Words
     None
 }
 
-/// The first type that passes the limits, of the variables or the collection that an acting call gives a
-/// value.
+/// The first type that passes the limits, of the variables or the collection that an acting call
+/// gives a value.
 pub fn first_large_type<'n>(
     names: &'n Names,
     screen: Option<u32>,

@@ -39,7 +39,8 @@ fn patch(
     base: Typed,
     changes: Vec<Typed>,
 ) -> Result<CoreArgs, Wrong>
-    ensures { IsAnswerOf (λ cs. cs) (patched (changing_view rows.now) (typed base) (map typed changes.items)) result }
+    ensures { IsAnswerOf (λ cs. cs) (patched (changing_view rows.now) (typed base)
+        (map typed changes.items)) result }
 {
     let base = identify_row(alloc, rows, base);
     let changes = changes_of(alloc, rows, changes);
@@ -49,7 +50,8 @@ fn patch(
 
 // `Patch` of a row of these rows, and what changes in it.
 fn patch_by(alloc: Global, rows: Changing, base: Typed, changes: Vec<Typed>) -> Result<Typed, Wrong>
-    ensures { IsAnswerOf typed (deeds.patch_to (changing_view rows) (typed base ∷ map typed changes.items)) result }
+    ensures { IsAnswerOf typed (deeds.patch_to (changing_view rows)
+        (typed base ∷ map typed changes.items)) result }
 {
     let cores = patch(alloc, &rows, base, changes)?;
     Ok(Typed {
@@ -58,8 +60,8 @@ fn patch_by(alloc: Global, rows: Changing, base: Typed, changes: Vec<Typed>) -> 
     })
 }
 
-/// `Patch` of these rows: the row, then what changes, or the lowest rule that one of them breaks. The rule
-/// is `WrongCount` where there is no row.
+/// `Patch` of these rows: the row, then what changes, or the lowest rule that one of them breaks.
+/// The rule is `WrongCount` where there is no row.
 pub fn patch_to(alloc: Global, rows: Changing, parts: Vec<Typed>) -> Result<Typed, Wrong>
     ensures { IsAnswerOf typed (deeds.patch_to (changing_view rows) (map typed parts.items)) result }
 {

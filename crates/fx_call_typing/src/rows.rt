@@ -43,7 +43,8 @@ pub fn patch_of(
     parts: Vec<Part>,
 ) -> Result<Typed, Wrong>
     requires { IsLawful names.now }
-    ensures { IsAnswerOf typed (deeds.patch_of names.now name.now (map judged_part parts.entry.items)) result }
+    ensures { IsAnswerOf typed (deeds.patch_of names.now name.now
+        (map judged_part parts.entry.items)) result }
 {
     let values = values(alloc, parts)?;
     let rows = find_rows(alloc, names, name)?;
@@ -58,7 +59,8 @@ pub fn remove_of(
     parts: Vec<Part>,
 ) -> Result<Typed, Wrong>
     requires { IsLawful names.now }
-    ensures { IsAnswerOf typed (deeds.remove_of names.now name.now (map judged_part parts.entry.items)) result }
+    ensures { IsAnswerOf typed (deeds.remove_of names.now name.now
+        (map judged_part parts.entry.items)) result }
 {
     let values = values(alloc, parts)?;
     let rows = find_rows(alloc, names, name)?;

@@ -26,7 +26,8 @@ fn name_of<'p>(one: &'p Part) -> Option<&'p Words>
 
 // The names of columns.
 fn column_names<'p>(alloc: Global, columns: &'p Columns) -> Result<Vec<&'p Words>, Memory>
-    ensures { IfOk result (λ ns. map (λ w. w.now) ns.items ≡ breaks.names_of_columns (column_list columns.now)) }
+    ensures { IfOk result (λ ns. map (λ w. w.now) ns.items
+        ≡ breaks.names_of_columns (column_list columns.now)) }
 {
     let mut names = Vec::new(alloc);
     for (name, _) in columns.as_slice() {
@@ -85,7 +86,8 @@ fn rename_next<'p>(
     to: Option<&'p Words>,
     names: Vec<&'p Words>,
 ) -> Result<Vec<&'p Words>, Memory>
-    ensures { IfOk result (λ ns. map (λ w. w.now) ns.items ≡ breaks.names_renamed (option_map (λ w. w.now) from.entry)
+    ensures { IfOk result (λ ns. map (λ w. w.now) ns.items
+        ≡ breaks.names_renamed (option_map (λ w. w.now) from.entry)
         (option_map (λ w. w.now) to.entry) (map (λ w. w.now) names.entry.items)) }
 {
     match (from, to) {
@@ -97,7 +99,8 @@ fn rename_next<'p>(
 // The names with one more, if there is one.
 fn with_name<'p>(name: Option<&'p Words>, names: Vec<&'p Words>) -> Result<Vec<&'p Words>, Memory>
     ensures { IfOk result (λ ns. map (λ w. w.now) ns.items
-        ≡ breaks.with_name (option_map (λ w. w.now) name.entry) (map (λ w. w.now) names.entry.items)) }
+        ≡ breaks.with_name (option_map (λ w. w.now) name.entry)
+        (map (λ w. w.now) names.entry.items)) }
 {
     let mut names = names;
     if let Some(name) = name {
@@ -109,7 +112,8 @@ fn with_name<'p>(name: Option<&'p Words>, names: Vec<&'p Words>) -> Result<Vec<&
 // A name that is one of these.
 fn find_name<'p>(name: Option<&'p Words>, names: &[&Words]) -> Option<&'p Words>
     ensures { option_map (λ w. w.now) result
-        ≡ breaks.name_taken_or (option_map (λ w. w.now) name.entry) (map (λ w. w.now) names.now) None }
+        ≡ breaks.name_taken_or (option_map (λ w. w.now) name.entry) (map (λ w. w.now) names.now)
+        None }
 {
     match name {
         Some(name) if is_one_of(name, names) => Some(name),
@@ -163,7 +167,8 @@ fn taken_name_by_answer<'p>(
     answer: Answer,
     all: &'p [Part],
 ) -> Result<Option<&'p Words>, Memory>
-    ensures { IfOk result (λ o. option_map (λ w. w.now) o ≡ breaks.taken_by answer (map judged_part all.now)) }
+    ensures { IfOk result (λ o. option_map (λ w. w.now) o
+        ≡ breaks.taken_by answer (map judged_part all.now)) }
 {
     let Some((first, others)) = all.split_first() else {
         return Ok(None);
@@ -175,9 +180,11 @@ fn taken_name_by_answer<'p>(
     }
 }
 
-/// The first new name of a column that is taken, in a call of a function that has as many parts as it takes.
+/// The first new name of a column that is taken, in a call of a function that has as many parts as
+/// it takes.
 pub fn taken_name<'p>(alloc: Global, fun: Fun, all: &'p [Part]) -> Result<Option<&'p Words>, Memory>
-    ensures { IfOk result (λ o. option_map (λ w. w.now) o ≡ breaks.taken_at fun (map judged_part all.now)) }
+    ensures { IfOk result (λ o. option_map (λ w. w.now) o
+        ≡ breaks.taken_at fun (map judged_part all.now)) }
 {
     let row = row_of(fun);
     if row.takes_count(all.len()) {

@@ -26,7 +26,8 @@ fn value_of(one: Part) -> Result<Typed, Wrong>
 
 /// The parts as values, or the rule `WrongType` where one is none.
 pub fn values(alloc: Global, all: Vec<Part>) -> Result<Vec<Typed>, Wrong>
-    ensures { IsAnswerOf (λ xs. map typed xs.items) (parts.values (map judged_part all.entry.items)) result }
+    ensures { IsAnswerOf (λ xs. map typed xs.items) (parts.values (map judged_part all.entry.items))
+        result }
 {
     let mut found = Vec::new(alloc);
     for one in all {
@@ -57,7 +58,8 @@ fn piece_of(alloc: Global, one: Part) -> Result<Piece, Memory>
 
 /// The parts as the one rule takes them.
 pub fn pieces(alloc: Global, all: Vec<Part>) -> Result<Vec<Piece>, Memory>
-    ensures { IfOk result (λ ps. map piece_view ps.items ≡ parts.pieces (map judged_part all.entry.items)) }
+    ensures { IfOk result (λ ps. map piece_view ps.items
+        ≡ parts.pieces (map judged_part all.entry.items)) }
 {
     let mut found = Vec::new(alloc);
     for one in all {
@@ -68,7 +70,8 @@ pub fn pieces(alloc: Global, all: Vec<Part>) -> Result<Vec<Piece>, Memory>
 
 /// A piece, and the parts behind it as the one rule takes them.
 pub fn pieces_behind(alloc: Global, first: Piece, all: Vec<Part>) -> Result<Vec<Piece>, Memory>
-    ensures { IfOk result (λ ps. map piece_view ps.items ≡ piece_view first ∷ parts.pieces (map judged_part all.entry.items)) }
+    ensures { IfOk result (λ ps. map piece_view ps.items
+        ≡ piece_view first ∷ parts.pieces (map judged_part all.entry.items)) }
 {
     let mut found = pieces(alloc, all)?;
     found.insert(0, first)?;
@@ -78,7 +81,8 @@ pub fn pieces_behind(alloc: Global, first: Piece, all: Vec<Part>) -> Result<Vec<
 /// The name of what changes and the parts behind it, or the rule `WrongType` where its rows have a
 /// name, or `NotAVariable` where there is no such name.
 pub fn take_name<'a>(all: Vec<Part<'a>>) -> Result<(Words, Vec<Part<'a>>), Wrong>
-    ensures { IsAnswerOf (λ p. (p.0, map judged_part p.1.items)) (named_first (map judged_part all.entry.items)) result }
+    ensures { IsAnswerOf (λ p. (p.0, map judged_part p.1.items))
+        (named_first (map judged_part all.entry.items)) result }
 {
     let mut all = all;
     if all.is_empty() {

@@ -44,7 +44,8 @@ fn set_to(
 /// `Set`: a global variable and its value.
 pub fn set_of(alloc: Global, names: &Names, name: &Words, parts: Vec<Part>) -> Result<Typed, Wrong>
     requires { IsLawful names.now }
-    ensures { IsAnswerOf typed (deeds.set_of names.now name.now (map judged_part parts.entry.items)) result }
+    ensures { IsAnswerOf typed (deeds.set_of names.now name.now (map judged_part parts.entry.items))
+        result }
 {
     let values = values(alloc, parts)?;
     match global_variable(names, name) {
@@ -62,7 +63,8 @@ fn give_one(
     value: Typed,
 ) -> Result<(Source, Core), Wrong>
     requires { IsLawful names.now }
-    ensures { IsAnswerOf (λ g. g) (deeds.give_one (screen_variable names.now screen name.now) (typed value)) result }
+    ensures { IsAnswerOf (λ g. g) (deeds.give_one (screen_variable names.now screen name.now)
+        (typed value)) result }
 {
     let Some((number, variable)) = screen_variable(names, screen, name) else {
         return Err(Wrong::Refused(Rule::NotAVariable));
@@ -76,7 +78,8 @@ fn keep(
     kept: Result<Vec<(Source, Core)>, Wrong>,
     next: Result<(Source, Core), Wrong>,
 ) -> Result<Vec<(Source, Core)>, Wrong>
-    ensures { (p : Result (List (GivenSource × Term)) ℕ) (q : Result (GivenSource × Term) ℕ) → IsAnswerOf (λ gs. gs.items) p kept → IsAnswerOf (λ g. g) q next
+    ensures { (p : Result (List (GivenSource × Term)) ℕ) (q : Result (GivenSource × Term) ℕ)
+        → IsAnswerOf (λ gs. gs.items) p kept → IsAnswerOf (λ g. g) q next
         → IsAnswerOf (λ gs. gs.items) (parts.lowest (λ gs g. gs ++ g ∷ []) p q) result }
 {
     let (mut all, last) = both(kept, next)?;
@@ -93,7 +96,8 @@ fn give_all(
     values: Vec<Typed>,
 ) -> Result<Vec<(Source, Core)>, Wrong>
     requires { IsLawful names.now }
-    ensures { IsAnswerOf (λ gs. gs.items) (deeds.give_all names.now screen variables.items (map typed values.items)) result }
+    ensures { IsAnswerOf (λ gs. gs.items) (deeds.give_all names.now screen variables.items
+        (map typed values.items)) result }
 {
     let mut given = Ok(Vec::new(alloc));
     let mut left = values.into_iter();
@@ -109,7 +113,8 @@ fn give_all(
 // `UpdateContext` of this part, on this screen.
 fn update_by(alloc: Global, names: &Names, screen: u32, assigned: Part) -> Result<Typed, Wrong>
     requires { IsLawful names.now }
-    ensures { IsAnswerOf typed (deeds.update_of names.now (Some screen) (judged_part assigned.entry ∷ [])) result }
+    ensures { IsAnswerOf typed (deeds.update_of names.now (Some screen)
+        (judged_part assigned.entry ∷ [])) result }
 {
     match assigned {
         Part::Assigned(variables, values) => {
@@ -128,7 +133,8 @@ pub fn update_of(
     parts: Vec<Part>,
 ) -> Result<Typed, Wrong>
     requires { IsLawful names.now }
-    ensures { IsAnswerOf typed (deeds.update_of names.now screen (map judged_part parts.entry.items)) result }
+    ensures { IsAnswerOf typed (deeds.update_of names.now screen
+        (map judged_part parts.entry.items)) result }
 {
     let Some(screen) = screen else {
         return Err(Wrong::Refused(Rule::NotAVariable));

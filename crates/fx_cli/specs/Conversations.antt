@@ -1,5 +1,6 @@
 -- Lists of conversations, and how a replay of them ends.
-use Rattle.std.specs.Prelude.{◌≡◌, ◌⊎◌, ℕ, ◌<◌, ◌≤◌, Bool, true, false, List, [], ◌∷◌, ◌++◌, length, flat_map, Option, Some, None, IsSome}
+use Rattle.std.specs.Prelude.{◌≡◌, ◌⊎◌, ℕ, ◌<◌, ◌≤◌, Bool, true, false, List, [], ◌∷◌, ◌++◌, length}
+use Rattle.std.specs.Prelude.{flat_map, Option, Some, None, IsSome}
 use Rattle.fx_base.specs.Faults.{Rose}
 use Rattle.fx_base.specs.Silence.{Marks}
 use Rattle.fx_base.specs.Telling.{Stays, Tells}
@@ -21,8 +22,8 @@ pub record OfficeAt : Type 0 where
 abbrev pub office_at : OfficeView → OfficeAt
 office_at office = record { state = office.state; marks = office.marks }
 
--- What was answered in a conversation, how it ended, how the office stands after it, and the doors' count of faults as it
--- came and as it was over.
+-- What was answered in a conversation, how it ended, how the office stands after it, and the doors'
+-- count of faults as it came and as it was over.
 pub record Conversation : Type 0 where
   pub exchanges : List Exchange
   pub end : ConvEnd
@@ -30,8 +31,8 @@ pub record Conversation : Type 0 where
   pub before : ℕ
   pub after : ℕ
 
--- From this office and this count it was held, over doors of one reply or of more. It broke off only by a fault that was
--- counted in it.
+-- From this office and this count it was held, over doors of one reply or of more. It broke off
+-- only by a fault that was counted in it.
 pub record IsHeld (one : Bool) (old : OfficeAt) (count : ℕ) (c : Conversation) : Type 0 where
   pub plays : Plays old.state old.marks c.exchanges c.office.state c.office.marks
   pub few : IsAnswerCount c.end one (length c.exchanges)
@@ -39,23 +40,26 @@ pub record IsHeld (one : Bool) (old : OfficeAt) (count : ℕ) (c : Conversation)
   pub later : c.before ≤ c.after
   pub cause : c.end ≡ conv.Faulted → Rose c.before c.after
 
--- a replay goes on after such an end: one that broke off ends it but where each conversation has one reply
+-- a replay goes on after such an end: one that broke off ends it but where each conversation has
+-- one reply
 abbrev pub GoesOnAfter : Bool → ConvEnd → Type 0
 GoesOnAfter one conv.Ended = Unit {0}
 GoesOnAfter one conv.Faulted = one ≡ true
 GoesOnAfter one conv.Full = ⊥
 
--- They were held one after another, each from where the one before left the office and the count, and after each the
--- replay went on.
+-- They were held one after another, each from where the one before left the office and the count,
+-- and after each the replay went on.
 abbrev pub HeldInTurn : Bool → OfficeAt → ℕ → List Conversation → OfficeAt → ℕ → Type 0
 HeldInTurn one old count [] new now = (new ≡ old) × (now ≡ count)
-HeldInTurn one old count (c ∷ cs) new now = IsHeld one old count c × GoesOnAfter one c.end × HeldInTurn one c.office c.after cs new now
+HeldInTurn one old count (c ∷ cs) new now = IsHeld one old count c × GoesOnAfter one c.end
+    × HeldInTurn one c.office c.after cs new now
 
 -- the moments of all their requests
 abbrev pub all_moments : List Conversation → List ℕ
 all_moments cs = flat_map (λ c. moments_of c.exchanges) cs
 
--- The doors took the next conversation, of these bytes, and hung it up once. Nothing else that is told changed.
+-- The doors took the next conversation, of these bytes, and hung it up once. Nothing else that is
+-- told changed.
 pub record SendsOne (one : Bool) (c : Conversation) (a b : Doorway) : Type 0 where
   pub bytes : List ℕ
   pub taken : List ℕ
@@ -71,7 +75,8 @@ abbrev pub Sends : Bool → List Conversation → Doorway → Doorway → Type 0
 Sends one [] a b = b ≡ a
 Sends one (c ∷ cs) a b = (between : Doorway) × SendsOne one c a between × Sends one cs between b
 
--- A replay ended so before it took the most conversations: none was left, or the doors failed in going to the next one.
+-- A replay ended so before it took the most conversations: none was left, or the doors failed in
+-- going to the next one.
 abbrev pub EndsEarly : ReplayEnd → ℕ → ℕ → Type 0
 EndsEarly Done count now = count ≤ now
 EndsEarly Fault count now = Rose count now
@@ -79,20 +84,24 @@ EndsEarly Full count now = ⊥
 
 -- It ended so behind so many conversations: as is said where it took the most, or before that.
 abbrev pub EndsBetween : ℕ → ReplayEnd → ReplayEnd → ℕ → ℕ → ℕ → Type 0
-EndsBetween most at_most end held count now = ((held ≡ most) × (end ≡ at_most) × (now ≡ count)) ⊎ ((held < most) × EndsEarly end count now)
+EndsBetween most at_most end held count now = ((held ≡ most) × (end ≡ at_most) × (now ≡ count))
+    ⊎ ((held < most) × EndsEarly end count now)
 
--- It ended so by a conversation: one that broke off, where conversations have more than one reply, or one of the most
--- requests.
+-- It ended so by a conversation: one that broke off, where conversations have more than one reply,
+-- or one of the most requests.
 abbrev pub ConversationEndsIn : ReplayEnd → Bool → ConvEnd → Type 0
 ConversationEndsIn Done one end = ⊥
 ConversationEndsIn Fault one end = (end ≡ conv.Faulted) × (one ≡ false)
 ConversationEndsIn Full one end = end ≡ conv.Full
 
 -- it ended so, with a last conversation that ended it, or without one
-abbrev pub ReplayEnds : ℕ → ReplayEnd → ReplayEnd → Bool → OfficeAt → ℕ → ℕ → Option Conversation → OfficeAt → ℕ → Type 0
-ReplayEnds most at_most end one mid count held None new now = EndsBetween most at_most end held count now × (new ≡ mid)
+abbrev pub ReplayEnds : ℕ → ReplayEnd → ReplayEnd → Bool → OfficeAt → ℕ → ℕ → Option Conversation
+    → OfficeAt → ℕ → Type 0
+ReplayEnds most at_most end one mid count held None new now
+    = EndsBetween most at_most end held count now × (new ≡ mid)
 ReplayEnds most at_most end one mid count held (Some c) new now =
-    (held < most) × IsHeld one mid count c × ConversationEndsIn end one c.end × (now ≡ c.after) × (new ≡ c.office)
+    (held < most) × IsHeld one mid count c × ConversationEndsIn end one c.end × (now ≡ c.after)
+    × (new ≡ c.office)
 
 -- with the last one, if there is one
 abbrev pub and_last : List Conversation → Option Conversation → List Conversation
@@ -105,9 +114,12 @@ LeavesNone Done b = b.coming ≡ []
 LeavesNone Fault b = Unit {0}
 LeavesNone Full b = Unit {0}
 
--- A replay of at most so many conversations began with this office and with this count and ended so, which is said where
--- it took the most: these conversations were held, with the moments that the clock gave.
-pub record Replayed (most : ℕ) (at_most : ReplayEnd) (one : Bool) (old new : OfficeAt) (count now : ℕ) (clock clock_now : Option (List ℕ)) (doors doors_now : Option Doorway) (end : ReplayEnd) : Type 0 where
+-- A replay of at most so many conversations began with this office and with this count and ended
+-- so, which is said where it took the most: these conversations were held, with the moments that
+-- the clock gave.
+pub record Replayed (most : ℕ) (at_most : ReplayEnd) (one : Bool) (old new : OfficeAt)
+    (count now : ℕ) (clock clock_now : Option (List ℕ)) (doors doors_now : Option Doorway)
+    (end : ReplayEnd) : Type 0 where
   pub held : List Conversation
   pub last : Option Conversation
   pub mid : OfficeAt
@@ -115,10 +127,12 @@ pub record Replayed (most : ℕ) (at_most : ReplayEnd) (one : Bool) (old new : O
   pub is_held : HeldInTurn one old count held mid between
   pub ends : ReplayEnds most at_most end one mid between (length held) last new now
   pub ticks : Ticks clock (all_moments (and_last held last)) clock_now
-  pub told : Tells (λ a b. Sends one (and_last held last) a b × (length held < most → LeavesNone end b)) doors doors_now
+  pub told : Tells (λ a b. Sends one (and_last held last) a b
+      × (length held < most → LeavesNone end b)) doors doors_now
 
 -- the next conversation was held, and ended so
-pub record HoldsNext (one : Bool) (end : ConvEnd) (old new : OfficeAt) (count now : ℕ) (clock clock_now : Option (List ℕ)) (doors doors_now : Option Doorway) : Type 0 where
+pub record HoldsNext (one : Bool) (end : ConvEnd) (old new : OfficeAt) (count now : ℕ)
+    (clock clock_now : Option (List ℕ)) (doors doors_now : Option Doorway) : Type 0 where
   pub conversation : Conversation
   pub ended : conversation.end ≡ end
   pub left : conversation.office ≡ new
@@ -132,7 +146,8 @@ abbrev pub StopsAt : ConvEnd → Bool → Option ReplayEnd → Type 0
 StopsAt end one None = GoesOnAfter one end
 StopsAt end one (Some stop) = ConversationEndsIn stop one end
 
--- what is said where the most conversations were taken: a replay came to its limit, and who listens on a port is done
+-- what is said where the most conversations were taken: a replay came to its limit, and who listens
+-- on a port is done
 abbrev pub end_at_most : Option ℕ → ReplayEnd
 end_at_most None = Full
 end_at_most (Some port) = Done
@@ -140,17 +155,24 @@ end_at_most (Some port) = Done
 -- The doors listened on the port, if there is one, and only then may a fault have been counted.
 abbrev pub ListensOn : Option ℕ → ℕ → ℕ → Option Doorway → Option Doorway → Type 0
 ListensOn None count now doors doors_now = (now ≡ count) × (doors_now ≡ doors)
-ListensOn (Some port) count now doors doors_now = (count ≤ now) × Tells (Listens port) doors doors_now
+ListensOn (Some port) count now doors doors_now
+    = (count ≤ now) × Tells (Listens port) doors doors_now
 
--- The doors listened on the port, if there is one, and then at most so many conversations were held.
-pub record ListensAndReplays (port : Option ℕ) (most : ℕ) (one : Bool) (old new : OfficeAt) (count now : ℕ) (clock clock_now : Option (List ℕ)) (doors doors_now : Option Doorway) (end : ReplayEnd) : Type 0 where
+-- The doors listened on the port, if there is one, and then at most so many conversations were
+-- held.
+pub record ListensAndReplays (port : Option ℕ) (most : ℕ) (one : Bool) (old new : OfficeAt)
+    (count now : ℕ) (clock clock_now : Option (List ℕ)) (doors doors_now : Option Doorway)
+    (end : ReplayEnd) : Type 0 where
   pub between : ℕ
   pub mid : Option Doorway
   pub listens : ListensOn port count between doors mid
-  pub replayed : Replayed most (end_at_most port) one old new between now clock clock_now mid doors_now end
+  pub replayed : Replayed most (end_at_most port) one old new between now clock clock_now mid
+      doors_now end
 
 -- The doors couldn't listen on the port: a fault was counted, and nothing else happened.
-pub record IsDeaf (port : Option ℕ) (old new : OfficeAt) (count now : ℕ) (clock clock_now : Option (List ℕ)) (doors doors_now : Option Doorway) (end : ReplayEnd) : Type 0 where
+pub record IsDeaf (port : Option ℕ) (old new : OfficeAt) (count now : ℕ)
+    (clock clock_now : Option (List ℕ)) (doors doors_now : Option Doorway) (end : ReplayEnd) : Type
+    0 where
   pub has_port : IsSome port
   pub ended : end ≡ Fault
   pub rose : Rose count now
@@ -159,6 +181,8 @@ pub record IsDeaf (port : Option ℕ) (old new : OfficeAt) (count now : ℕ) (cl
   pub doors_stay : Tells Stays doors doors_now
 
 -- An app was served on this port, or on none, for at most so many conversations, and that ended so.
-abbrev pub Serves : Option ℕ → ℕ → Bool → OfficeAt → OfficeAt → ℕ → ℕ → Option (List ℕ) → Option (List ℕ) → Option Doorway → Option Doorway → ReplayEnd → Type 0
+abbrev pub Serves : Option ℕ → ℕ → Bool → OfficeAt → OfficeAt → ℕ → ℕ → Option (List ℕ)
+    → Option (List ℕ) → Option Doorway → Option Doorway → ReplayEnd → Type 0
 Serves port most one old new count now clock clock_now doors doors_now end =
-    ListensAndReplays port most one old new count now clock clock_now doors doors_now end ⊎ IsDeaf port old new count now clock clock_now doors doors_now end
+    ListensAndReplays port most one old new count now clock clock_now doors doors_now end
+    ⊎ IsDeaf port old new count now clock clock_now doors doors_now end

@@ -1,4 +1,5 @@
--- How a keeper is opened for an app: it is attached to the store of a name, and takes the shape of the app's tables.
+-- How a keeper is opened for an app: it is attached to the store of a name, and takes the shape of
+-- the app's tables.
 use Rattle.std.specs.Prelude.{◌≡◌, ◌≢◌, ◌⊎◌, ℕ, List, Option, Some, None, IfNone, IfSome, IsSome}
 use Rattle.fx_base.specs.Faults.{Rose}
 use Rattle.fx_base.specs.Silence.{MayFallSilent, IsLater, SilenceCause, Marks}
@@ -24,12 +25,13 @@ Unsaid before now = Unit {0}
 module _ {K : Type 0} (g : Ghosts K) (name : List ℕ) where
   -- It was attached to the store of the name.
   pub record IsAttached (old new : K) : Type 0 where
-    pub named : MayFallSilent (SilenceCause (g.marks old) (g.marks new)) (λ _ n. n ≡ Some name) (g.attached old) (g.attached new)
+    pub named : MayFallSilent (SilenceCause (g.marks old) (g.marks new)) (λ _ n. n ≡ Some name)
+        (g.attached old) (g.attached new)
     pub promised : g.attaches old name new
     pub later : IsLater (g.marks old) (g.marks new)
 
-  -- Attached, it was asked to take the shape of a schema: it did, or it answered the other schema that it keeps, and its shape
-  -- is what it was.
+  -- Attached, it was asked to take the shape of a schema: it did, or it answered the other schema
+  -- that it keeps, and its shape is what it was.
   pub record IsAsked (schema : Schema) (other : Option Schema) (old new : K) : Type 0 where
     pub between : K
     pub is_attached : IsAttached old between
@@ -39,8 +41,8 @@ module _ {K : Type 0} (g : Ghosts K) (name : List ℕ) where
     pub differs : IfSome other (λ s. s ≢ schema)
     pub later : IsLater (g.marks between) (g.marks new)
 
-  -- It gave no answer as it was attached, or as it was to take a shape then. The tables that are told are as before that call,
-  -- in which the marks rose so.
+  -- It gave no answer as it was attached, or as it was to take a shape then. The tables that are
+  -- told are as before that call, in which the marks rose so.
   pub record IsStopped (Rise : Marks → Marks → Type 0) (old new : K) : Type 0 where
     pub between : K
     pub begun : (between ≡ old) ⊎ IsAttached old between
@@ -48,13 +50,16 @@ module _ {K : Type 0} (g : Ghosts K) (name : List ℕ) where
     pub later : IsLater (g.marks between) (g.marks new)
     pub rise : Rise (g.marks between) (g.marks new)
 
-  -- Opened for an app, which is a sound one of which sessions can be opened, it was served: that began with the tables and the
-  -- marks that it had then, without a session or a desk, and ended with those that it has now.
-  pub record IsServed (old new : K) (app : App) (serves : OfficeAt → OfficeAt → Type 0) : Type 0 where
+  -- Opened for an app, which is a sound one of which sessions can be opened, it was served: that
+  -- began with the tables and the marks that it had then, without a session or a desk, and ended
+  -- with those that it has now.
+  pub record IsServed (old new : K) (app : App) (serves : OfficeAt → OfficeAt → Type 0) : Type
+      0 where
     pub accepted : IsSoundApp app
     pub opens : CanOpen app.names
     pub opened : K
     pub is_opened : IsAsked (schema_of app) None old opened
     pub state : OfficeState
     pub tables : state.tables ≡ g.told new
-    pub served : serves (record { state = started app (g.told opened); marks = g.marks opened }) (record { state = state; marks = g.marks new })
+    pub served : serves (record { state = started app (g.told opened); marks = g.marks opened })
+        (record { state = state; marks = g.marks new })

@@ -34,8 +34,10 @@ work_of d k f c = record { doors = d; keeper = k; files = f; clock = c }
 abbrev pub outside : {D K F O C : Type 0} → D → K → F → O → C → Outside D K F O C
 outside d k f o c = record { work = work_of d k f c; out = o }
 
-abbrev pub work_sight : {D K F C : Type 0} → doors.Ghosts D → keeper.Ghosts K → files.Ghosts F → clock.Ghosts C → WorkSight D K F C
+abbrev pub work_sight : {D K F C : Type 0} → doors.Ghosts D → keeper.Ghosts K → files.Ghosts F
+    → clock.Ghosts C → WorkSight D K F C
 work_sight d k f c = record { doors = d; keeper = k; files = f; clock = c }
 
-abbrev pub sight : {D K F O C : Type 0} → doors.Ghosts D → keeper.Ghosts K → files.Ghosts F → sink.Ghosts O → clock.Ghosts C → Sight D K F O C
+abbrev pub sight : {D K F O C : Type 0} → doors.Ghosts D → keeper.Ghosts K → files.Ghosts F
+    → sink.Ghosts O → clock.Ghosts C → Sight D K F O C
 sight d k f o c = record { work = work_sight d k f c; out = o }

@@ -1,5 +1,6 @@
 -- Values as `view` prints them.
-use Rattle.std.specs.Prelude.{◌≡◌, ℕ, List, ◌∷◌, [], ◌++◌, Option, None, codes, encode_utf8_all, flat_map}
+use Rattle.std.specs.Prelude.{◌≡◌, ℕ, List, ◌∷◌, [], ◌++◌, Option, None, codes, encode_utf8_all}
+use Rattle.std.specs.Prelude.{flat_map}
 use Rattle.app_cells.specs.declared.app.App.{App}
 use Rattle.office.specs.app_semantics.Present.{present}
 use Rattle.app_wire.specs.Moments.{Ticks}
@@ -12,11 +13,12 @@ use Rattle.office.specs.NamedReply.{IsNamedList}
 abbrev pub value_line : List ℕ × Data → List ℕ
 value_line shown = encode_utf8_all shown.0 ++ (codes " = " ++ (plain_text shown.1 ++ codes "\n"))
 
--- the text of an app at a moment: a line for each named formula, in order, with its value in a session that was just
--- opened, where no rows are told
+-- the text of an app at a moment: a line for each named formula, in order, with its value in a
+-- session that was just opened, where no rows are told
 abbrev pub IsAppText : ℕ → App → List ℕ → Type 0
 IsAppText moment app text =
-    (values : List (List ℕ × Data)) × IsNamedList (present app (opened app.names) None moment) values × (text ≡ flat_map value_line values)
+    (values : List (List ℕ × Data)) × IsNamedList (present app (opened app.names) None moment)
+    values × (text ≡ flat_map value_line values)
 
 -- that text at the one moment that a clock gave
 abbrev pub IsShownNow : Option (List ℕ) → Option (List ℕ) → App → List ℕ → Type 0

@@ -1,5 +1,7 @@
 -- What a run says before it ends, and when.
-use Rattle.std.specs.Prelude.{◌≡◌, ℕ, ◌+◌, ◌++◌, [], ◌∷◌, ◌⊎◌, List, Option, Some, None, IsSome, Result, Ok, Err, String, codes, flat_map, option_map, string_bytes, take}
+use Rattle.std.specs.Prelude.{◌≡◌, ℕ, ◌+◌, ◌++◌, [], ◌∷◌, ◌⊎◌, List, Option, Some, None, IsSome}
+use Rattle.std.specs.Prelude.{Result, Ok, Err, String, codes, flat_map, option_map, string_bytes}
+use Rattle.std.specs.Prelude.{take}
 use Rattle.std.specs.declared.alloc.Global.{Global}
 use Rattle.fx_base.specs.Faults.{Rose}
 use Rattle.fx_base.specs.Telling.{Tells}
@@ -21,7 +23,9 @@ use Rattle.fx_cli.specs.declared.files.Files as files
 use Rattle.fx_cli.specs.declared.replay.ReplayEnd.{ReplayEnd}
 use Rattle.fx_cli.specs.declared.replay.ReplayEnd.TheVariants as replay
 use Rattle.fx_cli.specs.declared.report.Report.{Report}
-use Rattle.fx_cli.specs.declared.report.Report.TheVariants.{Shown, Checked, Broken, Usage, OutOfMemory, Unread, KeeperFault, OtherSchema, Replayed}
+use Rattle.fx_cli.specs.declared.report.Report.TheVariants.{Shown, Checked, Broken, Usage}
+use Rattle.fx_cli.specs.declared.report.Report.TheVariants.{OutOfMemory, Unread, KeeperFault}
+use Rattle.fx_cli.specs.declared.report.Report.TheVariants.{OtherSchema, Replayed}
 use Rattle.fx_cli.specs.declared.sink.Sink as sink
 use Rattle.fx_cli.specs.declared.words.Form.{Form}
 use Rattle.fx_cli.specs.declared.words.Form.TheVariants.{View, Check, Serve}
@@ -63,18 +67,22 @@ abbrev pub Wants : Form → Wanted → Type 0
 Wants form wanted = (name : List ℕ) × (wanted ≡ Some (form, name))
 
 -- This name is the file that is wanted, and the one that the files were asked for.
-pub record AsksFor {F : Type 0} (f : files.Ghosts F) (old new : F) (wanted : Wanted) (form : Form) (name : List ℕ) : Type 0 where
+pub record AsksFor {F : Type 0} (f : files.Ghosts F) (old new : F) (wanted : Wanted) (form : Form)
+    (name : List ℕ) : Type 0 where
   pub is_wanted : wanted ≡ Some (form, name)
   pub grown : f.asked new ≡ f.asked old ++ name ∷ []
 
--- The file that is wanted is the one that was asked for, and these are its first bytes, where that is told.
-pub record MatchesFile {F : Type 0} (f : files.Ghosts F) (old new : F) (wanted : Wanted) (form : Form) (bytes : List ℕ) : Type 0 where
+-- The file that is wanted is the one that was asked for, and these are its first bytes, where that
+-- is told.
+pub record MatchesFile {F : Type 0} (f : files.Ghosts F) (old new : F) (wanted : Wanted)
+    (form : Form) (bytes : List ℕ) : Type 0 where
   pub name : List ℕ
   pub asks : AsksFor f old new wanted form name
   pub first : AreFirstBytes (f.told old) name (most_file_read form) bytes
 
 -- it is told that these are the first bytes of the file that is wanted
-pub record HasFile {F : Type 0} (f : files.Ghosts F) (files : F) (wanted : Wanted) (form : Form) (bytes : List ℕ) : Type 0 where
+pub record HasFile {F : Type 0} (f : files.Ghosts F) (files : F) (wanted : Wanted) (form : Form)
+    (bytes : List ℕ) : Type 0 where
   pub name : List ℕ
   pub contents : Contents
   pub is_wanted : wanted ≡ Some (form, name)
@@ -88,15 +96,18 @@ JudgedAs Check = JudgedApp
 JudgedAs Serve = JudgedApp
 
 -- The file is named formulas that break no rule, and was shown so.
-pub record ReportsView {F : Type 0} (f : files.Ghosts F) (old new : F) (wanted : Wanted) (shows : App → Type 0) : Type 0 where
+pub record ReportsView {F : Type 0} (f : files.Ghosts F) (old new : F) (wanted : Wanted)
+    (shows : App → Type 0) : Type 0 where
   pub bytes : List ℕ
   pub app : App
   pub takes : MatchesFile f old new wanted View bytes
   pub judged : Judged bytes (Ok app)
   pub shown : shows app
 
--- The file is an app, of which this is told: how many formulas and tables it has, and where formulas take rows.
-pub record IsCheck {F : Type 0} (f : files.Ghosts F) (old new : F) (wanted : Wanted) (text : List ℕ) : Type 0 where
+-- The file is an app, of which this is told: how many formulas and tables it has, and where
+-- formulas take rows.
+pub record IsCheck {F : Type 0} (f : files.Ghosts F) (old new : F) (wanted : Wanted)
+    (text : List ℕ) : Type 0 where
   pub bytes : List ℕ
   pub app : App
   pub takes : MatchesFile f old new wanted Check bytes
@@ -104,7 +115,8 @@ pub record IsCheck {F : Type 0} (f : files.Ghosts F) (old new : F) (wanted : Wan
   pub lines : text ≡ checked_text app
 
 -- The file is an app, and serving it came to this.
-pub record IsService {F : Type 0} (f : files.Ghosts F) (old new : F) (wanted : Wanted) (ends : App → Type 0) : Type 0 where
+pub record IsService {F : Type 0} (f : files.Ghosts F) (old new : F) (wanted : Wanted)
+    (ends : App → Type 0) : Type 0 where
   pub bytes : List ℕ
   pub app : App
   pub takes : MatchesFile f old new wanted Serve bytes
@@ -112,7 +124,8 @@ pub record IsService {F : Type 0} (f : files.Ghosts F) (old new : F) (wanted : W
   pub ended : ends app
 
 -- The file breaks rules, and this is a line for each break.
-pub record IsBroken {F : Type 0} (f : files.Ghosts F) (old new : F) (wanted : Wanted) (text : List ℕ) : Type 0 where
+pub record IsBroken {F : Type 0} (f : files.Ghosts F) (old new : F) (wanted : Wanted)
+    (text : List ℕ) : Type 0 where
   pub form : Form
   pub bytes : List ℕ
   pub breaks : List Break
@@ -121,34 +134,42 @@ pub record IsBroken {F : Type 0} (f : files.Ghosts F) (old new : F) (wanted : Wa
   pub lines : text ≡ flat_map ended_line breaks
 
 -- A fault of the files was counted, which were asked for the file alone, and this says so.
-pub record IsMissed {F : Type 0} (f : files.Ghosts F) (old new : F) (wanted : Wanted) (text : List ℕ) : Type 0 where
+pub record IsMissed {F : Type 0} (f : files.Ghosts F) (old new : F) (wanted : Wanted)
+    (text : List ℕ) : Type 0 where
   pub form : Form
   pub name : List ℕ
   pub asks : AsksFor f old new wanted form name
   pub rose : Rose (f.faults old) (f.faults new)
   pub line : text ≡ unread_text name
 
--- When serving an app comes to each report: a call failed that opens the keeper over the store of a name, the keeper keeps
--- another schema, or it was served up to an end, as `serves` says.
-abbrev pub EndsOver : {K : Type 0} → keeper.Ghosts K → List ℕ → K → K → (ReplayEnd → OfficeAt → OfficeAt → Type 0) → App → Report → Type 0
+-- When serving an app comes to each report: a call failed that opens the keeper over the store of a
+-- name, the keeper keeps another schema, or it was served up to an end, as `serves` says.
+abbrev pub EndsOver : {K : Type 0} → keeper.Ghosts K → List ℕ → K → K
+    → (ReplayEnd → OfficeAt → OfficeAt → Type 0) → App → Report → Type 0
 EndsOver g store old new serves app KeeperFault = IsStopped g store Counted old new
-EndsOver g store old new serves app OtherSchema = (other : Schema) × IsAsked g store (schema_of app) (Some other) old new
+EndsOver g store old new serves app OtherSchema
+    = (other : Schema) × IsAsked g store (schema_of app) (Some other) old new
 EndsOver g store old new serves app (Replayed end) = IsServed g store old new app (serves end)
 EndsOver g store old new serves app OutOfMemory = Unit {0}
 EndsOver g store old new serves app r = ⊥
 
--- When a run that wants this comes to each report. The values of an app were shown so, as `shows` says, and serving an app
--- came to the report, as `ends` says.
-abbrev pub Reports : {F : Type 0} → files.Ghosts F → F → F → (App → String Global → Type 0) → (App → Report → Type 0) → Wanted → Report → Type 0
-Reports f old new shows ends wanted (Shown text) = ReportsView f old new wanted (λ app. shows app text)
+-- When a run that wants this comes to each report. The values of an app were shown so, as `shows`
+-- says, and serving an app came to the report, as `ends` says.
+abbrev pub Reports : {F : Type 0} → files.Ghosts F → F → F → (App → String Global → Type 0)
+    → (App → Report → Type 0) → Wanted → Report → Type 0
+Reports f old new shows ends wanted (Shown text)
+    = ReportsView f old new wanted (λ app. shows app text)
 Reports f old new shows ends wanted (Checked text) = IsCheck f old new wanted (string_bytes text)
 Reports f old new shows ends wanted (Broken text) = IsBroken f old new wanted (string_bytes text)
 Reports f old new shows ends wanted Usage = wanted ≡ None
 Reports f old new shows ends wanted OutOfMemory = IsSome wanted
 Reports f old new shows ends wanted (Unread text) = IsMissed f old new wanted (string_bytes text)
-Reports f old new shows ends wanted KeeperFault = IsService f old new wanted (λ app. ends app KeeperFault)
-Reports f old new shows ends wanted OtherSchema = IsService f old new wanted (λ app. ends app OtherSchema)
-Reports f old new shows ends wanted (Replayed end) = IsService f old new wanted (λ app. ends app (Replayed end))
+Reports f old new shows ends wanted KeeperFault
+    = IsService f old new wanted (λ app. ends app KeeperFault)
+Reports f old new shows ends wanted OtherSchema
+    = IsService f old new wanted (λ app. ends app OtherSchema)
+Reports f old new shows ends wanted (Replayed end)
+    = IsService f old new wanted (λ app. ends app (Replayed end))
 
 -- nothing was shown, and nothing was served
 abbrev pub no_show : App → String Global → Type 0
@@ -185,8 +206,8 @@ IsTimeless (Replayed end) = ⊥
 abbrev pub IsReadOnceAtMost : {C : Type 0} → (C → Option (List ℕ)) → C → C → Type 0
 IsReadOnceAtMost told old new = (new ≡ old) ⊎ ((moment : ℕ) × Tick moment (told old) (told new))
 
--- What a run that serves an app and came to a report left alone of the keeper: all, but where it was opened. For want of memory a call may
--- have stopped that opens it.
+-- What a run that serves an app and came to a report left alone of the keeper: all, but where it
+-- was opened. For want of memory a call may have stopped that opens it.
 abbrev pub LeavesKeeper : {K : Type 0} → keeper.Ghosts K → List ℕ → K → K → Report → Type 0
 LeavesKeeper g store old new (Shown text) = new ≡ old
 LeavesKeeper g store old new (Checked text) = new ≡ old
@@ -264,17 +285,21 @@ report_text KeeperFault = keeper_text
 report_text OtherSchema = schema_text
 report_text (Replayed end) = text_of_end end
 
--- a report was said: the run ends with its status and wrote its text, or a fault of the sink was counted, the run ends with
--- 7 and wrote a first part of the text
+-- a report was said: the run ends with its status and wrote its text, or a fault of the sink was
+-- counted, the run ends with 7 and wrote a first part of the text
 abbrev pub IsSaid : {O : Type 0} → sink.Ghosts O → O → O → Report → ℕ → Type 0
 IsSaid o old new report status =
     ((status ≡ status_of report) × Tells (Grows (report_text report)) (o.told old) (o.told new))
-    ⊎ ((status ≡ 7) × Rose (o.faults old) (o.faults new) × Tells (GrowsInPart (report_text report)) (o.told old) (o.told new))
+    ⊎ ((status ≡ 7) × Rose (o.faults old) (o.faults new)
+    × Tells (GrowsInPart (report_text report)) (o.told old) (o.told new))
 
 -- a run ended with this status, or for want of memory, or by a counted fault
 abbrev pub RunEndsWith : ℕ → ℕ → Type 0 → Type 0 → Type 0
-RunEndsWith wanted status files_rose sink_rose = (status ≡ wanted) ⊎ (status ≡ 3) ⊎ files_rose ⊎ sink_rose
+RunEndsWith wanted status files_rose sink_rose
+    = (status ≡ wanted) ⊎ (status ≡ 3) ⊎ files_rose ⊎ sink_rose
 
--- a run that serves an app ended so: its keeper failed or keeps another schema, the doors failed, the most was answered, or all was
+-- a run that serves an app ended so: its keeper failed or keeps another schema, the doors failed,
+-- the most was answered, or all was
 abbrev pub EndsService : ℕ → Type 0 → Type 0 → Type 0
-EndsService status files_rose sink_rose = (status ≡ 5) ⊎ (status ≡ 6) ⊎ (status ≡ 8) ⊎ (status ≡ 9) ⊎ RunEndsWith 0 status files_rose sink_rose
+EndsService status files_rose sink_rose = (status ≡ 5) ⊎ (status ≡ 6) ⊎ (status ≡ 8) ⊎ (status ≡ 9)
+    ⊎ RunEndsWith 0 status files_rose sink_rose

@@ -1,5 +1,6 @@
 -- What files and sinks tell of themselves.
-use Rattle.std.specs.Prelude.{◌≡◌, ℕ, ◌<◌, ◌≤◌, ◌++◌, [], ◌∷◌, List, Option, Some, Result, Ok, Err, option_map, length, take}
+use Rattle.std.specs.Prelude.{◌≡◌, ℕ, ◌<◌, ◌≤◌, ◌++◌, [], ◌∷◌, List, Option, Some, Result, Ok, Err}
+use Rattle.std.specs.Prelude.{option_map, length, take}
 use Rattle.fx_base.specs.Faults.{Rose}
 use Rattle.fx_cli.specs.declared.files.FileEnd.{FileEnd}
 use Rattle.fx_cli.specs.declared.files.FileEnd.TheVariants.{Memory, Failed}
@@ -10,7 +11,8 @@ Contents = List ℕ → Option (List ℕ)
 
 -- these are the first bytes of the file of this name, where that is told
 abbrev pub AreFirstBytes : Option Contents → List ℕ → ℕ → List ℕ → Type 0
-AreFirstBytes told name most bytes = (contents : Contents) → told ≡ Some contents → option_map (take most) (contents name) ≡ Some bytes
+AreFirstBytes told name most bytes = (contents : Contents) → told ≡ Some contents
+    → option_map (take most) (contents name) ≡ Some bytes
 
 -- the names asked for, after a call for this one
 abbrev pub asked_after : {T : Type 0} → Result T FileEnd → List (List ℕ) → List ℕ → List (List ℕ)

@@ -1,6 +1,7 @@
 //! Where a run reads.
 ghost use Rattle.fx_cli.specs.declared.files.FileEnd.TheVariants.{Memory};
-ghost use Rattle.std.specs.Prelude.{◌≡◌, ◌++◌, ◌∷◌, [], ◌≤◌, ℕ, IfOk, List, OnErr, OnOk, Option, map, string_bytes, vec_len};
+ghost use Rattle.std.specs.Prelude.{◌≡◌, ◌++◌, ◌∷◌, [], ◌≤◌, ℕ, IfOk, List, OnErr, OnOk, Option};
+ghost use Rattle.std.specs.Prelude.{map, string_bytes, vec_len};
 ghost use Rattle.fx_cli.specs.Telling.{AreFirstBytes, Contents, CountsFault, asked_after};
 
 use fx_base::Memory;
@@ -24,8 +25,8 @@ impl From<Memory> for FileEnd {
     }
 }
 
-/// Files by name, which may tell what is in them. They always tell which names they were asked for: where memory
-/// runs out this list stays as it was, and each other call adds its name.
+/// Files by name, which may tell what is in them. They always tell which names they were asked for:
+/// where memory runs out this list stays as it was, and each other call adds its name.
 pub trait Files {
     // The bytes of each name, where they are told.
     ghost told: { Self → Option Contents };

@@ -1,6 +1,7 @@
 //! Laws of runs.
 ghost use Rattle.fx_cli.specs.Outside.{sight};
-ghost use Rattle.fx_cli.specs.Statuses.{EightIsAnotherSchema, FiveIsAKeeperFault, SixIsAFaultOfDoors, ZeroOfASampleIsGenerated};
+ghost use Rattle.fx_cli.specs.Statuses.{EightIsAnotherSchema, FiveIsAKeeperFault};
+ghost use Rattle.fx_cli.specs.Statuses.{SixIsAFaultOfDoors, ZeroOfASampleIsGenerated};
 
 use crate::files::Files;
 use crate::sink::Sink;
@@ -8,7 +9,8 @@ use app_wire::clock::Clock;
 use app_wire::doors::Doors;
 use row_keeper::Keeper;
 
-/// A law, and no work: a sample load that ends with 0 put the sample to its requests, and wrote what is told of that.
+/// A law, and no work: a sample load that ends with 0 put the sample to its requests, and wrote
+/// what is told of that.
 pub fn zero_of_a_sample_is_generated<D: Doors, K: Keeper, F: Files, O: Sink, C: Clock>()
     ensures { ZeroOfASampleIsGenerated (sight D.Doors K.Keeper F.Files O.Sink C.Clock) }
 {}
@@ -23,7 +25,8 @@ pub fn six_is_a_fault_of_doors<D: Doors, K: Keeper, F: Files, O: Sink, C: Clock>
     ensures { SixIsAFaultOfDoors (sight D.Doors K.Keeper F.Files O.Sink C.Clock) }
 {}
 
-/// A law, and no work: where the keeper is opened for the app of a file, one that ends with 8 found another schema in it.
+/// A law, and no work: where the keeper is opened for the app of a file, one that ends with 8 found
+/// another schema in it.
 pub fn eight_is_another_schema<D: Doors, K: Keeper, F: Files, O: Sink, C: Clock>()
     ensures { EightIsAnotherSchema (sight D.Doors K.Keeper F.Files O.Sink C.Clock) }
 {}

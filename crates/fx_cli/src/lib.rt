@@ -37,15 +37,16 @@ use std::alloc::Global;
 use std::sync::ledger::Ledger;
 pub use system::{RealFiles, StdSink};
 
-/// How a run ends: 0 done, 1 the file breaks a rule, 2 the words are no form, 3 want of memory, 4 a file that could not
-/// be read, 5 a keeper that could not be opened, 6 a fault of the doors, 7 output that could not be written, 8 a keeper
-/// that keeps another schema, 9 the most requests, or the most conversations of a replay.
+/// How a run ends: 0 done, 1 the file breaks a rule, 2 the words are no form, 3 want of memory, 4 a
+/// file that could not be read, 5 a keeper that could not be opened, 6 a fault of the doors, 7
+/// output that could not be written, 8 a keeper that keeps another schema, 9 the most requests, or
+/// the most conversations of a replay.
 #[derive(Clone, Copy, Debug, PartialEq, Eq)]
 pub struct Status(pub u8);
 
-/// All that the program does. `words` are those after its name. What it says is made whole before any of it is written,
-/// and nothing else is written to `out`. The keeper is opened for an app that is served, and for a sample load, and
-/// `view` and `check` leave it alone.
+/// All that the program does. `words` are those after its name. What it says is made whole before
+/// any of it is written, and nothing else is written to `out`. The keeper is opened for an app that
+/// is served, and for a sample load, and `view` and `check` leave it alone.
 pub fn run<D: Doors, K: Keeper, F: Files, O: Sink, C: Clock, L: Ledger>(
     alloc: Global,
     words: &[String],
@@ -60,10 +61,13 @@ pub fn run<D: Doors, K: Keeper, F: Files, O: Sink, C: Clock, L: Ledger>(
     // 0 for words that serve an app: the office theorem.
     ensures headline { result.0 ≡ 0 → Wants Serve (wanted words.now)
         → ServesApp (sight D.Doors K.Keeper F.Files O.Sink C.Clock) words.now
-        (outside doors.old keeper.old files.old out.old clock.old) (outside doors.new keeper.new files.new out.new clock.new) }
-    // Every run: the report that it came to and what it left alone then, and its status by its causes.
+        (outside doors.old keeper.old files.old out.old clock.old)
+        (outside doors.new keeper.new files.new out.new clock.new) }
+    // Every run: the report that it came to and what it left alone then, and its status by its
+    // causes.
     ensures run { Run (sight D.Doors K.Keeper F.Files O.Sink C.Clock) words.now
-        (outside doors.old keeper.old files.old out.old clock.old) (outside doors.new keeper.new files.new out.new clock.new) result.0 }
+        (outside doors.old keeper.old files.old out.old clock.old)
+        (outside doors.new keeper.new files.new out.new clock.new) result.0 }
     ensures idle { K.in_transaction keeper.new ≡ false }
 {
     match sample_of(words) {
@@ -87,9 +91,11 @@ fn run_words<D: Doors, K: Keeper, F: Files, O: Sink, C: Clock, L: Ledger>(
     requires files { sample words.now ≡ None }
     ensures headline { result.0 ≡ 0 → Wants Serve (wanted words.now)
         → ServesApp (sight D.Doors K.Keeper F.Files O.Sink C.Clock) words.now
-        (outside doors.old keeper.old files.old out.old clock.old) (outside doors.new keeper.new files.new out.new clock.new) }
+        (outside doors.old keeper.old files.old out.old clock.old)
+        (outside doors.new keeper.new files.new out.new clock.new) }
     ensures run { Run (sight D.Doors K.Keeper F.Files O.Sink C.Clock) words.now
-        (outside doors.old keeper.old files.old out.old clock.old) (outside doors.new keeper.new files.new out.new clock.new) result.0 }
+        (outside doors.old keeper.old files.old out.old clock.old)
+        (outside doors.new keeper.new files.new out.new clock.new) result.0 }
     ensures idle { K.in_transaction keeper.new ≡ false }
 {
     // The laws are called for what they say: no file both is an app and is refused.

@@ -78,7 +78,8 @@ fn first_bytes(
     name: &str,
     most: u32,
 ) -> Result<Option<Vec<u8>>, Memory>
-    ensures { IfOk result (λ found. option_map (λ v. v.items) found ≡ option_map (take most) (bytes_named (files_of files.now) name.now)) }
+    ensures { IfOk result (λ found. option_map (λ v. v.items) found
+        ≡ option_map (take most) (bytes_named (files_of files.now) name.now)) }
 {
     match find_file(files, name) {
         Some(bytes) => {

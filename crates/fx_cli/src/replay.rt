@@ -26,7 +26,8 @@ pub enum ReplayEnd {
     Full,
 }
 
-/// Answers the conversations of the doors as a service wants it, which listens on its port first, if it has one.
+/// Answers the conversations of the doors as a service wants it, which listens on its port first,
+/// if it has one.
 pub fn hold_all<K: Keeper + Drop, D: Doors, C: Clock, L: Ledger>(
     office: &mut Office<K>,
     service: Service<'_>,
@@ -34,7 +35,9 @@ pub fn hold_all<K: Keeper + Drop, D: Doors, C: Clock, L: Ledger>(
     clock: &mut C,
     steps: &mut Steps<L>,
 ) -> ReplayEnd
-    ensures served { Serves service.entry.port service.entry.most (D.single doors.old) (office_at office.old) (office_at office.new) (D.faults doors.old) (D.faults doors.new) (C.told clock.old) (C.told clock.new) (D.told doors.old) (D.told doors.new) result }
+    ensures served { Serves service.entry.port service.entry.most (D.single doors.old)
+        (office_at office.old) (office_at office.new) (D.faults doors.old) (D.faults doors.new)
+        (C.told clock.old) (C.told clock.new) (D.told doors.old) (D.told doors.new) result }
     ensures cause { result ≡ ReplayEnd.Fault → Rose (D.faults doors.old) (D.faults doors.new) }
     ensures later { D.faults doors.old ≤ D.faults doors.new }
     ensures marks { IsLater office.old.marks office.new.marks }
@@ -55,7 +58,9 @@ fn hold_on_port<K: Keeper + Drop, D: Doors, C: Clock, L: Ledger>(
     clock: &mut C,
     steps: &mut Steps<L>,
 ) -> ReplayEnd
-    ensures served { Serves (Some port) most (D.single doors.old) (office_at office.old) (office_at office.new) (D.faults doors.old) (D.faults doors.new) (C.told clock.old) (C.told clock.new) (D.told doors.old) (D.told doors.new) result }
+    ensures served { Serves (Some port) most (D.single doors.old) (office_at office.old)
+        (office_at office.new) (D.faults doors.old) (D.faults doors.new) (C.told clock.old)
+        (C.told clock.new) (D.told doors.old) (D.told doors.new) result }
     ensures cause { result ≡ ReplayEnd.Fault → Rose (D.faults doors.old) (D.faults doors.new) }
     ensures later { D.faults doors.old ≤ D.faults doors.new }
     ensures marks { IsLater office.old.marks office.new.marks }
@@ -67,7 +72,8 @@ fn hold_on_port<K: Keeper + Drop, D: Doors, C: Clock, L: Ledger>(
     }
 }
 
-/// Answers conversations of the doors, at most so many, and hangs up each. Where it took the most, it ends so.
+/// Answers conversations of the doors, at most so many, and hangs up each. Where it took the most,
+/// it ends so.
 pub fn replay<K: Keeper + Drop, D: Doors, C: Clock, L: Ledger>(
     office: &mut Office<K>,
     doors: &mut D,
@@ -77,7 +83,9 @@ pub fn replay<K: Keeper + Drop, D: Doors, C: Clock, L: Ledger>(
     at_most: ReplayEnd,
 ) -> ReplayEnd
     requires { at_most ≢ Fault }
-    ensures replayed { Replayed most at_most (D.single doors.old) (office_at office.old) (office_at office.new) (D.faults doors.old) (D.faults doors.new) (C.told clock.old) (C.told clock.new) (D.told doors.old) (D.told doors.new) result }
+    ensures replayed { Replayed most at_most (D.single doors.old) (office_at office.old)
+        (office_at office.new) (D.faults doors.old) (D.faults doors.new) (C.told clock.old)
+        (C.told clock.new) (D.told doors.old) (D.told doors.new) result }
     ensures cause { result ≡ ReplayEnd.Fault → Rose (D.faults doors.old) (D.faults doors.new) }
     ensures later { D.faults doors.old ≤ D.faults doors.new }
     ensures marks { IsLater office.old.marks office.new.marks }
@@ -98,7 +106,8 @@ pub fn replay<K: Keeper + Drop, D: Doors, C: Clock, L: Ledger>(
     at_most
 }
 
-/// How a conversation that ended so ends a replay, if it does. `one` says whether each has one reply.
+/// How a conversation that ended so ends a replay, if it does. `one` says whether each has one
+/// reply.
 fn stop_at(end: ConvEnd, one: bool) -> Option<ReplayEnd>
     ensures { StopsAt end one result }
 {
@@ -117,10 +126,14 @@ fn hold_next<K: Keeper + Drop, D: Doors, C: Clock, L: Ledger>(
     clock: &mut C,
     steps: &mut Steps<L>,
 ) -> Result<Option<ConvEnd>, Failed>
-    ensures held { IfOk result (λ turn. IfSome turn (λ end. HoldsNext (D.single doors.old) end (office_at office.old) (office_at office.new) (D.faults doors.old) (D.faults doors.new) (C.told clock.old) (C.told clock.new) (D.told doors.old) (D.told doors.new))) }
+    ensures held { IfOk result (λ turn. IfSome turn
+        (λ end. HoldsNext (D.single doors.old) end (office_at office.old) (office_at office.new)
+        (D.faults doors.old) (D.faults doors.new) (C.told clock.old) (C.told clock.new)
+        (D.told doors.old) (D.told doors.new))) }
     ensures none { result ≡ Ok None → Tells (NextComes false) (D.told doors.old) (D.told doors.new) }
     ensures same { result ≡ Ok None → (clock.new ≡ clock.old) × (office.new ≡ office.old) }
-    ensures failed { OnErr result (Tells Stays (D.told doors.old) (D.told doors.new) × (clock.new ≡ clock.old) × (office.new ≡ office.old)) }
+    ensures failed { OnErr result (Tells Stays (D.told doors.old) (D.told doors.new)
+        × (clock.new ≡ clock.old) × (office.new ≡ office.old)) }
     ensures cause { OnErr result (Rose (D.faults doors.old) (D.faults doors.new)) }
     ensures later { D.faults doors.old ≤ D.faults doors.new }
     ensures marks { IsLater office.old.marks office.new.marks }

@@ -12,7 +12,11 @@ ghost use Rattle.fx_cli.specs.Conversations.{Serves};
 ghost use Rattle.fx_cli.specs.Outside.{work_of, work_sight};
 ghost use Rattle.fx_cli.specs.Plain.{IsAppText, IsShownNow};
 ghost use Rattle.fx_cli.specs.Report as by_parts;
-ghost use Rattle.fx_cli.specs.Report.{EndsOver, IsChecking, NothingBegun, IsReadOnceAtMost, IsRefusal, IsShowing, IsTimeless, IsUnread, LeavesKeeper, fault_text, keeper_text, limit_text, memory_text, no_service, no_show, schema_text, status_of, status_of_end, report_text, text_of_end, unread_text, usage_text};
+ghost use Rattle.fx_cli.specs.Report.{EndsOver, IsChecking, NothingBegun, IsReadOnceAtMost};
+ghost use Rattle.fx_cli.specs.Report.{IsRefusal, IsShowing, IsTimeless, IsUnread, LeavesKeeper};
+ghost use Rattle.fx_cli.specs.Report.{fault_text, keeper_text, limit_text, memory_text, no_service};
+ghost use Rattle.fx_cli.specs.Report.{no_show, schema_text, status_of, status_of_end, report_text};
+ghost use Rattle.fx_cli.specs.Report.{text_of_end, unread_text, usage_text};
 ghost use Rattle.fx_cli.specs.Run.{LeavesAlone, Reports};
 ghost use Rattle.fx_cli.specs.declared.words.Form.TheVariants.{Check, Serve, View};
 
@@ -173,10 +177,13 @@ pub fn carry_out<D: Doors, K: Keeper, F: Files, C: Clock, L: Ledger>(
 ) -> Report
     requires idle { K.in_transaction keeper.old ≡ false }
     ensures reports { Reports (work_sight D.Doors K.Keeper F.Files C.Clock) words.now
-        (work_of doors.old keeper.old files.old clock.old) (work_of doors.new keeper.new files.new clock.new) result }
-    ensures cause { result ≡ Report.Replayed ReplayEnd.Fault → Rose (D.faults doors.old) (D.faults doors.new) }
+        (work_of doors.old keeper.old files.old clock.old)
+        (work_of doors.new keeper.new files.new clock.new) result }
+    ensures cause { result ≡ Report.Replayed ReplayEnd.Fault
+        → Rose (D.faults doors.old) (D.faults doors.new) }
     ensures leaves { LeavesAlone (work_sight D.Doors K.Keeper F.Files C.Clock) words.now
-        (work_of doors.old keeper.old files.old clock.old) (work_of doors.new keeper.new files.new clock.new) result }
+        (work_of doors.old keeper.old files.old clock.old)
+        (work_of doors.new keeper.new files.new clock.new) result }
     ensures later { F.faults files.old ≤ F.faults files.new }
     ensures doors_later { D.faults doors.old ≤ D.faults doors.new }
     ensures keeper_later { IsLater (K.marks keeper.old) (K.marks keeper.new) }
@@ -209,7 +216,8 @@ fn view_file<F: Files, C: Clock, L: Ledger>(
     steps: &mut Steps<L>,
 ) -> Report
     ensures reports { by_parts.Reports F.Files files.old files.new
-        (λ app text. IsShownNow (C.told clock.old) (C.told clock.new) app (string_bytes text)) no_service (Some (View, name.now)) result }
+        (λ app text. IsShownNow (C.told clock.old) (C.told clock.new) app (string_bytes text))
+        no_service (Some (View, name.now)) result }
     ensures timeless { IsTimeless result → clock.new ≡ clock.old }
     ensures clock { IsReadOnceAtMost C.told clock.old clock.new }
     ensures later { F.faults files.old ≤ F.faults files.new }
@@ -228,7 +236,8 @@ fn view_file<F: Files, C: Clock, L: Ledger>(
 
 /// Checks an app's file. Nothing is evaluated, and no keeper is called.
 fn check_file<F: Files>(alloc: Global, name: &str, files: &mut F) -> Report
-    ensures reports { by_parts.Reports F.Files files.old files.new no_show no_service (Some (Check, name.now)) result }
+    ensures reports { by_parts.Reports F.Files files.old files.new no_show no_service
+        (Some (Check, name.now)) result }
     ensures later { F.faults files.old ≤ F.faults files.new }
     ensures told { F.told files.new ≡ F.told files.old }
 {
@@ -280,8 +289,11 @@ fn serve_file<D: Doors, K: Keeper, F: Files, C: Clock, L: Ledger>(
     requires idle { K.in_transaction keeper.old ≡ false }
     ensures reports { by_parts.Reports F.Files files.old files.new no_show
         (EndsOver K.Keeper service.entry.store.now keeper.old keeper.new
-        (λ end old new. Serves service.entry.port service.entry.most (D.single doors.old) old new (D.faults doors.old) (D.faults doors.new) (C.told clock.old) (C.told clock.new) (D.told doors.old) (D.told doors.new) end)) (Some (Serve, name.now)) result }
-    ensures cause { result ≡ Report.Replayed ReplayEnd.Fault → Rose (D.faults doors.old) (D.faults doors.new) }
+        (λ end old new. Serves service.entry.port service.entry.most (D.single doors.old) old new
+        (D.faults doors.old) (D.faults doors.new) (C.told clock.old) (C.told clock.new)
+        (D.told doors.old) (D.told doors.new) end)) (Some (Serve, name.now)) result }
+    ensures cause { result ≡ Report.Replayed ReplayEnd.Fault
+        → Rose (D.faults doors.old) (D.faults doors.new) }
     ensures unheld { NothingBegun result → (doors.new ≡ doors.old) × (clock.new ≡ clock.old) }
     ensures unopened { LeavesKeeper K.Keeper service.entry.store.now keeper.old keeper.new result }
     ensures later { F.faults files.old ≤ F.faults files.new }
@@ -318,15 +330,19 @@ fn serve_app<D: Doors, K: Keeper, C: Clock, L: Ledger>(
     requires loaded { IsLoaded app }
     requires opens { CanOpen app.names }
     ensures ends { EndsOver K.Keeper service.entry.store.now keeper.old keeper.new
-        (λ end old new. Serves service.entry.port service.entry.most (D.single doors.old) old new (D.faults doors.old) (D.faults doors.new) (C.told clock.old) (C.told clock.new) (D.told doors.old) (D.told doors.new) end) app result }
-    ensures cause { result ≡ Report.Replayed ReplayEnd.Fault → Rose (D.faults doors.old) (D.faults doors.new) }
+        (λ end old new. Serves service.entry.port service.entry.most (D.single doors.old) old new
+        (D.faults doors.old) (D.faults doors.new) (C.told clock.old) (C.told clock.new)
+        (D.told doors.old) (D.told doors.new) end) app result }
+    ensures cause { result ≡ Report.Replayed ReplayEnd.Fault
+        → Rose (D.faults doors.old) (D.faults doors.new) }
     ensures unheld { NothingBegun result → (doors.new ≡ doors.old) × (clock.new ≡ clock.old) }
     ensures unopened { LeavesKeeper K.Keeper service.entry.store.now keeper.old keeper.new result }
     ensures doors_later { D.faults doors.old ≤ D.faults doors.new }
     ensures keeper_later { IsLater (K.marks keeper.old) (K.marks keeper.new) }
     ensures idle { K.in_transaction keeper.new ≡ false }
 {
-    // Made before the keeper is opened: an office is made without memory then, and the keeper is given back by it.
+    // Made before the keeper is opened: an office is made without memory then, and the keeper is
+    // given back by it.
     let routes = match Routes::new(alloc) {
         Ok(routes) => routes,
         Err(Memory) => return Report::OutOfMemory,
@@ -359,8 +375,11 @@ fn serve_over<D: Doors, K: Keeper, C: Clock, L: Ledger>(
     requires opens { CanOpen app.names }
     requires sound { AreSound (schema_of app) (K.told keeper.old) }
     ensures served { (state : OfficeState) × (state.tables ≡ K.told keeper.new)
-        × Serves service.entry.port service.entry.most (D.single doors.old) (record { state = started app (K.told keeper.old); marks = K.marks keeper.old }) (record { state = state; marks = K.marks keeper.new })
-        (D.faults doors.old) (D.faults doors.new) (C.told clock.old) (C.told clock.new) (D.told doors.old) (D.told doors.new) result }
+        × Serves service.entry.port service.entry.most (D.single doors.old)
+        (record { state = started app (K.told keeper.old); marks = K.marks keeper.old })
+        (record { state = state; marks = K.marks keeper.new })
+        (D.faults doors.old) (D.faults doors.new) (C.told clock.old) (C.told clock.new)
+        (D.told doors.old) (D.told doors.new) result }
     ensures cause { result ≡ ReplayEnd.Fault → Rose (D.faults doors.old) (D.faults doors.new) }
     ensures doors_later { D.faults doors.old ≤ D.faults doors.new }
     ensures keeper_later { IsLater (K.marks keeper.old) (K.marks keeper.new) }

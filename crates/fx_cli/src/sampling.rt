@@ -1,5 +1,6 @@
 //! A sample load: an app is put to requests of its own, and what came of them is told.
-ghost use Rattle.std.specs.Prelude.{◌≡◌, ◌≤◌, ℕ, Err, IfOk, List, Some, false, length, map, string_bytes};
+ghost use Rattle.std.specs.Prelude.{◌≡◌, ◌≤◌, ℕ, Err, IfOk, List, Some, false, length, map};
+ghost use Rattle.std.specs.Prelude.{string_bytes};
 ghost use Rattle.std.specs.List.{All};
 ghost use Rattle.app_wire.specs.Framing.{asked};
 ghost use Rattle.fx_base.specs.Faults.{Rose};
@@ -17,7 +18,8 @@ ghost use Rattle.sample_app.specs.Sample.{app_text as sample_text};
 ghost use Rattle.sample_app.specs.Summary.{summary as summary_of};
 ghost use Rattle.fx_cli.specs.Conversations.{office_at};
 ghost use Rattle.fx_cli.specs.Report.{RunEndsWith, IsSaid};
-ghost use Rattle.fx_cli.specs.Sampled.{EndsSample, IsPlayed, IsSampled, IsSampleReport, ReportsSample};
+ghost use Rattle.fx_cli.specs.Sampled.{EndsSample, IsPlayed, IsSampled, IsSampleReport};
+ghost use Rattle.fx_cli.specs.Sampled.{ReportsSample};
 ghost use Rattle.row_keeper.specs.Causes as by_marks;
 ghost use Rattle.row_keeper.specs.Over.{Becomes, HasCause};
 
@@ -48,8 +50,10 @@ pub(crate) fn run_sample<K: Keeper, O: Sink, L: Ledger>(
 ) -> Status
     requires idle { K.in_transaction keeper.old ≡ false }
     requires few { n ≤ 1000000 }
-    ensures sampled { (report : Report) × ReportsSample K.Keeper n keeper.old keeper.new report × IsSaid O.Sink out.old out.new report result.0 }
-    ensures spoilt { (bs : List Broken) → JudgedApp sample_text (Err bs) → RunEndsWith 1 result.0 ⊥ (Rose (O.faults out.old) (O.faults out.new)) }
+    ensures sampled { (report : Report) × ReportsSample K.Keeper n keeper.old keeper.new report
+        × IsSaid O.Sink out.old out.new report result.0 }
+    ensures spoilt { (bs : List Broken) → JudgedApp sample_text (Err bs)
+        → RunEndsWith 1 result.0 ⊥ (Rose (O.faults out.old) (O.faults out.new)) }
     ensures keeper_later { IsLater (K.marks keeper.old) (K.marks keeper.new) }
     ensures out_later { O.faults out.old ≤ O.faults out.new }
     ensures idle { K.in_transaction keeper.new ≡ false }
@@ -60,7 +64,8 @@ pub(crate) fn run_sample<K: Keeper, O: Sink, L: Ledger>(
     say(&report, out)
 }
 
-/// Puts the sample app to its requests, up to the report of it. The app is loaded as that of a file is.
+/// Puts the sample app to its requests, up to the report of it. The app is loaded as that of a file
+/// is.
 fn put_sample<K: Keeper, L: Ledger>(
     alloc: Global,
     n: u32,
@@ -81,7 +86,8 @@ fn put_sample<K: Keeper, L: Ledger>(
     }
 }
 
-/// Puts an app to the requests, over a keeper that is opened for it with the store of the empty name.
+/// Puts an app to the requests, over a keeper that is opened for it with the store of the empty
+/// name.
 fn put_app<K: Keeper, L: Ledger>(
     alloc: Global,
     n: u32,
@@ -98,7 +104,8 @@ fn put_app<K: Keeper, L: Ledger>(
     ensures later { IsLater (K.marks keeper.old) (K.marks keeper.new) }
     ensures idle { K.in_transaction keeper.new ≡ false }
 {
-    // Made before the keeper is opened: an office is made without memory then, and the keeper is given back by it.
+    // Made before the keeper is opened: an office is made without memory then, and the keeper is
+    // given back by it.
     let routes = match Routes::new(alloc) {
         Ok(routes) => routes,
         Err(Memory) => return Report::OutOfMemory,
@@ -126,7 +133,8 @@ fn report_of(told: Result<String, KeeperEnd>) -> Report
     }
 }
 
-/// Puts an app to requests, over a keeper that has the shape of its tables, and tells what came of them.
+/// Puts an app to requests, over a keeper that has the shape of its tables, and tells what came of
+/// them.
 fn put_over<K: Keeper, L: Ledger>(
     alloc: Global,
     app: App,
@@ -141,8 +149,11 @@ fn put_over<K: Keeper, L: Ledger>(
     requires loaded { IsLoaded app }
     requires opens { CanOpen app.names }
     requires sound { AreSound (schema_of app) (K.told keeper.old) }
-    ensures sampled { IfOk result (λ text. (state : OfficeState) × (state.tables ≡ K.told keeper.new)
-        × IsSampled (map asked requests.now) (record { state = started app (K.told keeper.old); marks = K.marks keeper.old }) (record { state = state; marks = K.marks keeper.new }) (string_bytes text)) }
+    ensures sampled { IfOk result (λ text. (state : OfficeState)
+        × (state.tables ≡ K.told keeper.new)
+        × IsSampled (map asked requests.now) (record
+        { state = started app (K.told keeper.old); marks = K.marks keeper.old })
+        (record { state = state; marks = K.marks keeper.new }) (string_bytes text)) }
     ensures cause { HasCause K.Keeper keeper.old keeper.new result }
     ensures idle { K.in_transaction keeper.new ≡ false }
 {
@@ -174,8 +185,11 @@ fn play_over<K: Keeper, L: Ledger>(
     requires loaded { IsLoaded app }
     requires opens { CanOpen app.names }
     requires sound { AreSound (schema_of app) (K.told keeper.old) }
-    ensures played { IfOk result (λ p. (state : OfficeState) × (state.tables ≡ K.told keeper.new) × (p.sessions ≡ length state.sessions)
-        × IsPlayed (map asked requests.now) (map said p.replies.items) (record { state = started app (K.told keeper.old); marks = K.marks keeper.old }) (record { state = state; marks = K.marks keeper.new })) }
+    ensures played { IfOk result (λ p. (state : OfficeState) × (state.tables ≡ K.told keeper.new)
+        × (p.sessions ≡ length state.sessions)
+        × IsPlayed (map asked requests.now) (map said p.replies.items)
+        (record { state = started app (K.told keeper.old); marks = K.marks keeper.old })
+        (record { state = state; marks = K.marks keeper.new })) }
     ensures whole { IfOk result (λ p. All IsReply p.replies.items) }
     ensures shaped { IfOk result (λ p. K.shaped keeper.new ≡ Some (schema_of p.app)) }
     ensures sound { IfOk result (λ p. AreSound (schema_of p.app) (K.told keeper.new)) }
@@ -197,15 +211,16 @@ fn play_over<K: Keeper, L: Ledger>(
     }
 }
 
-/// Answers requests, one after another, at the moment of the sample: their replies. It stops at the first that is answered with
-/// want of memory or with a fault of the keeper.
+/// Answers requests, one after another, at the moment of the sample: their replies. It stops at the
+/// first that is answered with want of memory or with a fault of the keeper.
 fn play<K: Keeper + Drop, L: Ledger>(
     alloc: Global,
     office: &mut Office<K>,
     requests: &[Request],
     steps: &mut Steps<L>,
 ) -> Result<Vec<Reply>, KeeperEnd>
-    ensures played { IfOk result (λ replies. IsPlayed (map asked requests.now) (map said replies.items) (office_at office.old) (office_at office.new)) }
+    ensures played { IfOk result (λ replies. IsPlayed (map asked requests.now)
+        (map said replies.items) (office_at office.old) (office_at office.new)) }
     ensures whole { IfOk result (λ replies. All IsReply replies.items) }
     ensures cause { by_marks.HasCause office.old.marks office.new.marks result }
     ensures loan { office.new.loan ≡ office.old.loan }
@@ -225,7 +240,8 @@ fn tell<K: Keeper>(alloc: Global, played: &Played, keeper: &mut K) -> Result<Str
     requires whole { All IsReply played.now.replies.items }
     ensures told { IfOk result (λ text. (rows : ℕ) × Becomes K.Keeper keeper.old keeper.new
         (HasRowCount rows)
-        × (string_bytes text ≡ summary_of rows played.now.sessions (map said played.now.replies.items))) }
+        × (string_bytes text ≡ summary_of rows played.now.sessions
+        (map said played.now.replies.items))) }
     ensures cause { HasCause K.Keeper keeper.old keeper.new result }
     ensures mode { K.in_transaction keeper.new ≡ K.in_transaction keeper.old }
 {

@@ -1,5 +1,6 @@
 //! Where a run writes.
-ghost use Rattle.std.specs.Prelude.{◌≡◌, ◌<◌, ◌≤◌, ℕ, IfOk, List, OnErr, OnOk, Option, length, take};
+ghost use Rattle.std.specs.Prelude.{◌≡◌, ◌<◌, ◌≤◌, ℕ, IfOk, List, OnErr, OnOk, Option, length};
+ghost use Rattle.std.specs.Prelude.{take};
 ghost use Rattle.std.specs.Io.{WritesAtMost};
 ghost use Rattle.fx_base.specs.Faults.{HasFaultCause};
 ghost use Rattle.fx_base.specs.Telling.{Changes, Stays, Tells};
@@ -19,7 +20,8 @@ pub trait Sink {
     fn write(&mut self, piece: &[u8]) -> Result<usize, Failed>
         ensures bound { WritesAtMost result piece.now }
         ensures some { IfOk result (λ n. 0 < length piece.now → 0 < n) }
-        ensures ok { IfOk result (λ n. Changes (Grows (take n piece.now)) (told self.old) (told self.new)) }
+        ensures ok { IfOk result (λ n. Changes (Grows (take n piece.now)) (told self.old)
+            (told self.new)) }
         ensures err { OnErr result (Changes Stays (told self.old) (told self.new)) }
         ensures cause { HasFaultCause (faults self.old) (faults self.new) result };
 }

@@ -71,7 +71,8 @@ fn read_file<R: SystemFiles + AllocGlobal>(rt: &R, name: &str, most: u32) -> io:
 
 /// The first `most` bytes that are left, or all where there are no more.
 fn read_first<R: Read + Drop>(alloc: Global, reader: R, most: u32) -> io::Result<Vec<u8>>
-    ensures bytes { IfOk result (λ v. IfSome (R.remaining reader) (λ left. v.items ≡ take most left)) }
+    ensures bytes { IfOk result (λ v. IfSome (R.remaining reader)
+        (λ left. v.items ≡ take most left)) }
     ensures short { IfOk result (λ v. vec_len v ≤ most) }
 {
     let mut bytes = Vec::new(alloc);

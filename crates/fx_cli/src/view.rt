@@ -15,8 +15,9 @@ use std::alloc::Global;
 use std::sync::ledger::Ledger;
 use view_text::{Named, plain};
 
-/// A line for each named formula, in order: its name and its value at a moment, in seconds since 1970-01-01 UTC. The app has
-/// no tables, so no keeper is called: the one that formulas are evaluated over is made here, and keeps nothing.
+/// A line for each named formula, in order: its name and its value at a moment, in seconds since
+/// 1970-01-01 UTC. The app has no tables, so no keeper is called: the one that formulas are
+/// evaluated over is made here, and keeps nothing.
 #[tactic(auto, using(crate::proofs::ViewedSession::opened_holds))]
 pub fn view_text<L: Ledger>(
     alloc: Global,
@@ -40,7 +41,8 @@ pub fn view_text<L: Ledger>(
 
 /// The lines of values.
 fn values_text(alloc: Global, values: &[Named]) -> Result<String, Memory>
-    ensures { IfOk result (λ text. string_bytes text ≡ flat_map value_line (map reply_row values.now)) }
+    ensures { IfOk result (λ text. string_bytes text
+        ≡ flat_map value_line (map reply_row values.now)) }
 {
     let mut text = String::new(alloc);
     for named in values {
@@ -51,7 +53,8 @@ fn values_text(alloc: Global, values: &[Named]) -> Result<String, Memory>
 
 /// One line more.
 fn push_line(alloc: Global, text: &mut String, named: &Named) -> Result<(), Memory>
-    ensures { OnOk result (string_bytes text.new ≡ string_bytes text.old ++ value_line (reply_row named.now)) }
+    ensures { OnOk result (string_bytes text.new
+        ≡ string_bytes text.old ++ value_line (reply_row named.now)) }
 {
     let name = named.name.as_str();
     let value = plain(alloc, &named.value)?;

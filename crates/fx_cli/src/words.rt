@@ -1,6 +1,8 @@
 //! The words that a run is given.
-ghost use Rattle.std.specs.Prelude.{◌≡◌, ◌≤◌, ◌∷◌, [], IfSome, IsSome, None, is_some, option_map, string_bytes};
-ghost use Rattle.fx_cli.specs.Words.{app_if, service_count, is_word, number_to, or_usual, port_of, sample, sample_number, service, wanted};
+ghost use Rattle.std.specs.Prelude.{◌≡◌, ◌≤◌, ◌∷◌, [], IfSome, IsSome, None, is_some, option_map};
+ghost use Rattle.std.specs.Prelude.{string_bytes};
+ghost use Rattle.fx_cli.specs.Words.{app_if, service_count, is_word, number_to, or_usual, port_of};
+ghost use Rattle.fx_cli.specs.Words.{sample, sample_number, service, wanted};
 
 /// The most conversations that are taken where the words give no count.
 const USUAL_COUNT: u32 = 1_000_000;
@@ -107,7 +109,8 @@ fn pair_sample(command: &String, number: &String) -> Option<u32>
 
 /// How an app is served that the words name.
 pub fn service_of(words: &[String]) -> Service<'_>
-    ensures { record { store = result.store.now; port = result.port; most = result.most } ≡ service words.now }
+    ensures { record { store = result.store.now; port = result.port; most = result.most }
+        ≡ service words.now }
 {
     match words {
         [_, _, store, port] => Service {

@@ -1,5 +1,6 @@
 -- The lines that tell of broken rules.
-use Rattle.std.specs.Prelude.{ℕ, List, [], ◌∷◌, ◌++◌, Bool, ◌==◌, ◌||◌, if◌then◌else◌, codes, flat_map, encode_utf8_all}
+use Rattle.std.specs.Prelude.{ℕ, List, [], ◌∷◌, ◌++◌, Bool, ◌==◌, ◌||◌, if◌then◌else◌, codes}
+use Rattle.std.specs.Prelude.{flat_map, encode_utf8_all}
 use Rattle.std.specs.Fmt.{decimal}
 use Rattle.std.specs.List.{list_any}
 use Rattle.fx_core.specs.declared.broken.Broken.{Broken}
@@ -23,6 +24,8 @@ has_mark c = c == 46 || c == 39
 abbrev pub single_quote_doubled : ℕ → List ℕ
 single_quote_doubled c = if c == 39 then 39 ∷ 39 ∷ [] else c ∷ []
 
--- A name in an address: one with a point or a quote stands between quotes, with its own quotes doubled.
+-- A name in an address: one with a point or a quote stands between quotes, with its own quotes
+-- doubled.
 abbrev pub address_of : List ℕ → List ℕ
-address_of name = if list_any has_mark name then 39 ∷ (flat_map single_quote_doubled name ++ 39 ∷ []) else name
+address_of name = if list_any has_mark name then 39
+    ∷ (flat_map single_quote_doubled name ++ 39 ∷ []) else name

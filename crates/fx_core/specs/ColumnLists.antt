@@ -1,5 +1,6 @@
 -- Lists of columns, and what functions of tables make of them.
-use Rattle.std.specs.Prelude.{ℕ, List, [], ◌∷◌, Bool, false, ◌||◌, Option, Some, None, Result, Ok, Err, bytes_eq, codes, if◌then◌else◌}
+use Rattle.std.specs.Prelude.{ℕ, List, [], ◌∷◌, Bool, false, ◌||◌, Option, Some, None, Result, Ok}
+use Rattle.std.specs.Prelude.{Err, bytes_eq, codes, if◌then◌else◌}
 use Rattle.fx_types.specs.Types.{Shape, records, ColumnList, no_columns, column}
 use Rattle.fx_core.specs.SourceTypes.{put_column}
 use Rattle.fx_core.specs.Rules as rules
@@ -26,7 +27,8 @@ is_one_of x (y ∷ ys) = bytes_eq y x || is_one_of x ys
 -- the columns of these names alone
 abbrev pub columns_only : List (List ℕ) → ColumnList → ColumnList
 columns_only xs no_columns = no_columns
-columns_only xs (column y t cs) = if is_one_of y xs then column y t (columns_only xs cs) else columns_only xs cs
+columns_only xs (column y t cs) = if is_one_of y xs then column y t (columns_only xs cs) else
+    columns_only xs cs
 
 -- the one column of a table of values
 abbrev pub value_column : Shape → ColumnList
@@ -55,4 +57,5 @@ abbrev pub with_new : List ℕ → Shape → ColumnList → Result ColumnList �
 with_new x t cs = if_free (field_in x cs) (put_column x t cs)
 
 abbrev pub with_renamed : List ℕ → List ℕ → ColumnList → Result ColumnList ℕ
-with_renamed x y cs = and_then (if_there (field_in x cs)) (λ t. if_free (field_in y cs) (put_column y t (columns_without x cs)))
+with_renamed x y cs = and_then (if_there (field_in x cs))
+    (λ t. if_free (field_in y cs) (put_column y t (columns_without x cs)))

@@ -1,5 +1,6 @@
 -- The properties of controls. Names are given by their bytes.
-use Rattle.std.specs.Prelude.{ℕ, List, Bool, true, false, ◌||◌, Option, Some, None, is_some, codes, bytes_eq, if◌then◌else◌}
+use Rattle.std.specs.Prelude.{ℕ, List, Bool, true, false, ◌||◌, Option, Some, None, is_some, codes}
+use Rattle.std.specs.Prelude.{bytes_eq, if◌then◌else◌}
 use Rattle.fx_types.specs.Types.{Shape, numbers, texts, booleans, dates}
 use Rattle.fx_types.specs.declared.controls.Control.{Control}
 use Rattle.fx_types.specs.declared.controls.Control.TheVariants as control
@@ -9,8 +10,10 @@ abbrev pub own_type : Control → List ℕ → Option Shape
 own_type control.Label n = if bytes_eq n (codes "Text") then Some texts else None
 own_type control.Button n = if bytes_eq n (codes "Text") then Some texts else None
 own_type control.TextInput n = if bytes_eq n (codes "Default") then Some texts else None
-own_type control.Slider n = if bytes_eq n (codes "Min") || bytes_eq n (codes "Max") || bytes_eq n (codes "Default") then Some numbers else None
-own_type control.Checkbox n = if bytes_eq n (codes "Text") then Some texts else (if bytes_eq n (codes "Default") then Some booleans else None)
+own_type control.Slider n = if bytes_eq n (codes "Min") || bytes_eq n (codes "Max")
+    || bytes_eq n (codes "Default") then Some numbers else None
+own_type control.Checkbox n = if bytes_eq n (codes "Text") then Some texts else
+    (if bytes_eq n (codes "Default") then Some booleans else None)
 own_type control.DatePicker n = if bytes_eq n (codes "DefaultDate") then Some dates else None
 own_type control.Gallery n = None
 

@@ -1,5 +1,6 @@
 -- Named formulas by their names.
-use Rattle.std.specs.Prelude.{◌≡◌, ℕ, List, [], ◌∷◌, Option, Some, None, bytes_eq, position, if◌then◌else◌}
+use Rattle.std.specs.Prelude.{◌≡◌, ℕ, List, [], ◌∷◌, Option, Some, None, bytes_eq, position}
+use Rattle.std.specs.Prelude.{if◌then◌else◌}
 use Rattle.std.specs.BTreeMap.{BTreeMap, get}
 use Rattle.std.specs.Cmp.Lexicographic.{slice_cmp}
 use Rattle.std.specs.List.{find}
@@ -17,7 +18,8 @@ formula_index places x = get (slice_cmp nat_cmp) places x
 
 -- each name has the place of its first formula, and no other name has one
 abbrev pub IsIndexOf : BTreeMap (List ℕ) ℕ → List FormulaName → Type 0
-IsIndexOf places fs = (x : List ℕ) → formula_index places x ≡ position (λ (f : FormulaName). bytes_eq f.name x) fs
+IsIndexOf places fs = (x : List ℕ) → formula_index places x
+    ≡ position (λ (f : FormulaName). bytes_eq f.name x) fs
 
 -- a name that had no place has this one
 abbrev pub or_placed : Option ℕ → Option ℕ → Option ℕ
@@ -25,7 +27,8 @@ or_placed (Some k) later = Some k
 or_placed None later = later
 
 abbrev pub IsIndexNoted : BTreeMap (List ℕ) ℕ → BTreeMap (List ℕ) ℕ → List ℕ → ℕ → Type 0
-IsIndexNoted old new name k = (x : List ℕ) → formula_index new x ≡ or_placed (formula_index old x) (if bytes_eq name x then Some k else None)
+IsIndexNoted old new name k = (x : List ℕ) → formula_index new x
+    ≡ or_placed (formula_index old x) (if bytes_eq name x then Some k else None)
 
 -- formulas with other types
 abbrev pub retyped : List FormulaName → List Ty → List FormulaName

@@ -1,5 +1,6 @@
 -- Which schemas and names are lawful.
-use Rattle.std.specs.Prelude.{◌≡◌, ◌≢◌, true, ℕ, ◌<◌, ◌≤◌, ◌^◌, ◌++◌, List, [], ◌∷◌, map, length, All, codes, encode_utf8_all, Option, Some, None, slice_get}
+use Rattle.std.specs.Prelude.{◌≡◌, ◌≢◌, true, ℕ, ◌<◌, ◌≤◌, ◌^◌, ◌++◌, List, [], ◌∷◌, map, length}
+use Rattle.std.specs.Prelude.{All, codes, encode_utf8_all, Option, Some, None, slice_get}
 use Rattle.fx_types.specs.TypeView.{shape}
 use Rattle.fx_types.specs.Types.{Shape, numbers, texts, booleans, dates}
 use Rattle.fx_types.specs.declared.types.Ty.{Ty}
@@ -74,14 +75,17 @@ abbrev pub IsLawfulScreen : Names → Option ℕ → Type 0
 IsLawfulScreen n (Some s) = s < length n.screens
 IsLawfulScreen n None = Unit {0}
 
--- the schema is lawful, there are fewer things than numbers, each number of a screen or a control is a
--- place, each gallery is one, each property is one of its control's kind, and no cell is numbered twice
+-- the schema is lawful, there are fewer things than numbers, each number of a screen or a control
+-- is a place, each gallery is one, each property is one of its control's kind, and no cell is
+-- numbered twice
 pub record IsLawful (n : Names) : Type 0 where
   pub schema : IsLawfulSchema n.schema
   pub screens : length n.screens < 2 ^ 32
   pub controls : (length n.controls < 2 ^ 32) × All (IsLawfulControl n) n.controls
   pub properties : (length n.properties < 2 ^ 32) × All (IsLawfulProperty n) n.properties
   pub formulas : length n.formulas < 2 ^ 32
-  pub variables : (length n.variables < 2 ^ 32) × All (λ (v : Variable). IsLawfulScreen n v.screen) n.variables
+  pub variables : (length n.variables < 2 ^ 32)
+      × All (λ (v : Variable). IsLawfulScreen n v.screen) n.variables
   pub collections : length n.collections < 2 ^ 32
-  pub cells : AreDistinct (map (λ (f : FormulaName). f.cell) n.formulas ++ map (λ (p : Property). p.cell) n.properties)
+  pub cells : AreDistinct (map (λ (f : FormulaName). f.cell) n.formulas
+      ++ map (λ (p : Property). p.cell) n.properties)

@@ -1,5 +1,6 @@
 -- Arguments that are literals, as their bytes spell them.
-use Rattle.std.specs.Prelude.{ℕ, List, Bool, is_some, Option, Some, None, codes, bytes_eq, option_map, if◌then◌else◌}
+use Rattle.std.specs.Prelude.{ℕ, List, Bool, is_some, Option, Some, None, codes, bytes_eq}
+use Rattle.std.specs.Prelude.{option_map, if◌then◌else◌}
 use Rattle.fx_types.specs.declared.faults.Kind.{Kind}
 use Rattle.fx_types.specs.declared.faults.Kind.TheVariants as kind
 use Rattle.fx_core.specs.declared.functions.Fun.{Fun}

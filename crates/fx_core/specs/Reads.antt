@@ -29,7 +29,8 @@ source_number (source.Table n) = n
 source_number source.Today = 0
 
 abbrev pub source_order : Source → Source → Ordering
-source_order s t = ordering_then (nat_cmp (source_rank s) (source_rank t)) (nat_cmp (source_number s) (source_number t))
+source_order s t = ordering_then (nat_cmp (source_rank s) (source_rank t))
+    (nat_cmp (source_number s) (source_number t))
 
 -- the source is below each of these
 abbrev pub IsSourceBelowAll : Source → List Source → Type 0

@@ -23,26 +23,54 @@ shape_of Text = texts
 shape_of Boolean = booleans
 shape_of Date = dates
 
--- a row: how many arguments at least and at most, what stands at the first place, at the second, and
--- from the third on in turn, and the answer
+-- a row: how many arguments at least and at most, what stands at the first place, at the second,
+-- and from the third on in turn, and the answer
 abbrev pub placed : ℕ → ℕ → Takes → Takes → Takes → Takes → Answer → Row
 placed least most a b c d r =
-    record { first = a; second = b; third = c; fourth = d; ending = ending.Open; least = least; most = most; answer = r }
+    record {
+      first = a;
+      second = b;
+      third = c;
+      fourth = d;
+      ending = ending.Open;
+      least = least;
+      most = most;
+      answer = r;
+    }
 
 -- the same with arguments in pairs, behind the first one
 abbrev pub paired : Takes → Takes → Takes → Takes → Answer → Row
 paired a b c d r =
-    record { first = a; second = b; third = c; fourth = d; ending = ending.Whole; least = 3; most = 255; answer = r }
+    record {
+      first = a;
+      second = b;
+      third = c;
+      fourth = d;
+      ending = ending.Whole;
+      least = 3;
+      most = 255;
+      answer = r;
+    }
 
 -- the same with a branch at the last place
 abbrev pub branched : ℕ → Takes → Takes → Takes → Takes → Row
 branched least a b c d =
-    record { first = a; second = b; third = c; fourth = d; ending = ending.Branch; least = least; most = 255; answer = answer.Common }
+    record {
+      first = a;
+      second = b;
+      third = c;
+      fourth = d;
+      ending = ending.Branch;
+      least = least;
+      most = 255;
+      answer = answer.Common;
+    }
 
 -- scalars that are coerced
 abbrev pub scalars : ℕ → ℕ → Scalar → Scalar → Scalar → Scalar → Scalar → Row
 scalars least most a b c d r =
-    placed least most (takes.Scalar a) (takes.Scalar b) (takes.Scalar c) (takes.Scalar d) (answer.Scalar r)
+    placed least most (takes.Scalar a) (takes.Scalar b) (takes.Scalar c) (takes.Scalar d)
+    (answer.Scalar r)
 
 abbrev pub one : Scalar → Scalar → Row
 one a r = scalars 1 1 a a a a r
@@ -59,7 +87,8 @@ any = placed 1 1 takes.Any takes.Any takes.Any takes.Any (answer.Scalar Boolean)
 
 -- one value of just this type, as a text
 abbrev pub exact : Scalar → Row
-exact s = placed 1 1 (takes.Exact s) (takes.Exact s) (takes.Exact s) (takes.Exact s) (answer.Scalar Text)
+exact s = placed 1 1 (takes.Exact s) (takes.Exact s) (takes.Exact s) (takes.Exact s)
+    (answer.Scalar Text)
 
 -- a table, and then
 abbrev pub over : ℕ → ℕ → Takes → Takes → Answer → Row
@@ -132,7 +161,8 @@ row_of fun.IsBlank = any
 row_of fun.Coalesce = placed 1 255 takes.Choice takes.Choice takes.Choice takes.Choice answer.Common
 row_of fun.IsError = any
 row_of fun.IsBlankOrError = any
-row_of fun.Error = placed 1 1 takes.ErrorRecord takes.ErrorRecord takes.ErrorRecord takes.ErrorRecord (answer.Scalar Blank)
+row_of fun.Error = placed 1 1 takes.ErrorRecord takes.ErrorRecord takes.ErrorRecord
+    takes.ErrorRecord (answer.Scalar Blank)
 row_of fun.Date = scalars 3 3 Number Number Number Number Date
 row_of (fun.DateAdd u) = two Date Number Date
 row_of (fun.DateDiff u) = two Date Date Number
@@ -149,16 +179,20 @@ row_of fun.Last = over 1 1 takes.Any takes.Any answer.Row
 row_of fun.FirstN = over 1 2 (takes.Scalar Number) (takes.Scalar Number) answer.Same
 row_of fun.LastN = over 1 2 (takes.Scalar Number) (takes.Scalar Number) answer.Same
 row_of fun.CountRows = over 1 1 takes.Any takes.Any (answer.Scalar Number)
-row_of fun.CountIf = over 2 255 (takes.Formula Boolean) (takes.Formula Boolean) (answer.Scalar Number)
+row_of fun.CountIf = over 2 255 (takes.Formula Boolean) (takes.Formula Boolean)
+    (answer.Scalar Number)
 row_of fun.IsEmpty = over 1 1 takes.Any takes.Any (answer.Scalar Boolean)
 row_of fun.SumRows = over 2 2 (takes.Formula Number) (takes.Formula Number) (answer.Scalar Number)
 row_of fun.MinRows = over 2 2 (takes.Formula Number) (takes.Formula Number) (answer.Scalar Number)
 row_of fun.MaxRows = over 2 2 (takes.Formula Number) (takes.Formula Number) (answer.Scalar Number)
-row_of fun.AverageRows = over 2 2 (takes.Formula Number) (takes.Formula Number) (answer.Scalar Number)
-row_of fun.AddColumns = paired takes.Table takes.NewColumn takes.AnyFormula takes.NewColumn answer.Added
+row_of fun.AverageRows = over 2 2 (takes.Formula Number) (takes.Formula Number)
+    (answer.Scalar Number)
+row_of fun.AddColumns = paired takes.Table takes.NewColumn takes.AnyFormula takes.NewColumn
+    answer.Added
 row_of fun.DropColumns = over 2 255 takes.Column takes.Column answer.Dropped
 row_of fun.ShowColumns = over 2 255 takes.Column takes.Column answer.Shown
-row_of fun.RenameColumns = paired takes.Table takes.Column takes.NewColumn takes.Column answer.Renamed
+row_of fun.RenameColumns = paired takes.Table takes.Column takes.NewColumn takes.Column
+    answer.Renamed
 row_of fun.Distinct = over 2 2 takes.ScalarFormula takes.ScalarFormula answer.Values
 row_of fun.ForAll = over 2 2 takes.RowFormula takes.RowFormula answer.Each
 row_of fun.Concat = over 2 3 (takes.Formula Text) (takes.Scalar Text) (answer.Scalar Text)
@@ -167,14 +201,17 @@ row_of fun.Concat = over 2 3 (takes.Formula Text) (takes.Scalar Text) (answer.Sc
 abbrev pub form_row : Form → Row
 form_row form.All = many Boolean Boolean
 form_row form.Any = many Boolean Boolean
-form_row form.If = branched 2 (takes.Scalar Boolean) takes.Branch (takes.Scalar Boolean) takes.Branch
+form_row form.If = branched 2 (takes.Scalar Boolean) takes.Branch (takes.Scalar Boolean)
+    takes.Branch
 form_row form.Switch = branched 3 takes.Compared takes.Match takes.Branch takes.Match
-form_row form.IfError = placed 2 255 takes.Branch takes.Fallback takes.Branch takes.Fallback answer.Common
+form_row form.IfError = placed 2 255 takes.Branch takes.Fallback takes.Branch takes.Fallback
+    answer.Common
 
 -- what stands at a place without regard to the end
 abbrev pub inner_at : Row → ℕ → Takes
 inner_at r i =
-    if nat_eq i 0 then r.first else (if nat_eq i 1 then r.second else (if nat_eq (i % 2) 0 then r.third else r.fourth))
+    if nat_eq i 0 then r.first else (if nat_eq i 1 then r.second else
+    (if nat_eq (i % 2) 0 then r.third else r.fourth))
 
 -- what stands at a place, from 0, of so many arguments
 abbrev pub ended_at : Ending → Row → ℕ → ℕ → Takes

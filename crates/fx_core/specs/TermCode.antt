@@ -15,16 +15,20 @@ use Rattle.fx_core.specs.contracts.deeds.Deed.{the_row as deed_row}
 use Rattle.fx_core.specs.contracts.functions.Form.{the_row as form_row}
 use Rattle.fx_core.specs.contracts.functions.Fun.{the_row as fun_row}
 use Rattle.fx_core.specs.contracts.sources.Source.{the_row as source_row}
-use Rattle.fx_core.specs.Term.{Term, Terms, Top, of, nil, cons, const, read, row, item, caught, dot, call, over, form, within, rec, list, coerce, chain, act}
+use Rattle.fx_core.specs.Term.{Term, Terms, Top, of, nil, cons, const, read, row, item, caught, dot}
+use Rattle.fx_core.specs.Term.{call, over, form, within, rec, list, coerce, chain, act}
 
 -- what a head holds: one of eleven kinds, or nothing for the four heads that hold nothing
 abbrev Held : Type 0
-Held = Data ⊎ (Source ⊎ (ℕ ⊎ (List ℕ ⊎ (Fun ⊎ (Fun ⊎ (Form ⊎ (List (List ℕ) ⊎ (Shape ⊎ (Shape ⊎ (Deed ⊎ ℕ))))))))))
+Held = Data ⊎ (Source ⊎ (ℕ ⊎ (List ℕ ⊎ (Fun ⊎ (Fun
+    ⊎ (Form ⊎ (List (List ℕ) ⊎ (Shape ⊎ (Shape ⊎ (Deed ⊎ ℕ))))))))))
 
 abbrev held_code : Coded Held
 held_code =
-    coded⊎ data_code (coded⊎ source_row.coded (coded⊎ coded_ℕ (coded⊎ (coded_list coded_ℕ) (coded⊎ fun_row.coded (coded⊎ fun_row.coded
-    (coded⊎ form_row.coded (coded⊎ (coded_list (coded_list coded_ℕ)) (coded⊎ shape_code (coded⊎ shape_code (coded⊎ deed_row.coded coded_ℕ))))))))))
+    coded⊎ data_code (coded⊎ source_row.coded
+    (coded⊎ coded_ℕ (coded⊎ (coded_list coded_ℕ) (coded⊎ fun_row.coded (coded⊎ fun_row.coded
+    (coded⊎ form_row.coded (coded⊎ (coded_list (coded_list coded_ℕ))
+    (coded⊎ shape_code (coded⊎ shape_code (coded⊎ deed_row.coded coded_ℕ))))))))))
 
 abbrev held : Top → Held
 held (const d) = inl d
@@ -105,11 +109,13 @@ IsPair g = ⊥
 
 mutual
   pub term_same : (s t : Term) → of_term s ≡ of_term t → s ≡ t
-  term_same (of h ts) (of k us) p = λ i. of (top_code.inj h k (ap front p) i) (terms_same ts us (ap back p) i)
+  term_same (of h ts) (of k us) p = λ i. of (top_code.inj h k (ap front p) i)
+      (terms_same ts us (ap back p) i)
 
   pub terms_same : (ts us : Terms) → of_terms ts ≡ of_terms us → ts ≡ us
   terms_same nil nil p = refl
-  terms_same (cons t ts) (cons u us) p = λ i. cons (term_same t u (ap front p) i) (terms_same ts us (ap back p) i)
+  terms_same (cons t ts) (cons u us) p = λ i. cons (term_same t u (ap front p) i)
+      (terms_same ts us (ap back p) i)
   terms_same nil (cons u us) p = absurd (subst IsPair (sym p) tt)
   terms_same (cons t ts) nil p = absurd (subst IsPair p tt)
 

@@ -41,6 +41,7 @@ term_field_depth f = weighed-CoreFields-items-at-2.weight Term (λ t. term_size 
 field_depth-le : (f : List ℕ × Term) → term_field_depth f ≤ term_size f.1 + 1
 field_depth-le f = omega arith
 
-pub term_fields_fall : (fs : List (List ℕ × Term)) → most term_field_depth fs ≤ terms_size (field_terms fs)
+pub term_fields_fall : (fs : List (List ℕ × Term))
+    → most term_field_depth fs ≤ terms_size (field_terms fs)
 term_fields_fall [] = omega arith
 term_fields_fall (f ∷ fs) = omega (arith, field_depth-le f, term_fields_fall fs)

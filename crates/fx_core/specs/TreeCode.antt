@@ -178,7 +178,8 @@ abbrev pub trees_code : Coded (List Tree)
 trees_code = coded_list tree_code
 
 abbrev name_code : Coded FieldName
-name_code = code_by (List ℕ × ℕ) (coded× (coded_list coded_ℕ) coded_ℕ) (λ f. (f.text, f.at)) (λ p. record { text = p.0; at = p.1 }) (λ f. refl)
+name_code = code_by (List ℕ × ℕ) (coded× (coded_list coded_ℕ) coded_ℕ) (λ f. (f.text, f.at))
+    (λ p. record { text = p.0; at = p.1 }) (λ f. refl)
 
 abbrev pub tree_fields_code : Coded (List NamedTree)
 tree_fields_code = coded_list (coded× name_code tree_code)

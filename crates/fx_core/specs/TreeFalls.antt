@@ -41,6 +41,7 @@ tree_field_depth f = weighed-Parts-items-at-2.weight Tree (λ t. tree_size t + 1
 field_depth-le : (f : NamedTree) → tree_field_depth f ≤ tree_size f.1 + 1
 field_depth-le f = omega arith
 
-pub tree_fields_fall : (fs : List NamedTree) → most tree_field_depth fs ≤ forest_size (field_trees fs)
+pub tree_fields_fall : (fs : List NamedTree) → most tree_field_depth fs
+    ≤ forest_size (field_trees fs)
 tree_fields_fall [] = omega arith
 tree_fields_fall (f ∷ fs) = omega (arith, field_depth-le f, tree_fields_fall fs)

@@ -1,6 +1,7 @@
 -- What a formula is seen as.
 use Rattle.std.specs.Prelude.{ℕ}
-use Rattle.fx_core.specs.Tree.{Tree, node, Forest, none, more, forest, tree_field_names, places_of, field_trees, Head}
+use Rattle.fx_core.specs.Tree.{Tree, node, Forest, none, more, forest, tree_field_names, places_of}
+use Rattle.fx_core.specs.Tree.{field_trees, Head}
 use Rattle.fx_core.specs.Tree as tree
 use Rattle.fx_core.specs.declared.expr.Node.{Node}
 use Rattle.fx_core.specs.declared.expr.Node.TheVariants as n

@@ -1,7 +1,8 @@
 //! The lines that tell of broken rules.
 ghost use Rattle.std.specs.Prelude.{◌≡◌, ◌++◌, IfOk, OnOk, flat_map, string_bytes, encode_utf8_all};
 ghost use Rattle.std.specs.List.{list_any};
-ghost use Rattle.fx_core.specs.BrokenText.{address_of, single_quote_doubled, has_mark, broken_line, ended_line};
+ghost use Rattle.fx_core.specs.BrokenText.{address_of, single_quote_doubled, has_mark, broken_line};
+ghost use Rattle.fx_core.specs.BrokenText.{ended_line};
 
 use crate::broken::Broken;
 use fx_base::Memory;
@@ -33,8 +34,8 @@ pub fn lines(alloc: Global, all: &[Broken]) -> Result<String, Memory>
     Ok(text)
 }
 
-/// A name as addresses show it: one with a point or a quote in it stands between single quotes, with each of its own
-/// doubled.
+/// A name as addresses show it: one with a point or a quote in it stands between single quotes,
+/// with each of its own doubled.
 pub fn address(alloc: Global, name: &Words) -> Result<Words, Memory>
     ensures { IfOk result (λ w. w ≡ address_of name.now) }
 {
@@ -66,7 +67,8 @@ fn is_mark(c: char) -> bool
 
 /// A character, and a single quote twice.
 fn push_doubled(out: &mut String, c: char) -> Result<(), Memory>
-    ensures { OnOk result (string_bytes out.new ≡ string_bytes out.old ++ encode_utf8_all (single_quote_doubled c)) }
+    ensures { OnOk result (string_bytes out.new
+        ≡ string_bytes out.old ++ encode_utf8_all (single_quote_doubled c)) }
 {
     if c == '\'' {
         out.push('\'')?;

@@ -1,5 +1,6 @@
 //! A formula as a tree. Brackets leave no node: the tree itself says what belongs together.
-ghost use Rattle.std.specs.Prelude.{◌≡◌, ◌≤◌, ◌++◌, ◌∷◌, [], length, slice_get, Some, OnOk, OnErr, IfOk, IsTrue, ◌↔◌, MatchOption};
+ghost use Rattle.std.specs.Prelude.{◌≡◌, ◌≤◌, ◌++◌, ◌∷◌, [], length, slice_get, Some, OnOk, OnErr};
+ghost use Rattle.std.specs.Prelude.{IfOk, IsTrue, ◌↔◌, MatchOption};
 
 use fx_base::Memory;
 use fx_number::Num;
@@ -7,7 +8,8 @@ use fx_types::words::Words;
 use std::alloc::Global;
 use std::marker::Model;
 
-/// An operator between two operands. `&`, `&&`, `||` and `;` are none: they join any number of parts.
+/// An operator between two operands. `&`, `&&`, `||` and `;` are none: they join any number of
+/// parts.
 #[derive(Clone, Copy)]
 pub enum Op {
     /// `+`
@@ -47,7 +49,8 @@ pub struct Expr {
     pub node: Node,
 }
 
-// By hand, so that it is called: what is derived is opened wherever a value may end, which costs proofs seconds each time.
+// By hand, so that it is called: what is derived is opened wherever a value may end, which costs
+// proofs seconds each time.
 impl Drop for Expr {
     fn drop(self) {
         let Expr { at: _, node: _ } = self;

@@ -1,5 +1,6 @@
 //! Named formulas, found by their names.
-ghost use Rattle.std.specs.Prelude.{◌≡◌, ◌≤◌, ◌++◌, ◌∷◌, [], length, slice_get, option_map, IfOk, OnOk, OnErr, MatchOption};
+ghost use Rattle.std.specs.Prelude.{◌≡◌, ◌≤◌, ◌++◌, ◌∷◌, [], length, slice_get, option_map, IfOk};
+ghost use Rattle.std.specs.Prelude.{OnOk, OnErr, MatchOption};
 ghost use Rattle.std.specs.BTreeMap.{IsUnchanged};
 ghost use Rattle.fx_core.specs.Formulas.{IsIndexNoted, formula_named, retyped};
 
@@ -11,7 +12,8 @@ use std::alloc::Global;
 use std::collections::BTreeMap;
 use std::marker::Model;
 
-/// Named formulas in app order, which are found by their names without a search through all of them.
+/// Named formulas in app order, which are found by their names without a search through all of
+/// them.
 #[derive(Drop)]
 pub struct FormulaList {
     items: Vec<FormulaName>,

@@ -3,8 +3,8 @@
 use crate::literals::SortOrder;
 use fx_types::formats::{DateFormat, NumberFormat, TimeUnit};
 
-/// A pure function, or an operator with one row of its operands' types. Literal arguments (a unit, an
-/// order, a format) are a part of the function. All other arguments are values.
+/// A pure function, or an operator with one row of its operands' types. Literal arguments (a unit,
+/// an order, a format) are a part of the function. All other arguments are values.
 #[derive(Clone, Copy, Debug, PartialEq, Eq)]
 pub enum Fun {
     /// Number `+` Number

@@ -1,4 +1,5 @@
-//! The trees of formulas, plain and typed, the functions and rules that they name, and what an app names.
+//! The trees of formulas, plain and typed, the functions and rules that they name, and what an app
+//! names.
 #![tactic(auto)]
 
 mod app_end;

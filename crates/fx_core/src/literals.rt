@@ -94,9 +94,9 @@ fn text_format(text: &str) -> Option<Fun>
     }
 }
 
-/// The function that a literal behind the other arguments makes of a function: the unit of `DateAdd`
-/// and `DateDiff`, the order of `Sort`, the format of `Text`. None where the function takes no such
-/// literal.
+/// The function that a literal behind the other arguments makes of a function: the unit of
+/// `DateAdd` and `DateDiff`, the order of `Sort`, the format of `Text`. None where the function
+/// takes no such literal.
 pub fn with_literal(fun: Fun, literal: &str) -> Option<Fun>
     ensures { result ≡ spelled.with_literal fun literal.now }
 {

@@ -1,7 +1,8 @@
-//! Trees made of their parts. `at` is always the byte at which the tree's first token begins. These calls spare those
-//! who make trees the boxes in them.
+//! Trees made of their parts. `at` is always the byte at which the tree's first token begins. These
+//! calls spare those who make trees the boxes in them.
 ghost use Rattle.std.specs.Prelude.{◌≡◌, IfOk};
-ghost use Rattle.fx_core.specs.Tree.{node, none, more, forest, tree_field_names, places_of, field_trees};
+ghost use Rattle.fx_core.specs.Tree.{node, none, more, forest, tree_field_names, places_of};
+ghost use Rattle.fx_core.specs.Tree.{field_trees};
 ghost use Rattle.fx_core.specs.Tree as tree;
 
 use crate::expr::{Args, Expr, Node, Op, Parts};
@@ -132,7 +133,8 @@ pub fn weave(at: u32, parts: Args) -> Expr
 
 /// A record of these fields.
 pub fn record_of(at: u32, fields: Parts) -> Expr
-    ensures { result ≡ node at (tree.rec (tree_field_names fields) (places_of fields)) (field_trees fields) }
+    ensures { result ≡ node at (tree.rec (tree_field_names fields) (places_of fields))
+        (field_trees fields) }
 {
     Expr {
         at,

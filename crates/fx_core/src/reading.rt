@@ -1,6 +1,8 @@
 //! Which sources a typed tree reads.
-ghost use Rattle.std.specs.Prelude.{◌≡◌, ◌≤◌, ◌++◌, [], length, insert, IfOk, OnOk, OnErr, MatchOption, ◌↔◌};
-ghost use Rattle.fx_core.specs.Reads.{AreSourcesRising, IsAmong, source_order, source_rank, source_number, sources_in, sources_among};
+ghost use Rattle.std.specs.Prelude.{◌≡◌, ◌≤◌, ◌++◌, [], length, insert, IfOk, OnOk, OnErr};
+ghost use Rattle.std.specs.Prelude.{MatchOption, ◌↔◌};
+ghost use Rattle.fx_core.specs.Reads.{AreSourcesRising, IsAmong, source_order, source_rank};
+ghost use Rattle.fx_core.specs.Reads.{source_number, sources_in, sources_among};
 ghost use Rattle.fx_core.specs.Term.{all, field_terms};
 ghost use Rattle.fx_core.specs.Rising.{put, put_all};
 
@@ -77,11 +79,12 @@ fn sort_sources(alloc: Global, sources: &[Source]) -> Result<Vec<Source>, Memory
 }
 
 impl Core {
-    /// The sources that the tree names, each once, in the order of `Source`. What acting parts change
-    /// is not read.
+    /// The sources that the tree names, each once, in the order of `Source`. What acting parts
+    /// change is not read.
     pub fn reads(&self, alloc: Global) -> Result<Vec<Source>, Memory>
         ensures once { IfOk result (λ r. AreSourcesRising r.items) }
-        ensures exact { IfOk result (λ r. (s : Source) → IsAmong s r.items ↔ IsAmong s (sources_in self.now)) }
+        ensures exact { IfOk result (λ r. (s : Source) → IsAmong s r.items
+            ↔ IsAmong s (sources_in self.now)) }
     {
         let mut named = Vec::new(alloc);
         self.gather(&mut named)?;
@@ -136,7 +139,8 @@ impl CoreArgs {
 impl CoreFields {
     #[cycle(gather)]
     fn gather(&self, named: &mut Vec<Source>) -> Result<(), Memory>
-        ensures { OnOk result (named.new.items ≡ named.old.items ++ sources_among (field_terms self.now)) }
+        ensures { OnOk result (named.new.items
+            ≡ named.old.items ++ sources_among (field_terms self.now)) }
     {
         for (_, part) in &self.items {
             part.gather(named)?;

@@ -154,7 +154,8 @@ impl Row {
     }
 }
 
-/// Whether a number of arguments lies between the least and the greatest, where 255 means any number.
+/// Whether a number of arguments lies between the least and the greatest, where 255 means any
+/// number.
 pub fn is_within(least: u8, most: u8, count: usize) -> bool
     ensures { result ≡ table.is_arity least most count }
 {

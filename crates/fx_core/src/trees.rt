@@ -1,5 +1,6 @@
 //! Typed trees: what a formula evaluates, with every type settled.
-ghost use Rattle.std.specs.Prelude.{◌≡◌, ◌≤◌, ◌++◌, ◌∷◌, [], length, slice_get, Some, OnOk, OnErr, IfOk, IsTrue, ◌↔◌, MatchOption};
+ghost use Rattle.std.specs.Prelude.{◌≡◌, ◌≤◌, ◌++◌, ◌∷◌, [], length, slice_get, Some, OnOk, OnErr};
+ghost use Rattle.std.specs.Prelude.{IfOk, IsTrue, ◌↔◌, MatchOption};
 
 use crate::deeds::Deed;
 use crate::functions::Fun;
@@ -18,7 +19,8 @@ pub struct Core {
     pub node: CoreNode,
 }
 
-// By hand, so that it is called: what is derived is opened wherever a value may end, which costs proofs seconds each time.
+// By hand, so that it is called: what is derived is opened wherever a value may end, which costs
+// proofs seconds each time.
 impl Drop for Core {
     fn drop(self) {
         let Core { node: _ } = self;
@@ -50,8 +52,8 @@ pub enum CoreNode {
     With(Box<Core>, Box<Core>),
     /// A record of these fields, by rising names.
     Rec(CoreFields),
-    /// A table of these rows. Where the type has no parts, each part is the column `Value` of a row.
-    /// Else it is that of a record, each part is a row, and a blank part a row of blanks.
+    /// A table of these rows. Where the type has no parts, each part is the column `Value` of a
+    /// row. Else it is that of a record, each part is a row, and a blank part a row of blanks.
     List(Ty, CoreArgs),
     /// Conditions from left to right, up to the first that is false or an error.
     All(CoreArgs),

@@ -5,7 +5,8 @@ use Rattle.fx_core.specs.declared.schema.Column.{Column}
 use Rattle.fx_core.specs.declared.sources.Source.{Source}
 use Rattle.fx_core.specs.declared.sources.Source.TheVariants as source
 use Rattle.session_state.specs.declared.change.Change.{Change}
-use Rattle.session_state.specs.declared.change.Change.TheVariants.{Global, Context, Gather, Empty, Input, Choose, Screen, Notice}
+use Rattle.session_state.specs.declared.change.Change.TheVariants.{Global, Context, Gather, Empty}
+use Rattle.session_state.specs.declared.change.Change.TheVariants.{Input, Choose, Screen, Notice}
 use Rattle.session_state.specs.Changes.{is_change_refused, made}
 use Rattle.row_keeper.specs.Changes.{Inserts, Removes, Replaces}
 use Rattle.row_keeper.specs.Tables.{Tables}
@@ -47,13 +48,18 @@ by_found true k b s = with_table k b s
 by_found false k b s = s
 
 -- a new row of a table, or the rule that it breaks
-abbrev pub IsRowMade : {A : Type 0} → List Column → ℕ → List Data → Put → WorldState A → WorldState A → Type 0
-IsRowMade columns k cells p s t = (b : Tables) × Inserts columns k cells p s.tables b × (t ≡ by_put p k b s)
+abbrev pub IsRowMade : {A : Type 0} → List Column → ℕ → List Data → Put → WorldState A
+    → WorldState A → Type 0
+IsRowMade columns k cells p s t = (b : Tables) × Inserts columns k cells p s.tables b
+    × (t ≡ by_put p k b s)
 
 -- other cells in a row of a table, or that there is none, or the rule that they break
-abbrev pub IsRowChanged : {A : Type 0} → List Column → ℕ → ℕ → List Data → Put → WorldState A → WorldState A → Type 0
-IsRowChanged columns k id cells p s t = (b : Tables) × Replaces columns k id cells p s.tables b × (t ≡ by_put p k b s)
+abbrev pub IsRowChanged : {A : Type 0} → List Column → ℕ → ℕ → List Data → Put → WorldState A
+    → WorldState A → Type 0
+IsRowChanged columns k id cells p s t = (b : Tables) × Replaces columns k id cells p s.tables b
+    × (t ≡ by_put p k b s)
 
 -- a row of a table is taken out, or there is none
 abbrev pub IsRowRemoved : {A : Type 0} → ℕ → ℕ → Bool → WorldState A → WorldState A → Type 0
-IsRowRemoved k id found s t = (b : Tables) × Removes k id found s.tables b × (t ≡ by_found found k b s)
+IsRowRemoved k id found s t = (b : Tables) × Removes k id found s.tables b
+    × (t ≡ by_found found k b s)

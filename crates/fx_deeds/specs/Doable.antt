@@ -12,7 +12,8 @@ use Rattle.fx_core.specs.declared.sources.Source.TheVariants as source
 use Rattle.fx_typing.specs.LawfulTypes.{AreLawfulColumns}
 use Rattle.fx_typing.specs.WellTyped.{target_source}
 use Rattle.fx_value.specs.Fits.{fits_in}
-use Rattle.fx_deeds.specs.Fitting.{AreOfSome, CollectionCanTake, SourceCanTake, CanTakeAll, IsOfColumns, SourceTypes}
+use Rattle.fx_deeds.specs.Fitting.{AreOfSome, CollectionCanTake, SourceCanTake, CanTakeAll}
+use Rattle.fx_deeds.specs.Fitting.{IsOfColumns, SourceTypes}
 use Rattle.fx_deeds.specs.RowValues.{rows_among}
 
 -- the rows that change have these columns
@@ -31,7 +32,8 @@ CanDo types (deed.UpdateContext ks) ys = CanTakeAll types ks ys
 CanDo types (deed.Collect k) ys = CollectionCanTake types k ys
 CanDo types (deed.Clear k) [] = (cs : ColumnList) × IsOfColumns types k cs
 CanDo types (deed.ClearCollect k) ys = CollectionCanTake types k ys
-CanDo types (deed.Patch p) (b ∷ ys) = (cs : ColumnList) × RowsHaveColumns types p cs × AreLawfulColumns cs × IsBase p cs b × AreOfSome cs (rows_among ys)
+CanDo types (deed.Patch p) (b ∷ ys) = (cs : ColumnList) × RowsHaveColumns types p cs
+    × AreLawfulColumns cs × IsBase p cs b × AreOfSome cs (rows_among ys)
 CanDo types (deed.Remove p) ys = (cs : ColumnList) × RowsHaveColumns types p cs
 CanDo types (deed.RemoveIf p) (y ∷ []) = (cs : ColumnList) × RowsHaveColumns types p cs
 CanDo types (deed.Navigate k) [] = Unit {0}
@@ -42,7 +44,8 @@ CanDo types d ys = ⊥
 -- `UpdateIf` with these rows of its filter, and a change of each
 abbrev pub CanUpdate : SourceTypes → Target → List Row → List Data → Type 0
 CanUpdate types p rows changes =
-    (cs : ColumnList) × RowsHaveColumns types p cs × AreLawfulColumns cs × (fits_in (table_of rows) (tables cs) ≡ true) × AreOfSome cs (rows_among changes)
+    (cs : ColumnList) × RowsHaveColumns types p cs × AreLawfulColumns cs
+    × (fits_in (table_of rows) (tables cs) ≡ true) × AreOfSome cs (rows_among changes)
 
 -- `Patch` answers a row, and all else true
 abbrev pub AnswersAs : SourceTypes → Deed → Shape → Type 0

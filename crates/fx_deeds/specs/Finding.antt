@@ -1,5 +1,6 @@
 -- How the row of a number is found and changed.
-use Rattle.std.specs.Prelude.{◌≡◌, ℕ, List, [], ◌∷◌, Option, Some, None, Ok, MatchOption, MatchResult, option_map, slice_get}
+use Rattle.std.specs.Prelude.{◌≡◌, ℕ, List, [], ◌∷◌, Option, Some, None, Ok, MatchOption}
+use Rattle.std.specs.Prelude.{MatchResult, option_map, slice_get}
 use Rattle.std.specs.List.{find}
 use Rattle.fx_types.specs.declared.values.Value.{Value}
 use Rattle.fx_types.specs.Values.{Data}
@@ -30,14 +31,17 @@ first_cells columns [] = None
 first_cells columns (r ∷ rs) = Some (cells_in columns r)
 
 -- the cells of the row of a number were found, if there is one, and nothing changed
-abbrev pub FindsCells : {A : Type 0} → ℕ → ℕ → Option (List Data) → WorldState A → WorldState A → Type 0
+abbrev pub FindsCells : {A : Type 0} → ℕ → ℕ → Option (List Data) → WorldState A → WorldState A
+    → Type 0
 FindsCells k id o s t = (t ≡ s) × (o ≡ option_map (λ (r : Row). r.cells) (row_numbered k id s))
 
 -- the row of a number gets the cells that changes leave, if it is there
-abbrev pub IsRowPatched : {A : Type 0} → TableShape → ℕ → List Fields → ℕ → List Data → Put → WorldState A → WorldState A → Type 0
+abbrev pub IsRowPatched : {A : Type 0} → TableShape → ℕ → List Fields → ℕ → List Data → Put
+    → WorldState A → WorldState A → Type 0
 IsRowPatched p k changes id cells put s t =
     MatchOption (row_numbered k id s) ((put ≡ NoRow) × (t ≡ s))
-    (λ (r : Row). (cells ≡ changed_cells p.columns changes r.cells) × IsRowChanged p.columns k id cells put s t)
+    (λ (r : Row). (cells ≡ changed_cells p.columns changes r.cells)
+    × IsRowChanged p.columns k id cells put s t)
 
 -- the shape of a table, which is lawful
 abbrev pub IsShape : Schema → ℕ → TableShape → Type 0
@@ -77,9 +81,13 @@ IsPutEnd p put None = (n : ℕ) × (put ≡ Id n)
 IsPutEnd p put (Some e) = IsRowStopped p put (view e)
 
 -- one row of `UpdateIf` was changed, or this is answered
-abbrev pub IsUpdatedRow : {A : Type 0} → TableShape → ℕ → Fields → Data → Option Value → WorldState A → WorldState A → Type 0
+abbrev pub IsUpdatedRow : {A : Type 0} → TableShape → ℕ → Fields → Data → Option Value
+    → WorldState A → WorldState A → Type 0
 IsUpdatedRow p k r c None s t =
-    (id n : ℕ) × (cells : List Data) × (named_id (row_id_value (record_of r)) ≡ Ok id) × IsRowPatched p k (rows_in c) id cells (Id n) s t
+    (id n : ℕ) × (cells : List Data) × (named_id (row_id_value (record_of r)) ≡ Ok id)
+    × IsRowPatched p k (rows_in c) id cells (Id n) s t
 IsUpdatedRow p k r c (Some e) s t =
-    MatchResult (named_id (row_id_value (record_of r))) (λ id. (cells : List Data) × (put : Put) × IsRowPatched p k (rows_in c) id cells put s t × IsRowStopped p put (view e))
+    MatchResult (named_id (row_id_value (record_of r)))
+    (λ id. (cells : List Data) × (put : Put) × IsRowPatched p k (rows_in c) id cells put s t
+    × IsRowStopped p put (view e))
     (λ f. AnswersOnly f s (view e) t)

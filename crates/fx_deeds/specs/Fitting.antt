@@ -22,7 +22,8 @@ SourceTypes = Source → Option Shape
 
 -- each table may be read, at its type
 abbrev pub WorldReadsTables : Fixed → Type 0
-WorldReadsTables fixed = (n : ℕ) (t : TableShape) → slice_get fixed.schema.tables n ≡ Some t → fixed.types (source.Table n) ≡ Some (tables (columns_of t))
+WorldReadsTables fixed = (n : ℕ) (t : TableShape) → slice_get fixed.schema.tables n ≡ Some t
+    → fixed.types (source.Table n) ≡ Some (tables (columns_of t))
 
 -- a value of the source's type
 abbrev pub SourceCanTake : SourceTypes → Source → Data → Type 0
@@ -31,7 +32,8 @@ SourceCanTake types x d = (t : Shape) × (types x ≡ Some t) × (fits_in d t �
 -- values for variables of a screen, one for each
 abbrev pub CanTakeAll : SourceTypes → List Source → List Data → Type 0
 CanTakeAll types [] [] = Unit {0}
-CanTakeAll types (source.Context k ∷ ks) (d ∷ ds) = SourceCanTake types (source.Context k) d × CanTakeAll types ks ds
+CanTakeAll types (source.Context k ∷ ks) (d ∷ ds)
+    = SourceCanTake types (source.Context k) d × CanTakeAll types ks ds
 CanTakeAll types ks ds = ⊥
 
 -- the first of these is a variable of a screen
@@ -51,7 +53,8 @@ AreOf t (d ∷ ds) = (fits_in d t ≡ true) × AreOf t ds
 -- each value of a row of these columns after changes can be one of its column's type
 abbrev pub CanChange : ColumnList → List Row → Row → Type 0
 CanChange no_columns changes r = Unit {0}
-CanChange (column n t cs) changes r = CanWiden (changed_value n changes (unwrap_or (item_named n r) blank)) t × CanChange cs changes r
+CanChange (column n t cs) changes r = CanWiden
+    (changed_value n changes (unwrap_or (item_named n r) blank)) t × CanChange cs changes r
 
 -- rows for a collection
 abbrev pub CollectionCanTake : SourceTypes → ℕ → List Data → Type 0

@@ -11,7 +11,8 @@ use Rattle.fx_deeds.specs.RowValues.{changed_row, record_row}
 use Rattle.fx_deeds.specs.State.{WorldState}
 
 -- what is left to do decides of the whole
-abbrev pub RestDecides : {A : Type 0} → (WorldState A → Data → WorldState A → Type 0) → (WorldState A → Data → WorldState A → Type 0) → WorldState A → WorldState A → Type 0
+abbrev pub RestDecides : {A : Type 0} → (WorldState A → Data → WorldState A → Type 0)
+    → (WorldState A → Data → WorldState A → Type 0) → WorldState A → WorldState A → Type 0
 RestDecides {A} R W s m = (x : Data) (t : WorldState A) → R m x t → W s x t
 
 -- records as rows

@@ -1,5 +1,7 @@
 -- Rows as values: their numbers, their cells, and changes of them.
-use Rattle.std.specs.Prelude.{ℕ, suc, zero, ◌/◌, ◌%◌, ◌==◌, ◌&&◌, ℤ, pos, negsuc, nat_le, Bool, true, false, List, [], ◌∷◌, ◌++◌, map, Option, Some, None, unwrap_or, if◌then◌else◌}
+use Rattle.std.specs.Prelude.{ℕ, suc, zero, ◌/◌, ◌%◌, ◌==◌, ◌&&◌, ℤ, pos, negsuc, nat_le, Bool}
+use Rattle.std.specs.Prelude.{true, false, List, [], ◌∷◌, ◌++◌, map, Option, Some, None, unwrap_or}
+use Rattle.std.specs.Prelude.{if◌then◌else◌}
 use Rattle.fx_types.specs.Lookup.{item_named}
 use Rattle.fx_types.specs.declared.faults.Kind.{Kind}
 use Rattle.fx_types.specs.declared.faults.Kind.TheVariants as kind
@@ -33,9 +35,11 @@ not_found = fault kind.NotFound []
 
 -- ---- numbers of rows
 
--- the number of a row: a whole one from 1 to 4,294,967,295, which stands as a count of ten-thousandths
+-- the number of a row: a whole one from 1 to 4,294,967,295, which stands as a count of
+-- ten-thousandths
 abbrev pub id_in : ℤ → Option ℕ
-id_in (pos n) = if n % 10000 == 0 && (nat_le 1 (n / 10000) && nat_le (n / 10000) 4294967295) then Some (n / 10000) else None
+id_in (pos n) = if n % 10000 == 0 && (nat_le 1 (n / 10000) && nat_le (n / 10000) 4294967295) then
+    Some (n / 10000) else None
 id_in (negsuc n) = None
 
 -- ---- changes
@@ -53,7 +57,8 @@ abbrev pub values_among : List Row → List Data
 values_among [] = []
 values_among (r ∷ rs) = field_values r ++ values_among rs
 
--- the value that stands under a name after changes, each a record of some columns: that of the last one that has it
+-- the value that stands under a name after changes, each a record of some columns: that of the last
+-- one that has it
 abbrev pub changed_value : List ℕ → List Row → Data → Data
 changed_value n [] d = d
 changed_value n (r ∷ rs) d = changed_value n rs (unwrap_or (item_named n r) d)
@@ -61,11 +66,16 @@ changed_value n (r ∷ rs) d = changed_value n rs (unwrap_or (item_named n r) d)
 -- a row of these columns after changes, each value as one of its column's type
 abbrev pub changed_row : ColumnList → List Row → Row → Row
 changed_row no_columns changes r = []
-changed_row (column n t cs) changes r = (n, widened (changed_value n changes (unwrap_or (item_named n r) blank)) t) ∷ changed_row cs changes r
+changed_row (column n t cs) changes r = (
+  n,
+  widened
+      (changed_value n changes (unwrap_or (item_named n r) blank)) t,
+) ∷ changed_row cs changes r
 
 -- the cells of a row after changes
 abbrev pub changed_cells : List Column → List Row → List Data → List Data
-changed_cells (c ∷ cs) changes (d ∷ ds) = changed_value c.name changes d ∷ changed_cells cs changes ds
+changed_cells (c ∷ cs) changes (d ∷ ds) = changed_value c.name changes d
+    ∷ changed_cells cs changes ds
 changed_cells cs changes ds = []
 
 -- the cells of a new row

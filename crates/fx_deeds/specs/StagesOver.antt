@@ -1,4 +1,5 @@
--- What a performing finds and leaves, by the ghost members of its world as arguments: those of an environment, and its own.
+-- What a performing finds and leaves, by the ghost members of its world as arguments: those of an
+-- environment, and its own.
 use Rattle.fx_base.specs.Silence.{MayFallSilent, SilenceCause}
 use Rattle.fx_env.specs.declared.environment.Env as env
 use Rattle.fx_deeds.specs.WorldSteps as by_place
@@ -11,10 +12,12 @@ module _ {W : Type 0} (e : env.Ghosts W) (g : world.Ghosts W) where
   abbrev pub staged : W → Stage g.App
   staged w = stage (e.fixed w) (g.state w) (e.marks w) (e.visited w)
 
-  -- types and schema are as they were, and what has changed was written; it falls silent only where a fault or a doubt is why
+  -- types and schema are as they were, and what has changed was written; it falls silent only where
+  -- a fault or a doubt is why
   abbrev pub Passed : W → W → Type 0
   Passed old new = by_place.Passed (staged old) (staged new)
 
   -- the state goes so, where it is told
   abbrev pub StateBecomes : W → W → (WorldState g.App → WorldState g.App → Type 0) → Type 0
-  StateBecomes old new P = MayFallSilent (SilenceCause (e.marks old) (e.marks new)) P (g.state old) (g.state new)
+  StateBecomes old new P = MayFallSilent (SilenceCause (e.marks old) (e.marks new)) P (g.state old)
+      (g.state new)

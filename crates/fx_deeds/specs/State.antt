@@ -10,8 +10,8 @@ use Rattle.fx_semantics.specs.Around.{Around}
 use Rattle.row_keeper.specs.Tables.{Tables}
 use Rattle.session_state.specs.Sessions.{SessionState}
 
--- what no change touches, as the formulas of cells and the moment; the tables, the session, and the sources
--- that were written
+-- what no change touches, as the formulas of cells and the moment; the tables, the session, and the
+-- sources that were written
 pub record WorldState (A : Type 0) : Type 0 where
   pub app : A
   pub tables : Tables
@@ -23,7 +23,8 @@ abbrev pub Giving : Type 0 → Type 1
 Giving A = WorldState A → Source → Data → Type 0
 
 -- the value that is told of each of these sources that has a type is one that it gives in the state
-abbrev pub AreReady : {A : Type 0} → (Source → Option Shape) → Giving A → List Source → Option (WorldState A) → Option (Source → Data) → Type 0
+abbrev pub AreReady : {A : Type 0} → (Source → Option Shape) → Giving A → List Source
+    → Option (WorldState A) → Option (Source → Data) → Type 0
 AreReady {A} types gives reads state told =
     (s : WorldState A) (values : Source → Data) → state ≡ Some s → told ≡ Some values →
     (x : Source) (t : Shape) → IsAmong x reads → types x ≡ Some t → gives s x (values x)

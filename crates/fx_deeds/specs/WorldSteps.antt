@@ -13,9 +13,15 @@ pub record Stage (A : Type 0) : Type 0 where
   pub visited : ℕ
 
 abbrev pub stage : {A : Type 0} → Fixed → Option (WorldState A) → Marks → ℕ → Stage A
-stage fixed state marks visited = record { fixed = fixed; state = state; marks = marks; visited = visited }
+stage fixed state marks visited = record {
+  fixed = fixed;
+  state = state;
+  marks = marks;
+  visited = visited;
+}
 
--- types and schema are as they were, and what has changed was written; it falls silent only where a fault or a doubt is why
+-- types and schema are as they were, and what has changed was written; it falls silent only where a
+-- fault or a doubt is why
 pub record Passed {A : Type 0} (a b : Stage A) : Type 0 where
   pub fixed : b.fixed ≡ a.fixed
   pub state : MayFallSilent (SilenceCause a.marks b.marks) Within a.state b.state

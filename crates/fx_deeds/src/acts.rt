@@ -20,8 +20,8 @@ use fx_types::Value;
 use std::alloc::Global;
 use std::sync::ledger::Ledger;
 
-/// Does a deed with the values of its parts. `UpdateIf`, whose parts have a value for each row, has a call of its own. At
-/// each exit no source was written but those that the deed names.
+/// Does a deed with the values of its parts. `UpdateIf`, whose parts have a value for each row, has
+/// a call of its own. At each exit no source was written but those that the deed names.
 pub fn do_deed<W: World, L: Ledger>(
     alloc: Global,
     world: &mut W,
@@ -33,12 +33,15 @@ pub fn do_deed<W: World, L: Ledger>(
     ensures passed { Passed W.Env W.World.own world.old world.new }
     ensures only { StateBecomes W.Env W.World.own world.old world.new
         (WritesOnly (DeedMayWrite deed.now)) }
-    ensures keeper { IsErrOf result Stop.Keeper → Rose (W.marks world.old).faults (W.marks world.new).faults }
+    ensures keeper { IsErrOf result Stop.Keeper
+        → Rose (W.marks world.old).faults (W.marks world.new).faults }
     ensures done { IfOk result (λ x. StateBecomes W.Env W.World.own world.old world.new
-        (λ s t. IsDeed (eval_frame (W.fixed world.old)) deed.now (map view values.items) s (view x) t)) }
+        (λ s t. IsDeed (eval_frame (W.fixed world.old)) deed.now (map view values.items) s (view x)
+        t)) }
     ensures cut { OnErr result (StateBecomes W.Env W.World.own world.old world.new
         (CutDeed (eval_frame (W.fixed world.old)) deed.now (map view values.items))) }
-    ensures fits { (u : Shape) → AnswersAs (W.fixed world.old).types deed.now u → IfOk result (λ x. fits_in (view x) u ≡ true) }
+    ensures fits { (u : Shape) → AnswersAs (W.fixed world.old).types deed.now u
+        → IfOk result (λ x. fits_in (view x) u ≡ true) }
 {
     match deed {
         Deed::Set(variable) => set(alloc, world, *variable, only(values)),

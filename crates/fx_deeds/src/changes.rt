@@ -1,5 +1,6 @@
 //! Changes of a world, one call each.
-ghost use Rattle.std.specs.Prelude.{◌≡◌, ◌∷◌, [], IfOk, IsErrOf, IsSome, IsSomeAnd, OnErr, slice_get, true};
+ghost use Rattle.std.specs.Prelude.{◌≡◌, ◌∷◌, [], IfOk, IsErrOf, IsSome, IsSomeAnd, OnErr};
+ghost use Rattle.std.specs.Prelude.{slice_get, true};
 ghost use Rattle.fx_base.specs.Faults.{Rose};
 ghost use Rattle.fx_base.specs.Telling.{Stays};
 ghost use Rattle.fx_types.specs.Types.{Shape};
@@ -32,7 +33,8 @@ pub(crate) fn change<W: World>(world: &mut W, change: Change) -> Result<bool, St
     ensures only { StateBecomes W.Env W.World.own world.old world.new
         (WritesOnly (IsOneOf (written change))) }
     ensures named { W.names world.new ≡ W.names world.old }
-    ensures keeper { IsErrOf result Stop.Keeper → Rose (W.marks world.old).faults (W.marks world.new).faults }
+    ensures keeper { IsErrOf result Stop.Keeper
+        → Rose (W.marks world.old).faults (W.marks world.new).faults }
     ensures done { IfOk result (λ done. StateBecomes W.Env W.World.own world.old world.new
         (IsChanged change done)) }
     ensures stops { OnErr result (StateBecomes W.Env W.World.own world.old world.new Stays) }
@@ -51,12 +53,14 @@ pub(crate) fn make<W: World>(
     ensures passed { Passed W.Env W.World.own world.old world.new }
     ensures only { StateBecomes W.Env W.World.own world.old world.new
         (WritesOnly (IsOneOf (written wanted))) }
-    ensures keeper { IsErrOf result Stop.Keeper → Rose (W.marks world.old).faults (W.marks world.new).faults }
+    ensures keeper { IsErrOf result Stop.Keeper
+        → Rose (W.marks world.old).faults (W.marks world.new).faults }
     ensures done { IfOk result (λ x. StateBecomes W.Env W.World.own world.old world.new
         (λ s t. Makes wanted (view taken) s (view x) t)) }
     ensures cut { OnErr result (StateBecomes W.Env W.World.own world.old world.new
         (UpTo (λ s n x t. Makes wanted (view taken) s x t))) }
-    ensures fits { (u : Shape) → fits_in (view taken) u ≡ true → IfOk result (λ x. fits_in (view x) u ≡ true) }
+    ensures fits { (u : Shape) → fits_in (view taken) u ≡ true
+        → IfOk result (λ x. fits_in (view x) u ≡ true) }
 {
     let done = change(world, wanted)?;
     Ok(taken_or(alloc, done, taken)?)
@@ -64,35 +68,42 @@ pub(crate) fn make<W: World>(
 
 /// Puts a new row into a table, or says which rule it breaks first.
 pub(crate) fn insert<W: World>(world: &mut W, table: u16, cells: &Cells) -> Result<Put, Stop>
-    requires { IsSomeAnd (slice_get (W.fixed world.old).schema.tables table) (λ t. AreCellsOf t.columns cells.now) }
+    requires { IsSomeAnd (slice_get (W.fixed world.old).schema.tables table)
+        (λ t. AreCellsOf t.columns cells.now) }
     ensures passed { Passed W.Env W.World.own world.old world.new }
     ensures only { StateBecomes W.Env W.World.own world.old world.new
         (WritesOnly (IsOneOf (source.Table table ∷ []))) }
-    ensures keeper { IsErrOf result Stop.Keeper → Rose (W.marks world.old).faults (W.marks world.new).faults }
+    ensures keeper { IsErrOf result Stop.Keeper
+        → Rose (W.marks world.old).faults (W.marks world.new).faults }
     ensures put { IfOk result (λ put. StateBecomes W.Env W.World.own world.old world.new
         (IsRowMade (columns_at (W.fixed world.old).schema.tables table) table cells.now put)) }
     ensures stops { OnErr result (StateBecomes W.Env W.World.own world.old world.new Stays) }
-    ensures sound { IfOk result (λ put. IsInserted (columns_at (W.fixed world.old).schema.tables table) put) }
+    ensures sound { IfOk result (λ put. IsInserted
+        (columns_at (W.fixed world.old).schema.tables table) put) }
 {
     world.insert(table, cells)
 }
 
-/// Puts other cells into a row of a table, or says that there is none, or which rule it would break first.
+/// Puts other cells into a row of a table, or says that there is none, or which rule it would break
+/// first.
 pub(crate) fn replace<W: World>(
     world: &mut W,
     table: u16,
     id: u32,
     cells: &Cells,
 ) -> Result<Put, Stop>
-    requires { IsSomeAnd (slice_get (W.fixed world.old).schema.tables table) (λ t. AreCellsOf t.columns cells.now) }
+    requires { IsSomeAnd (slice_get (W.fixed world.old).schema.tables table)
+        (λ t. AreCellsOf t.columns cells.now) }
     ensures passed { Passed W.Env W.World.own world.old world.new }
     ensures only { StateBecomes W.Env W.World.own world.old world.new
         (WritesOnly (IsOneOf (source.Table table ∷ []))) }
-    ensures keeper { IsErrOf result Stop.Keeper → Rose (W.marks world.old).faults (W.marks world.new).faults }
+    ensures keeper { IsErrOf result Stop.Keeper
+        → Rose (W.marks world.old).faults (W.marks world.new).faults }
     ensures put { IfOk result (λ put. StateBecomes W.Env W.World.own world.old world.new
         (IsRowChanged (columns_at (W.fixed world.old).schema.tables table) table id cells.now put)) }
     ensures stops { OnErr result (StateBecomes W.Env W.World.own world.old world.new Stays) }
-    ensures sound { IfOk result (λ put. IsReplaced (columns_at (W.fixed world.old).schema.tables table) id put) }
+    ensures sound { IfOk result (λ put. IsReplaced
+        (columns_at (W.fixed world.old).schema.tables table) id put) }
 {
     world.replace(table, id, cells)
 }
@@ -103,7 +114,8 @@ pub(crate) fn remove<W: World>(world: &mut W, table: u16, id: u32) -> Result<boo
     ensures passed { Passed W.Env W.World.own world.old world.new }
     ensures only { StateBecomes W.Env W.World.own world.old world.new
         (WritesOnly (IsOneOf (source.Table table ∷ []))) }
-    ensures keeper { IsErrOf result Stop.Keeper → Rose (W.marks world.old).faults (W.marks world.new).faults }
+    ensures keeper { IsErrOf result Stop.Keeper
+        → Rose (W.marks world.old).faults (W.marks world.new).faults }
     ensures was { IfOk result (λ was. StateBecomes W.Env W.World.own world.old world.new
         (IsRowRemoved table id was)) }
     ensures stops { OnErr result (StateBecomes W.Env W.World.own world.old world.new Stays) }

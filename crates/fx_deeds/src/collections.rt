@@ -1,5 +1,6 @@
 //! Rows of a collection that are taken out, changed, or put behind the others.
-ghost use Rattle.std.specs.Prelude.{◌≡◌, ◌↔◌, ◌++◌, ◌∷◌, List, [], false, true, IfOk, IfSome, IsErrOf, IsTrue, MatchOption, map, OnErr, take};
+ghost use Rattle.std.specs.Prelude.{◌≡◌, ◌↔◌, ◌++◌, ◌∷◌, List, [], false, true, IfOk, IfSome};
+ghost use Rattle.std.specs.Prelude.{IsErrOf, IsTrue, MatchOption, map, OnErr, take};
 ghost use Rattle.fx_base.specs.Faults.{Rose};
 ghost use Rattle.fx_base.specs.Telling.{Stays};
 ghost use Rattle.fx_types.specs.Types.{ColumnList, booleans, column_list, records};
@@ -9,10 +10,12 @@ ghost use Rattle.fx_value.specs.Columns.{Row};
 ghost use Rattle.fx_core.specs.declared.sources.Source.TheVariants as source;
 ghost use Rattle.fx_value.specs.Fits.{fits_in};
 ghost use Rattle.fx_deeds.specs.CutOff.{UpTo};
-ghost use Rattle.fx_deeds.specs.Collections.{Appends, AreBlank, AreTaken, IsFirstRow, IsPatchedIn, Lacks, PatchesGathered, PutsFor};
+ghost use Rattle.fx_deeds.specs.Collections.{Appends, AreBlank, AreTaken, IsFirstRow, IsPatchedIn};
+ghost use Rattle.fx_deeds.specs.Collections.{Lacks, PatchesGathered, PutsFor};
 ghost use Rattle.fx_deeds.specs.Fitting.{CanChange, IsOfColumns};
 ghost use Rattle.fx_deeds.specs.Found.{IsTakenFrom};
-ghost use Rattle.fx_deeds.specs.RowValues.{blank_row as blank_row_of, columns_of_rows, record_row, rows_among};
+ghost use Rattle.fx_deeds.specs.RowValues.{blank_row as blank_row_of, columns_of_rows, record_row};
+ghost use Rattle.fx_deeds.specs.RowValues.{rows_among};
 ghost use Rattle.fx_deeds.specs.StagesOver.{Passed, StateBecomes};
 ghost use Rattle.fx_deeds.specs.Writable.{IsOneOf, WritesOnly};
 
@@ -87,7 +90,9 @@ struct Parted {
 
 // Rows as they stand around the first that is this record, if there is one.
 fn part(alloc: Global, rows: &[Fields], sought: &Value) -> Result<Option<Parted>, Memory>
-    ensures { (r : Row) → view sought.now ≡ record_of r → IfOk result (λ o. MatchOption o (Lacks r rows.now) (λ p. IsFirstRow r rows.now p.before p.after)) }
+    ensures { (r : Row) → view sought.now ≡ record_of r
+        → IfOk result (λ o. MatchOption o (Lacks r rows.now)
+        (λ p. IsFirstRow r rows.now p.before p.after)) }
 {
     let mut before = Rows::new(alloc);
     let mut rest = rows;
@@ -104,14 +109,17 @@ fn part(alloc: Global, rows: &[Fields], sought: &Value) -> Result<Option<Parted>
 
 // Rows as they stand around the first that is this one, if it is among them.
 fn part_at(alloc: Global, rows: &[Fields], row: Fields) -> Result<Option<Parted>, Memory>
-    ensures { IfOk result (λ o. MatchOption o (Lacks row rows.now) (λ p. IsFirstRow row rows.now p.before p.after)) }
+    ensures { IfOk result (λ o. MatchOption o (Lacks row rows.now)
+        (λ p. IsFirstRow row rows.now p.before p.after)) }
 {
     part(alloc, rows, &Value::Rec(row))
 }
 
 // Rows without the first that is this one, if it is among them.
 fn without_first(alloc: Global, rows: &[Fields], row: Fields) -> Result<Option<Rows>, Memory>
-    ensures { IfOk result (λ o. MatchOption o (Lacks row rows.now) (λ left. (before : List Row) × (after : List Row) × IsFirstRow row rows.now before after × (left ≡ before ++ after))) }
+    ensures { IfOk result (λ o. MatchOption o (Lacks row rows.now)
+        (λ left. (before : List Row) × (after : List Row) × IsFirstRow row rows.now before after
+        × (left ≡ before ++ after))) }
 {
     let Some(parted) = part_at(alloc, rows, row)? else {
         return Ok(None);
@@ -127,7 +135,9 @@ fn with_another(
     row: Fields,
     another: &Fields,
 ) -> Result<Option<Rows>, Memory>
-    ensures { IfOk result (λ o. MatchOption o (Lacks row rows.now) (λ put. (before : List Row) × (after : List Row) × IsFirstRow row rows.now before after × (put ≡ before ++ another.now ∷ after))) }
+    ensures { IfOk result (λ o. MatchOption o (Lacks row rows.now)
+        (λ put. (before : List Row) × (after : List Row) × IsFirstRow row rows.now before after
+        × (put ≡ before ++ another.now ∷ after))) }
 {
     let Some(parted) = part_at(alloc, rows, row)? else {
         return Ok(None);
@@ -138,7 +148,8 @@ fn with_another(
     Ok(Some(put))
 }
 
-// Takes the first row that is this one out of a collection. None where it was there, and else what is answered.
+// Takes the first row that is this one out of a collection. None where it was there, and else what
+// is answered.
 fn take_row<W: World, L: Ledger>(
     alloc: Global,
     world: &mut W,
@@ -150,7 +161,8 @@ fn take_row<W: World, L: Ledger>(
     ensures passed { Passed W.Env W.World.own world.old world.new }
     ensures only { StateBecomes W.Env W.World.own world.old world.new
         (WritesOnly (IsOneOf (source.Gathered collection ∷ []))) }
-    ensures keeper { IsErrOf result Stop.Keeper → Rose (W.marks world.old).faults (W.marks world.new).faults }
+    ensures keeper { IsErrOf result Stop.Keeper
+        → Rose (W.marks world.old).faults (W.marks world.new).faults }
     ensures done { IfOk result (λ o. StateBecomes W.Env W.World.own world.old world.new
         (IsTakenFrom collection row o)) }
     ensures stops { OnErr result (StateBecomes W.Env W.World.own world.old world.new Stays) }
@@ -167,7 +179,8 @@ fn take_row<W: World, L: Ledger>(
     }
 }
 
-// Takes rows out of a collection, for each record the first equal one, up to the first that is missing.
+// Takes rows out of a collection, for each record the first equal one, up to the first that is
+// missing.
 fn take_rows<W: World, L: Ledger>(
     alloc: Global,
     world: &mut W,
@@ -180,11 +193,13 @@ fn take_rows<W: World, L: Ledger>(
     ensures passed { Passed W.Env W.World.own world.old world.new }
     ensures only { StateBecomes W.Env W.World.own world.old world.new
         (WritesOnly (IsOneOf (source.Gathered collection ∷ []))) }
-    ensures keeper { IsErrOf result Stop.Keeper → Rose (W.marks world.old).faults (W.marks world.new).faults }
+    ensures keeper { IsErrOf result Stop.Keeper
+        → Rose (W.marks world.old).faults (W.marks world.new).faults }
     ensures done { IfOk result (λ x. StateBecomes W.Env W.World.own world.old world.new
         (λ s t. AreTaken (column_list columns.now) collection (map view rows.now) s (view x) t)) }
     ensures cut { OnErr result (StateBecomes W.Env W.World.own world.old world.new
-        (UpTo (λ s n x t. AreTaken (column_list columns.now) collection (take n (map view rows.now)) s x t))) }
+        (UpTo (λ s n x t. AreTaken (column_list columns.now) collection (take n (map view rows.now))
+        s x t))) }
     ensures fits { IfOk result (λ x. fits_in (view x) booleans ≡ true) }
 {
     let mut rest = rows;
@@ -210,11 +225,15 @@ pub(crate) fn remove_equal<W: World, L: Ledger>(
     ensures passed { Passed W.Env W.World.own world.old world.new }
     ensures only { StateBecomes W.Env W.World.own world.old world.new
         (WritesOnly (IsOneOf (source.Gathered collection ∷ []))) }
-    ensures keeper { IsErrOf result Stop.Keeper → Rose (W.marks world.old).faults (W.marks world.new).faults }
+    ensures keeper { IsErrOf result Stop.Keeper
+        → Rose (W.marks world.old).faults (W.marks world.new).faults }
     ensures done { IfOk result (λ x. StateBecomes W.Env W.World.own world.old world.new
-        (λ s t. AreTaken (columns_of_rows ((W.fixed world.old).types (source.Gathered collection))) collection (map view rows.now) s (view x) t)) }
+        (λ s t. AreTaken (columns_of_rows ((W.fixed world.old).types (source.Gathered collection)))
+        collection (map view rows.now) s (view x) t)) }
     ensures cut { OnErr result (StateBecomes W.Env W.World.own world.old world.new
-        (UpTo (λ s n x t. AreTaken (columns_of_rows ((W.fixed world.old).types (source.Gathered collection))) collection (take n (map view rows.now)) s x t))) }
+        (UpTo (λ s n x t. AreTaken (columns_of_rows
+        ((W.fixed world.old).types (source.Gathered collection))) collection
+        (take n (map view rows.now)) s x t))) }
     ensures fits { IfOk result (λ x. fits_in (view x) booleans ≡ true) }
 {
     let columns = collection_columns(alloc, world, collection)?;
@@ -229,16 +248,19 @@ fn append<W: World, L: Ledger>(
     row: Fields,
     steps: &mut Steps<L>,
 ) -> Result<Value, Stop>
-    requires { (cs : ColumnList) × IsOfColumns (W.fixed world.old).types collection cs × (fits_in (record_of row) (records cs) ≡ true) }
+    requires { (cs : ColumnList) × IsOfColumns (W.fixed world.old).types collection cs
+        × (fits_in (record_of row) (records cs) ≡ true) }
     ensures passed { Passed W.Env W.World.own world.old world.new }
     ensures only { StateBecomes W.Env W.World.own world.old world.new
         (WritesOnly (IsOneOf (source.Gathered collection ∷ []))) }
-    ensures keeper { IsErrOf result Stop.Keeper → Rose (W.marks world.old).faults (W.marks world.new).faults }
+    ensures keeper { IsErrOf result Stop.Keeper
+        → Rose (W.marks world.old).faults (W.marks world.new).faults }
     ensures done { IfOk result (λ x. StateBecomes W.Env W.World.own world.old world.new
         (λ s t. Appends collection row s (view x) t)) }
     ensures cut { OnErr result (StateBecomes W.Env W.World.own world.old world.new
         (UpTo (λ s n x t. Appends collection row s x t))) }
-    ensures fits { (cs : ColumnList) → fits_in (record_of row) (records cs) ≡ true → IfOk result (λ x. fits_in (view x) (records cs) ≡ true) }
+    ensures fits { (cs : ColumnList) → fits_in (record_of row) (records cs) ≡ true
+        → IfOk result (λ x. fits_in (view x) (records cs) ≡ true) }
 {
     let answer = Value::Rec(row.copy(alloc)?);
     let mut rows = rows_held(alloc, world, collection, steps)?;
@@ -260,16 +282,19 @@ fn put_for<W: World, L: Ledger>(
     changed: Fields,
     steps: &mut Steps<L>,
 ) -> Result<Value, Stop>
-    requires { (cs : ColumnList) × IsOfColumns (W.fixed world.old).types collection cs × (fits_in (record_of changed) (records cs) ≡ true) }
+    requires { (cs : ColumnList) × IsOfColumns (W.fixed world.old).types collection cs
+        × (fits_in (record_of changed) (records cs) ≡ true) }
     ensures passed { Passed W.Env W.World.own world.old world.new }
     ensures only { StateBecomes W.Env W.World.own world.old world.new
         (WritesOnly (IsOneOf (source.Gathered collection ∷ []))) }
-    ensures keeper { IsErrOf result Stop.Keeper → Rose (W.marks world.old).faults (W.marks world.new).faults }
+    ensures keeper { IsErrOf result Stop.Keeper
+        → Rose (W.marks world.old).faults (W.marks world.new).faults }
     ensures done { IfOk result (λ x. StateBecomes W.Env W.World.own world.old world.new
         (λ s t. PutsFor collection row changed s (view x) t)) }
     ensures cut { OnErr result (StateBecomes W.Env W.World.own world.old world.new
         (UpTo (λ s n x t. PutsFor collection row changed s x t))) }
-    ensures fits { (cs : ColumnList) → fits_in (record_of changed) (records cs) ≡ true → IfOk result (λ x. fits_in (view x) (records cs) ≡ true) }
+    ensures fits { (cs : ColumnList) → fits_in (record_of changed) (records cs) ≡ true
+        → IfOk result (λ x. fits_in (view x) (records cs) ≡ true) }
 {
     let rows = rows_held(alloc, world, collection, steps)?;
     let Some(put) = with_another(alloc, rows.as_slice(), row, &changed)? else {
@@ -298,7 +323,8 @@ fn are_blank(row: &Fields) -> bool
     true
 }
 
-// Puts a row as changes leave it behind the others of a collection, where all its fields are blank, and else in its place.
+// Puts a row as changes leave it behind the others of a collection, where all its fields are blank,
+// and else in its place.
 fn patch_row<W: World, L: Ledger>(
     alloc: Global,
     world: &mut W,
@@ -307,16 +333,19 @@ fn patch_row<W: World, L: Ledger>(
     changed: Fields,
     steps: &mut Steps<L>,
 ) -> Result<Value, Stop>
-    requires { (cs : ColumnList) × IsOfColumns (W.fixed world.old).types collection cs × (fits_in (record_of changed) (records cs) ≡ true) }
+    requires { (cs : ColumnList) × IsOfColumns (W.fixed world.old).types collection cs
+        × (fits_in (record_of changed) (records cs) ≡ true) }
     ensures passed { Passed W.Env W.World.own world.old world.new }
     ensures only { StateBecomes W.Env W.World.own world.old world.new
         (WritesOnly (IsOneOf (source.Gathered collection ∷ []))) }
-    ensures keeper { IsErrOf result Stop.Keeper → Rose (W.marks world.old).faults (W.marks world.new).faults }
+    ensures keeper { IsErrOf result Stop.Keeper
+        → Rose (W.marks world.old).faults (W.marks world.new).faults }
     ensures done { IfOk result (λ x. StateBecomes W.Env W.World.own world.old world.new
         (λ s t. PatchesGathered collection row changed s (view x) t)) }
     ensures cut { OnErr result (StateBecomes W.Env W.World.own world.old world.new
         (UpTo (λ s n x t. PatchesGathered collection row changed s x t))) }
-    ensures fits { (cs : ColumnList) → fits_in (record_of changed) (records cs) ≡ true → IfOk result (λ x. fits_in (view x) (records cs) ≡ true) }
+    ensures fits { (cs : ColumnList) → fits_in (record_of changed) (records cs) ≡ true
+        → IfOk result (λ x. fits_in (view x) (records cs) ≡ true) }
 {
     if are_blank(&row) {
         append(alloc, world, collection, changed, steps)
@@ -334,16 +363,23 @@ pub(crate) fn patch_equal<W: World, L: Ledger>(
     changes: &[Value],
     steps: &mut Steps<L>,
 ) -> Result<Value, Stop>
-    requires { (cs : ColumnList) × IsOfColumns (W.fixed world.old).types collection cs × CanChange cs (rows_among (map view changes.now)) (record_row cs (view base.now)) }
+    requires { (cs : ColumnList) × IsOfColumns (W.fixed world.old).types collection cs
+        × CanChange cs (rows_among (map view changes.now)) (record_row cs (view base.now)) }
     ensures passed { Passed W.Env W.World.own world.old world.new }
     ensures only { StateBecomes W.Env W.World.own world.old world.new
         (WritesOnly (IsOneOf (source.Gathered collection ∷ []))) }
-    ensures keeper { IsErrOf result Stop.Keeper → Rose (W.marks world.old).faults (W.marks world.new).faults }
+    ensures keeper { IsErrOf result Stop.Keeper
+        → Rose (W.marks world.old).faults (W.marks world.new).faults }
     ensures done { IfOk result (λ x. StateBecomes W.Env W.World.own world.old world.new
-        (λ s t. IsPatchedIn (columns_of_rows ((W.fixed world.old).types (source.Gathered collection))) collection (view base.now) (map view changes.now) s (view x) t)) }
+        (λ s t. IsPatchedIn (columns_of_rows ((W.fixed world.old).types
+        (source.Gathered collection))) collection (view base.now) (map view changes.now) s (view x)
+        t)) }
     ensures cut { OnErr result (StateBecomes W.Env W.World.own world.old world.new
-        (UpTo (λ s n x t. IsPatchedIn (columns_of_rows ((W.fixed world.old).types (source.Gathered collection))) collection (view base.now) (map view changes.now) s x t))) }
-    ensures fits { (cs : ColumnList) → IsOfColumns (W.fixed world.old).types collection cs → IfOk result (λ x. fits_in (view x) (records cs) ≡ true) }
+        (UpTo (λ s n x t. IsPatchedIn (columns_of_rows
+        ((W.fixed world.old).types (source.Gathered collection))) collection (view base.now)
+        (map view changes.now) s x t))) }
+    ensures fits { (cs : ColumnList) → IsOfColumns (W.fixed world.old).types collection cs
+        → IfOk result (λ x. fits_in (view x) (records cs) ≡ true) }
 {
     let changes = with_tables(alloc, Rows::new(alloc), changes)?;
     if let Some(error) = error_among(alloc, changes.as_slice())? {

@@ -26,8 +26,8 @@ use fx_types::{Fields, Value};
 use std::alloc::Global;
 use std::sync::ledger::Ledger;
 
-/// `Remove`: takes rows out of a table by their numbers, or out of a collection the first equal ones, up to the first
-/// that is missing. An error among the values is the answer.
+/// `Remove`: takes rows out of a table by their numbers, or out of a collection the first equal
+/// ones, up to the first that is missing. An error among the values is the answer.
 pub fn remove<W: World, L: Ledger>(
     alloc: Global,
     world: &mut W,
@@ -39,9 +39,11 @@ pub fn remove<W: World, L: Ledger>(
     ensures passed { Passed W.Env W.World.own world.old world.new }
     ensures only { StateBecomes W.Env W.World.own world.old world.new
         (WritesOnly (DeedMayWrite (deed.Remove target))) }
-    ensures keeper { IsErrOf result Stop.Keeper → Rose (W.marks world.old).faults (W.marks world.new).faults }
+    ensures keeper { IsErrOf result Stop.Keeper
+        → Rose (W.marks world.old).faults (W.marks world.new).faults }
     ensures done { IfOk result (λ x. StateBecomes W.Env W.World.own world.old world.new
-        (λ s t. IsDeed (eval_frame (W.fixed world.old)) (deed.Remove target) (map view values.now) s (view x) t)) }
+        (λ s t. IsDeed (eval_frame (W.fixed world.old)) (deed.Remove target) (map view values.now) s
+        (view x) t)) }
     ensures cut { OnErr result (StateBecomes W.Env W.World.own world.old world.new
         (CutDeed (eval_frame (W.fixed world.old)) (deed.Remove target) (map view values.now))) }
     ensures fits { IfOk result (λ x. fits_in (view x) booleans ≡ true) }
@@ -55,7 +57,8 @@ pub fn remove<W: World, L: Ledger>(
     }
 }
 
-/// `RemoveIf`, by the table that its filter gave: takes these rows out. An error in its place is the answer.
+/// `RemoveIf`, by the table that its filter gave: takes these rows out. An error in its place is
+/// the answer.
 pub fn remove_if<W: World, L: Ledger>(
     alloc: Global,
     world: &mut W,
@@ -67,9 +70,11 @@ pub fn remove_if<W: World, L: Ledger>(
     ensures passed { Passed W.Env W.World.own world.old world.new }
     ensures only { StateBecomes W.Env W.World.own world.old world.new
         (WritesOnly (DeedMayWrite (deed.RemoveIf target))) }
-    ensures keeper { IsErrOf result Stop.Keeper → Rose (W.marks world.old).faults (W.marks world.new).faults }
+    ensures keeper { IsErrOf result Stop.Keeper
+        → Rose (W.marks world.old).faults (W.marks world.new).faults }
     ensures done { IfOk result (λ x. StateBecomes W.Env W.World.own world.old world.new
-        (λ s t. IsDeed (eval_frame (W.fixed world.old)) (deed.RemoveIf target) (view filtered ∷ []) s (view x) t)) }
+        (λ s t. IsDeed (eval_frame (W.fixed world.old)) (deed.RemoveIf target) (view filtered ∷ [])
+        s (view x) t)) }
     ensures cut { OnErr result (StateBecomes W.Env W.World.own world.old world.new
         (CutDeed (eval_frame (W.fixed world.old)) (deed.RemoveIf target) (view filtered ∷ []))) }
     ensures fits { IfOk result (λ x. fits_in (view x) booleans ≡ true) }
@@ -80,9 +85,10 @@ pub fn remove_if<W: World, L: Ledger>(
     }
 }
 
-/// `Patch`, by the base and the changes. On a table it makes a row where the base's number is blank, and changes the row
-/// of that number otherwise. On a collection a base whose fields are all blank appends a row, and another one changes the
-/// first row equal to it. An error among the values or in a changed field is the answer.
+/// `Patch`, by the base and the changes. On a table it makes a row where the base's number is
+/// blank, and changes the row of that number otherwise. On a collection a base whose fields are all
+/// blank appends a row, and another one changes the first row equal to it. An error among the
+/// values or in a changed field is the answer.
 pub fn patch<W: World, L: Ledger>(
     alloc: Global,
     world: &mut W,
@@ -94,12 +100,15 @@ pub fn patch<W: World, L: Ledger>(
     ensures passed { Passed W.Env W.World.own world.old world.new }
     ensures only { StateBecomes W.Env W.World.own world.old world.new
         (WritesOnly (DeedMayWrite (deed.Patch target))) }
-    ensures keeper { IsErrOf result Stop.Keeper → Rose (W.marks world.old).faults (W.marks world.new).faults }
+    ensures keeper { IsErrOf result Stop.Keeper
+        → Rose (W.marks world.old).faults (W.marks world.new).faults }
     ensures done { IfOk result (λ x. StateBecomes W.Env W.World.own world.old world.new
-        (λ s t. IsDeed (eval_frame (W.fixed world.old)) (deed.Patch target) (map view values.now) s (view x) t)) }
+        (λ s t. IsDeed (eval_frame (W.fixed world.old)) (deed.Patch target) (map view values.now) s
+        (view x) t)) }
     ensures cut { OnErr result (StateBecomes W.Env W.World.own world.old world.new
         (CutDeed (eval_frame (W.fixed world.old)) (deed.Patch target) (map view values.now))) }
-    ensures fits { (u : Shape) → AnswersAs (W.fixed world.old).types (deed.Patch target) u → IfOk result (λ x. fits_in (view x) u ≡ true) }
+    ensures fits { (u : Shape) → AnswersAs (W.fixed world.old).types (deed.Patch target) u
+        → IfOk result (λ x. fits_in (view x) u ≡ true) }
 {
     if let Some(error) = first_error(alloc, values)? {
         return Ok(error);
@@ -115,9 +124,9 @@ pub fn patch<W: World, L: Ledger>(
     }
 }
 
-/// `UpdateIf`, by the rows of its filter and the change of each. On a table the rows are changed one by one, up to the
-/// first that a rule refuses; a collection is changed as a whole. An error among the changes or in their fields is the
-/// answer.
+/// `UpdateIf`, by the rows of its filter and the change of each. On a table the rows are changed
+/// one by one, up to the first that a rule refuses; a collection is changed as a whole. An error
+/// among the changes or in their fields is the answer.
 pub fn update<W: World, L: Ledger>(
     alloc: Global,
     world: &mut W,
@@ -130,9 +139,11 @@ pub fn update<W: World, L: Ledger>(
     ensures passed { Passed W.Env W.World.own world.old world.new }
     ensures only { StateBecomes W.Env W.World.own world.old world.new
         (WritesOnly (DeedMayWrite (deed.UpdateIf target))) }
-    ensures keeper { IsErrOf result Stop.Keeper → Rose (W.marks world.old).faults (W.marks world.new).faults }
+    ensures keeper { IsErrOf result Stop.Keeper
+        → Rose (W.marks world.old).faults (W.marks world.new).faults }
     ensures done { IfOk result (λ x. StateBecomes W.Env W.World.own world.old world.new
-        (λ s t. IsUpdate (eval_frame (W.fixed world.old)) target rows.now (map view changes.now) s (view x) t)) }
+        (λ s t. IsUpdate (eval_frame (W.fixed world.old)) target rows.now (map view changes.now) s
+        (view x) t)) }
     ensures cut { OnErr result (StateBecomes W.Env W.World.own world.old world.new
         (CutUpdate (eval_frame (W.fixed world.old)) target rows.now (map view changes.now))) }
     ensures fits { IfOk result (λ x. fits_in (view x) booleans ≡ true) }

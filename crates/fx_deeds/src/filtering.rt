@@ -1,5 +1,6 @@
 //! Rows that a filter kept, and that are taken out.
-ghost use Rattle.std.specs.Prelude.{◌≡◌, ◌∷◌, [], true, false, IfOk, IsErrOf, IsSome, map, slice_get, OnErr, take};
+ghost use Rattle.std.specs.Prelude.{◌≡◌, ◌∷◌, [], true, false, IfOk, IsErrOf, IsSome, map};
+ghost use Rattle.std.specs.Prelude.{slice_get, OnErr, take};
 ghost use Rattle.fx_base.specs.Faults.{Rose};
 ghost use Rattle.fx_types.specs.Types.{ColumnList, booleans};
 ghost use Rattle.fx_types.specs.ValueView.{view};
@@ -11,7 +12,8 @@ ghost use Rattle.fx_deeds.specs.Collections.{RemainAfterFilter, AreTakenIf};
 ghost use Rattle.fx_deeds.specs.CutOff.{UpTo};
 ghost use Rattle.fx_deeds.specs.Deeds.{AreRemoved, OrError};
 ghost use Rattle.fx_deeds.specs.Fitting.{IsOfColumns};
-ghost use Rattle.fx_deeds.specs.RemainingRows.{AreRecords, IsFirstValue, values_behind, record_rows};
+ghost use Rattle.fx_deeds.specs.RemainingRows.{AreRecords, IsFirstValue, values_behind};
+ghost use Rattle.fx_deeds.specs.RemainingRows.{record_rows};
 ghost use Rattle.fx_deeds.specs.StagesOver.{Passed, StateBecomes};
 ghost use Rattle.fx_deeds.specs.Writable.{IsOneOf, WritesOnly};
 
@@ -91,11 +93,14 @@ pub(crate) fn remove_filtered<W: World>(
     ensures passed { Passed W.Env W.World.own world.old world.new }
     ensures only { StateBecomes W.Env W.World.own world.old world.new
         (WritesOnly (IsOneOf (source.Table table ∷ []))) }
-    ensures keeper { IsErrOf result Stop.Keeper → Rose (W.marks world.old).faults (W.marks world.new).faults }
+    ensures keeper { IsErrOf result Stop.Keeper
+        → Rose (W.marks world.old).faults (W.marks world.new).faults }
     ensures done { IfOk result (λ x. StateBecomes W.Env W.World.own world.old world.new
-        (λ s t. OrError (view filtered) (AreRemoved table (map record_of (rows_in (view filtered))) s (view x) t) s (view x) t)) }
+        (λ s t. OrError (view filtered) (AreRemoved table (map record_of (rows_in (view filtered)))
+        s (view x) t) s (view x) t)) }
     ensures cut { OnErr result (StateBecomes W.Env W.World.own world.old world.new
-        (UpTo (λ s n x t. OrError (view filtered) (AreRemoved table (map record_of (take n (rows_in (view filtered)))) s x t) s x t))) }
+        (UpTo (λ s n x t. OrError (view filtered)
+        (AreRemoved table (map record_of (take n (rows_in (view filtered)))) s x t) s x t))) }
     ensures fits { IfOk result (λ x. fits_in (view x) booleans ≡ true) }
 {
     match rows_of(alloc, filtered) {
@@ -119,11 +124,14 @@ pub(crate) fn take_filtered<W: World, L: Ledger>(
     ensures passed { Passed W.Env W.World.own world.old world.new }
     ensures only { StateBecomes W.Env W.World.own world.old world.new
         (WritesOnly (IsOneOf (source.Gathered collection ∷ []))) }
-    ensures keeper { IsErrOf result Stop.Keeper → Rose (W.marks world.old).faults (W.marks world.new).faults }
+    ensures keeper { IsErrOf result Stop.Keeper
+        → Rose (W.marks world.old).faults (W.marks world.new).faults }
     ensures done { IfOk result (λ x. StateBecomes W.Env W.World.own world.old world.new
-        (λ s t. OrError (view filtered) (AreTakenIf collection (rows_in (view filtered)) s (view x) t) s (view x) t)) }
+        (λ s t. OrError (view filtered) (AreTakenIf collection (rows_in (view filtered)) s (view x)
+        t) s (view x) t)) }
     ensures cut { OnErr result (StateBecomes W.Env W.World.own world.old world.new
-        (UpTo (λ s n x t. OrError (view filtered) (AreTakenIf collection (rows_in (view filtered)) s x t) s x t))) }
+        (UpTo (λ s n x t. OrError (view filtered)
+        (AreTakenIf collection (rows_in (view filtered)) s x t) s x t))) }
     ensures fits { IfOk result (λ x. fits_in (view x) booleans ≡ true) }
 {
     match rows_of(alloc, filtered) {

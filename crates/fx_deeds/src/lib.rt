@@ -1,9 +1,10 @@
 //! What the functions do that change an app's state, from the values of their parts.
 //!
-//! A `World` is an environment whose session and tables can be changed, one call a change. `specs/Done` says what each
-//! deed does: what it finds, its answer, and what it leaves.
+//! A `World` is an environment whose session and tables can be changed, one call a change.
+//! `specs/Done` says what each deed does: what it finds, its answer, and what it leaves.
 //!
-//! `session` has the deeds on variables, collections, screens, notices and inputs, and `deeds` those on rows.
+//! `session` has the deeds on variables, collections, screens, notices and inputs, and `deeds`
+//! those on rows.
 #![tactic(auto)]
 
 pub mod acts;

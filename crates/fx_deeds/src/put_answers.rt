@@ -10,7 +10,10 @@ ghost use Rattle.fx_value.specs.Columns.{Row as FieldRow};
 ghost use Rattle.fx_value.specs.Fits.{fits_in};
 ghost use Rattle.row_queries.specs.TableRows.{IsRowOf};
 ghost use Rattle.fx_deeds.specs.Finding.{IsPutOf};
-ghost use Rattle.fx_deeds.specs.RowValues.{column_name as column_name_of, put_answer as put_answer_of, rule_error as rule_error_of, rule_kind as rule_kind_of, whole_row as whole_row_of};
+ghost use Rattle.fx_deeds.specs.RowValues.{column_name as column_name_of};
+ghost use Rattle.fx_deeds.specs.RowValues.{put_answer as put_answer_of};
+ghost use Rattle.fx_deeds.specs.RowValues.{rule_error as rule_error_of, rule_kind as rule_kind_of};
+ghost use Rattle.fx_deeds.specs.RowValues.{whole_row as whole_row_of};
 
 use crate::answers::error;
 use crate::removing::id_name;
@@ -78,7 +81,8 @@ pub(crate) fn rule_error(
 
 // The one record of a table.
 fn only_record(alloc: Global, table: &Value) -> Result<Value, Memory>
-    ensures { (r : FieldRow) → view table.now ≡ data_table_of (r ∷ []) → IfOk result (λ v. view v ≡ data_of r) }
+    ensures { (r : FieldRow) → view table.now ≡ data_table_of (r ∷ [])
+        → IfOk result (λ v. view v ≡ data_of r) }
 {
     match table {
         Value::Tab(rows) => match rows.as_slice().split_first() {

@@ -1,5 +1,6 @@
 //! Rows of tables that are taken out.
-ghost use Rattle.std.specs.Prelude.{◌≡◌, ◌∷◌, [], IfOk, IfSome, IsErrOf, IsSome, OnErr, map, pos, slice_get, take, true};
+ghost use Rattle.std.specs.Prelude.{◌≡◌, ◌∷◌, [], IfOk, IfSome, IsErrOf, IsSome, OnErr, map, pos};
+ghost use Rattle.std.specs.Prelude.{slice_get, take, true};
 ghost use Rattle.fx_base.specs.Faults.{Rose};
 ghost use Rattle.fx_base.specs.Telling.{Stays};
 ghost use Rattle.fx_types.specs.Types.{booleans};
@@ -81,7 +82,8 @@ pub(crate) fn named_id(alloc: Global, row: &Value) -> Result<Result<u32, Value>,
     }
 }
 
-// Takes the row that a record names out of a table. None where it was there, and else what is answered.
+// Takes the row that a record names out of a table. None where it was there, and else what is
+// answered.
 fn remove_row<W: World>(
     alloc: Global,
     world: &mut W,
@@ -92,7 +94,8 @@ fn remove_row<W: World>(
     ensures passed { Passed W.Env W.World.own world.old world.new }
     ensures only { StateBecomes W.Env W.World.own world.old world.new
         (WritesOnly (IsOneOf (source.Table table ∷ []))) }
-    ensures keeper { IsErrOf result Stop.Keeper → Rose (W.marks world.old).faults (W.marks world.new).faults }
+    ensures keeper { IsErrOf result Stop.Keeper
+        → Rose (W.marks world.old).faults (W.marks world.new).faults }
     ensures done { IfOk result (λ o. StateBecomes W.Env W.World.own world.old world.new
         (IsTakenOut table (view row.now) o)) }
     ensures stops { OnErr result (StateBecomes W.Env W.World.own world.old world.new Stays) }
@@ -121,7 +124,8 @@ pub(crate) fn remove_rows<W: World>(
     ensures passed { Passed W.Env W.World.own world.old world.new }
     ensures only { StateBecomes W.Env W.World.own world.old world.new
         (WritesOnly (IsOneOf (source.Table table ∷ []))) }
-    ensures keeper { IsErrOf result Stop.Keeper → Rose (W.marks world.old).faults (W.marks world.new).faults }
+    ensures keeper { IsErrOf result Stop.Keeper
+        → Rose (W.marks world.old).faults (W.marks world.new).faults }
     ensures done { IfOk result (λ x. StateBecomes W.Env W.World.own world.old world.new
         (λ s t. AreRemoved table (map view rows.now) s (view x) t)) }
     ensures cut { OnErr result (StateBecomes W.Env W.World.own world.old world.new

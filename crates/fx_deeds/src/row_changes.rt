@@ -8,7 +8,9 @@ ghost use Rattle.fx_types.specs.ValueView.{view};
 ghost use Rattle.fx_tables.specs.Unions.{is_fault};
 ghost use Rattle.fx_value.specs.Fits.{fields_fit};
 ghost use Rattle.fx_deeds.specs.Fitting.{CanChange};
-ghost use Rattle.fx_deeds.specs.RowValues.{blank_cells as blanks_of, cells_in, changed_cells as cells_by, changed_row as row_by, changed_value as value_by, values_among, field_values};
+ghost use Rattle.fx_deeds.specs.RowValues.{blank_cells as blanks_of, cells_in};
+ghost use Rattle.fx_deeds.specs.RowValues.{changed_cells as cells_by, changed_row as row_by};
+ghost use Rattle.fx_deeds.specs.RowValues.{changed_value as value_by, values_among, field_values};
 
 use fx_base::Memory;
 use fx_core::Column;

@@ -1,5 +1,6 @@
 //! Deeds on a session.
-ghost use Rattle.std.specs.Prelude.{◌≡◌, ◌++◌, ◌∷◌, [], false, true, None, IfOk, IsErrOf, IsSome, MatchResult, map, OnErr, take};
+ghost use Rattle.std.specs.Prelude.{◌≡◌, ◌++◌, ◌∷◌, [], false, true, None, IfOk, IsErrOf, IsSome};
+ghost use Rattle.std.specs.Prelude.{MatchResult, map, OnErr, take};
 ghost use Rattle.fx_base.specs.Faults.{Rose};
 ghost use Rattle.fx_base.specs.Telling.{Stays};
 ghost use Rattle.fx_types.specs.Types.{ColumnList, booleans, tables};
@@ -12,8 +13,10 @@ ghost use Rattle.fx_value.specs.Fits.{fits_in};
 ghost use Rattle.session_state.specs.declared.change.Change.TheVariants as change;
 ghost use Rattle.fx_deeds.specs.Collections.{GathersRows, rows_held as rows_held_by};
 ghost use Rattle.fx_deeds.specs.CutOff.{UpTo};
-ghost use Rattle.fx_deeds.specs.Deeds.{UpdatesContext, ChangeGives, Makes, OrError, OrErrorAmong, text_or_none};
-ghost use Rattle.fx_deeds.specs.Fitting.{CollectionCanTake, SourceCanTake, CanTakeAll, IsOfColumns, IsOfScreen};
+ghost use Rattle.fx_deeds.specs.Deeds.{UpdatesContext, ChangeGives, Makes, OrError, OrErrorAmong};
+ghost use Rattle.fx_deeds.specs.Deeds.{text_or_none};
+ghost use Rattle.fx_deeds.specs.Fitting.{CollectionCanTake, SourceCanTake, CanTakeAll, IsOfColumns};
+ghost use Rattle.fx_deeds.specs.Fitting.{IsOfScreen};
 ghost use Rattle.fx_deeds.specs.RowValues.{rows_among};
 ghost use Rattle.fx_deeds.specs.StagesOver.{Passed, StateBecomes};
 ghost use Rattle.fx_deeds.specs.Writable.{IsOneOf, WritesOnly};
@@ -41,7 +44,8 @@ pub fn set<W: World>(
     ensures passed { Passed W.Env W.World.own world.old world.new }
     ensures only { StateBecomes W.Env W.World.own world.old world.new
         (WritesOnly (IsOneOf (source.Global variable ∷ []))) }
-    ensures keeper { IsErrOf result Stop.Keeper → Rose (W.marks world.old).faults (W.marks world.new).faults }
+    ensures keeper { IsErrOf result Stop.Keeper
+        → Rose (W.marks world.old).faults (W.marks world.new).faults }
     ensures done { IfOk result (λ x. StateBecomes W.Env W.World.own world.old world.new
         (λ s t. ChangeGives (change.Global variable) (view value) (boolean true) s (view x) t)) }
     ensures cut { OnErr result (StateBecomes W.Env W.World.own world.old world.new
@@ -67,11 +71,13 @@ pub fn set_all<W: World>(
     ensures passed { Passed W.Env W.World.own world.old world.new }
     ensures only { StateBecomes W.Env W.World.own world.old world.new
         (WritesOnly (IsOneOf variables.now)) }
-    ensures keeper { IsErrOf result Stop.Keeper → Rose (W.marks world.old).faults (W.marks world.new).faults }
+    ensures keeper { IsErrOf result Stop.Keeper
+        → Rose (W.marks world.old).faults (W.marks world.new).faults }
     ensures done { IfOk result (λ x. StateBecomes W.Env W.World.own world.old world.new
         (λ s t. UpdatesContext variables.now (map view values.now) s (view x) t)) }
     ensures cut { OnErr result (StateBecomes W.Env W.World.own world.old world.new
-        (UpTo (λ s n x t. UpdatesContext (take n variables.now) (take n (map view values.now)) s x t))) }
+        (UpTo (λ s n x t. UpdatesContext (take n variables.now) (take n (map view values.now)) s x
+        t))) }
     ensures fits { IfOk result (λ x. fits_in (view x) booleans ≡ true) }
 {
     let mut names = variables;
@@ -97,10 +103,13 @@ pub(crate) fn rows_held<W: World, L: Ledger>(
     requires { IsSome ((W.fixed world.old).types (source.Gathered collection)) }
     ensures passed { Passed W.Env W.World.own world.old world.new }
     ensures stays { StateBecomes W.Env W.World.own world.old world.new Stays }
-    ensures keeper { IsErrOf result Stop.Keeper → Rose (W.marks world.old).faults (W.marks world.new).faults }
+    ensures keeper { IsErrOf result Stop.Keeper
+        → Rose (W.marks world.old).faults (W.marks world.new).faults }
     ensures held { IfOk result (λ rows. StateBecomes W.Env W.World.own world.old world.new
         (λ s t. (t ≡ s) × (rows ≡ rows_held_by collection s))) }
-    ensures fits { IfOk result (λ rows. (cs : ColumnList) → IsOfColumns (W.fixed world.old).types collection cs → fits_in (table_of rows) (tables cs) ≡ true) }
+    ensures fits { IfOk result (λ rows. (cs : ColumnList)
+        → IsOfColumns (W.fixed world.old).types collection cs
+        → fits_in (table_of rows) (tables cs) ≡ true) }
 {
     let value = world.read(Source::Gathered(collection), steps)?;
     Ok(with_table(alloc, Rows::new(alloc), &value)?)
@@ -118,11 +127,16 @@ pub fn collect<W: World, L: Ledger>(
     ensures passed { Passed W.Env W.World.own world.old world.new }
     ensures only { StateBecomes W.Env W.World.own world.old world.new
         (WritesOnly (IsOneOf (source.Gathered collection ∷ []))) }
-    ensures keeper { IsErrOf result Stop.Keeper → Rose (W.marks world.old).faults (W.marks world.new).faults }
+    ensures keeper { IsErrOf result Stop.Keeper
+        → Rose (W.marks world.old).faults (W.marks world.new).faults }
     ensures done { IfOk result (λ x. StateBecomes W.Env W.World.own world.old world.new
-        (λ s t. OrErrorAmong (map view values.now) (GathersRows collection (rows_held_by collection s ++ rows_among (map view values.now)) (boolean true) s (view x) t) s (view x) t)) }
+        (λ s t. OrErrorAmong (map view values.now)
+        (GathersRows collection (rows_held_by collection s ++ rows_among (map view values.now))
+        (boolean true) s (view x) t) s (view x) t)) }
     ensures cut { OnErr result (StateBecomes W.Env W.World.own world.old world.new
-        (UpTo (λ s n x t. OrErrorAmong (map view values.now) (GathersRows collection (rows_held_by collection s ++ rows_among (map view values.now)) (boolean true) s x t) s x t))) }
+        (UpTo (λ s n x t. OrErrorAmong (map view values.now)
+        (GathersRows collection (rows_held_by collection s ++ rows_among (map view values.now))
+        (boolean true) s x t) s x t))) }
     ensures fits { IfOk result (λ x. fits_in (view x) booleans ≡ true) }
 {
     if let Some(error) = first_error(alloc, values)? {
@@ -149,11 +163,15 @@ pub fn clear_collect<W: World>(
     ensures passed { Passed W.Env W.World.own world.old world.new }
     ensures only { StateBecomes W.Env W.World.own world.old world.new
         (WritesOnly (IsOneOf (source.Gathered collection ∷ []))) }
-    ensures keeper { IsErrOf result Stop.Keeper → Rose (W.marks world.old).faults (W.marks world.new).faults }
+    ensures keeper { IsErrOf result Stop.Keeper
+        → Rose (W.marks world.old).faults (W.marks world.new).faults }
     ensures done { IfOk result (λ x. StateBecomes W.Env W.World.own world.old world.new
-        (λ s t. OrErrorAmong (map view values.now) (GathersRows collection (rows_among (map view values.now)) (boolean true) s (view x) t) s (view x) t)) }
+        (λ s t. OrErrorAmong (map view values.now)
+        (GathersRows collection (rows_among (map view values.now)) (boolean true) s (view x) t) s
+        (view x) t)) }
     ensures cut { OnErr result (StateBecomes W.Env W.World.own world.old world.new
-        (UpTo (λ s n x t. OrErrorAmong (map view values.now) (GathersRows collection (rows_among (map view values.now)) (boolean true) s x t) s x t))) }
+        (UpTo (λ s n x t. OrErrorAmong (map view values.now)
+        (GathersRows collection (rows_among (map view values.now)) (boolean true) s x t) s x t))) }
     ensures fits { IfOk result (λ x. fits_in (view x) booleans ≡ true) }
 {
     if let Some(error) = first_error(alloc, values)? {
@@ -174,7 +192,8 @@ pub fn clear<W: World>(alloc: Global, world: &mut W, collection: u32) -> Result<
     ensures passed { Passed W.Env W.World.own world.old world.new }
     ensures only { StateBecomes W.Env W.World.own world.old world.new
         (WritesOnly (IsOneOf (source.Gathered collection ∷ []))) }
-    ensures keeper { IsErrOf result Stop.Keeper → Rose (W.marks world.old).faults (W.marks world.new).faults }
+    ensures keeper { IsErrOf result Stop.Keeper
+        → Rose (W.marks world.old).faults (W.marks world.new).faults }
     ensures done { IfOk result (λ x. StateBecomes W.Env W.World.own world.old world.new
         (λ s t. Makes (change.Empty collection) (boolean true) s (view x) t)) }
     ensures cut { OnErr result (StateBecomes W.Env W.World.own world.old world.new
@@ -189,11 +208,13 @@ pub fn clear<W: World>(alloc: Global, world: &mut W, collection: u32) -> Result<
     )
 }
 
-/// Makes a screen the current one. The app has it; a world that was asked since may have forgotten that, so it is tested.
+/// Makes a screen the current one. The app has it; a world that was asked since may have forgotten
+/// that, so it is tested.
 pub fn navigate<W: World>(alloc: Global, world: &mut W, screen: u32) -> Result<Value, Stop>
     ensures passed { Passed W.Env W.World.own world.old world.new }
     ensures only { StateBecomes W.Env W.World.own world.old world.new (WritesOnly (IsOneOf [])) }
-    ensures keeper { IsErrOf result Stop.Keeper → Rose (W.marks world.old).faults (W.marks world.new).faults }
+    ensures keeper { IsErrOf result Stop.Keeper
+        → Rose (W.marks world.old).faults (W.marks world.new).faults }
     ensures done { IfOk result (λ x. StateBecomes W.Env W.World.own world.old world.new
         (λ s t. Makes (change.Screen screen) (boolean true) s (view x) t)) }
     ensures cut { OnErr result (StateBecomes W.Env W.World.own world.old world.new
@@ -210,11 +231,14 @@ pub fn navigate<W: World>(alloc: Global, world: &mut W, screen: u32) -> Result<V
 pub fn notify<W: World>(alloc: Global, world: &mut W, text: Value) -> Result<Value, Stop>
     ensures passed { Passed W.Env W.World.own world.old world.new }
     ensures only { StateBecomes W.Env W.World.own world.old world.new (WritesOnly (IsOneOf [])) }
-    ensures keeper { IsErrOf result Stop.Keeper → Rose (W.marks world.old).faults (W.marks world.new).faults }
+    ensures keeper { IsErrOf result Stop.Keeper
+        → Rose (W.marks world.old).faults (W.marks world.new).faults }
     ensures done { IfOk result (λ x. StateBecomes W.Env W.World.own world.old world.new
-        (λ s t. OrError (view text) (Makes (change.Notice (text_or_none (view text))) (boolean true) s (view x) t) s (view x) t)) }
+        (λ s t. OrError (view text) (Makes (change.Notice (text_or_none (view text))) (boolean true)
+        s (view x) t) s (view x) t)) }
     ensures cut { OnErr result (StateBecomes W.Env W.World.own world.old world.new
-        (UpTo (λ s n x t. OrError (view text) (Makes (change.Notice (text_or_none (view text))) (boolean true) s x t) s x t))) }
+        (UpTo (λ s n x t. OrError (view text)
+        (Makes (change.Notice (text_or_none (view text))) (boolean true) s x t) s x t))) }
     ensures fits { IfOk result (λ x. fits_in (view x) booleans ≡ true) }
 {
     match words_of(alloc, text)? {
@@ -240,7 +264,8 @@ fn words_of(alloc: Global, text: Value) -> Result<Result<Words, Fault>, Memory>
 fn tell<W: World>(alloc: Global, world: &mut W, words: Words) -> Result<Value, Stop>
     ensures passed { Passed W.Env W.World.own world.old world.new }
     ensures only { StateBecomes W.Env W.World.own world.old world.new (WritesOnly (IsOneOf [])) }
-    ensures keeper { IsErrOf result Stop.Keeper → Rose (W.marks world.old).faults (W.marks world.new).faults }
+    ensures keeper { IsErrOf result Stop.Keeper
+        → Rose (W.marks world.old).faults (W.marks world.new).faults }
     ensures done { IfOk result (λ x. StateBecomes W.Env W.World.own world.old world.new
         (λ s t. Makes (change.Notice words) (boolean true) s (view x) t)) }
     ensures cut { OnErr result (StateBecomes W.Env W.World.own world.old world.new
@@ -256,7 +281,8 @@ pub fn reset<W: World>(alloc: Global, world: &mut W, control: u32) -> Result<Val
     ensures passed { Passed W.Env W.World.own world.old world.new }
     ensures only { StateBecomes W.Env W.World.own world.old world.new
         (WritesOnly (IsOneOf (source.Input control ∷ []))) }
-    ensures keeper { IsErrOf result Stop.Keeper → Rose (W.marks world.old).faults (W.marks world.new).faults }
+    ensures keeper { IsErrOf result Stop.Keeper
+        → Rose (W.marks world.old).faults (W.marks world.new).faults }
     ensures done { IfOk result (λ x. StateBecomes W.Env W.World.own world.old world.new
         (λ s t. Makes (change.Input control None) (boolean true) s (view x) t)) }
     ensures cut { OnErr result (StateBecomes W.Env W.World.own world.old world.new

@@ -1,5 +1,6 @@
 //! Rows of tables that are made or changed.
-ghost use Rattle.std.specs.Prelude.{◌≡◌, ◌≤◌, ◌∷◌, [], false, true, IfOk, IfSome, IsErrOf, IsSome, OnErr, map, option_map, slice_get, take};
+ghost use Rattle.std.specs.Prelude.{◌≡◌, ◌≤◌, ◌∷◌, [], false, true, IfOk, IfSome, IsErrOf, IsSome};
+ghost use Rattle.std.specs.Prelude.{OnErr, map, option_map, slice_get, take};
 ghost use Rattle.std.specs.List.{find};
 ghost use Rattle.fx_base.specs.Faults.{Rose};
 ghost use Rattle.fx_base.specs.Silence.{MayFallSilent, IsLater, SilenceCause};
@@ -22,10 +23,15 @@ ghost use Rattle.row_queries.specs.TableRows.{AreCellsOf};
 ghost use Rattle.row_keeper.specs.Numbered.{one_row as one_row_query};
 ghost use Rattle.row_keeper.specs.Rules.{only_key};
 ghost use Rattle.fx_deeds.specs.CutOff.{UpTo};
-ghost use Rattle.fx_deeds.specs.Deeds.{AreUpdated, IsPatched, MakesRow, OfTable, PatchesBase, PatchesById, PatchesRow, row_id_value};
-ghost use Rattle.fx_deeds.specs.Finding.{CanChangeEach, CanChangeRows, CanPatchRows, FindsCells, IsPutEnd, IsPutOf, IsRowAt, IsRowPatched, IsShape, IsUpdatedRow, first_cells as first_cells_of};
+ghost use Rattle.fx_deeds.specs.Deeds.{AreUpdated, IsPatched, MakesRow, OfTable, PatchesBase};
+ghost use Rattle.fx_deeds.specs.Deeds.{PatchesById, PatchesRow, row_id_value};
+ghost use Rattle.fx_deeds.specs.Finding.{CanChangeEach, CanChangeRows, CanPatchRows, FindsCells};
+ghost use Rattle.fx_deeds.specs.Finding.{IsPutEnd, IsPutOf, IsRowAt, IsRowPatched, IsShape};
+ghost use Rattle.fx_deeds.specs.Finding.{IsUpdatedRow, first_cells as first_cells_of};
 ghost use Rattle.fx_deeds.specs.Found.{NamesRow};
-ghost use Rattle.fx_deeds.specs.RowValues.{blank_cells as blank_cells_of, changed_cells as changed_cells_of, rows_among, values_among};
+ghost use Rattle.fx_deeds.specs.RowValues.{blank_cells as blank_cells_of};
+ghost use Rattle.fx_deeds.specs.RowValues.{changed_cells as changed_cells_of, rows_among};
+ghost use Rattle.fx_deeds.specs.RowValues.{values_among};
 ghost use Rattle.fx_deeds.specs.StagesOver.{Passed, StateBecomes};
 ghost use Rattle.fx_deeds.specs.Writable.{IsOneOf, WritesOnly};
 
@@ -105,10 +111,13 @@ fn one_row(alloc: Global, table: u16, id: u32) -> Result<Query, Memory>
 fn scan_row<W: World>(alloc: Global, world: &mut W, table: u16, id: u32) -> Result<Value, Stop>
     requires { IsQuery (W.fixed world.old).schema.tables (one_row_query table id) }
     ensures fixed { W.fixed world.new ≡ W.fixed world.old }
-    ensures told { MayFallSilent (SilenceCause (W.marks world.old) (W.marks world.new)) Stays (W.told world.old) (W.told world.new) }
-    ensures value { IfOk result (λ v. IsScanValue (W.fixed world.old).schema.tables (tables_told (W.told world.new)) (one_row_query table id) (view v)) }
+    ensures told { MayFallSilent (SilenceCause (W.marks world.old) (W.marks world.new)) Stays
+        (W.told world.old) (W.told world.new) }
+    ensures value { IfOk result (λ v. IsScanValue (W.fixed world.old).schema.tables
+        (tables_told (W.told world.new)) (one_row_query table id) (view v)) }
     ensures marks { IsLater (W.marks world.old) (W.marks world.new) }
-    ensures keeper { IsErrOf result Stop.Keeper → Rose (W.marks world.old).faults (W.marks world.new).faults }
+    ensures keeper { IsErrOf result Stop.Keeper
+        → Rose (W.marks world.old).faults (W.marks world.new).faults }
     ensures visited { W.visited world.old ≤ W.visited world.new }
 {
     let query = one_row(alloc, table, id)?;
@@ -139,7 +148,8 @@ fn find_cells<W: World>(
     requires { IsShape (W.fixed world.old).schema table shape.now }
     ensures passed { Passed W.Env W.World.own world.old world.new }
     ensures stays { StateBecomes W.Env W.World.own world.old world.new Stays }
-    ensures keeper { IsErrOf result Stop.Keeper → Rose (W.marks world.old).faults (W.marks world.new).faults }
+    ensures keeper { IsErrOf result Stop.Keeper
+        → Rose (W.marks world.old).faults (W.marks world.new).faults }
     ensures found { IfOk result (λ o. StateBecomes W.Env W.World.own world.old world.new
         (FindsCells table id o)) }
     ensures fit { IfOk result (λ o. IfSome o (IsRowAt shape.now id)) }
@@ -165,7 +175,8 @@ fn make_row<W: World>(
     ensures passed { Passed W.Env W.World.own world.old world.new }
     ensures only { StateBecomes W.Env W.World.own world.old world.new
         (WritesOnly (IsOneOf (source.Table table ∷ []))) }
-    ensures keeper { IsErrOf result Stop.Keeper → Rose (W.marks world.old).faults (W.marks world.new).faults }
+    ensures keeper { IsErrOf result Stop.Keeper
+        → Rose (W.marks world.old).faults (W.marks world.new).faults }
     ensures done { IfOk result (λ x. StateBecomes W.Env W.World.own world.old world.new
         (λ s t. MakesRow shape.now table cells s (view x) t)) }
     ensures cut { OnErr result (StateBecomes W.Env W.World.own world.old world.new
@@ -197,7 +208,8 @@ fn put_changed<W: World>(
     ensures passed { Passed W.Env W.World.own world.old world.new }
     ensures only { StateBecomes W.Env W.World.own world.old world.new
         (WritesOnly (IsOneOf (source.Table table ∷ []))) }
-    ensures keeper { IsErrOf result Stop.Keeper → Rose (W.marks world.old).faults (W.marks world.new).faults }
+    ensures keeper { IsErrOf result Stop.Keeper
+        → Rose (W.marks world.old).faults (W.marks world.new).faults }
     ensures done { IfOk result (λ r. StateBecomes W.Env W.World.own world.old world.new
         (IsRowPatched shape.now table changes.now id r.cells r.put)) }
     ensures stops { OnErr result (StateBecomes W.Env W.World.own world.old world.new Stays) }
@@ -228,7 +240,8 @@ fn patch_row<W: World>(
     ensures passed { Passed W.Env W.World.own world.old world.new }
     ensures only { StateBecomes W.Env W.World.own world.old world.new
         (WritesOnly (IsOneOf (source.Table table ∷ []))) }
-    ensures keeper { IsErrOf result Stop.Keeper → Rose (W.marks world.old).faults (W.marks world.new).faults }
+    ensures keeper { IsErrOf result Stop.Keeper
+        → Rose (W.marks world.old).faults (W.marks world.new).faults }
     ensures done { IfOk result (λ x. StateBecomes W.Env W.World.own world.old world.new
         (λ s t. PatchesRow shape.now table changes.now id s (view x) t)) }
     ensures cut { OnErr result (StateBecomes W.Env W.World.own world.old world.new
@@ -253,11 +266,14 @@ fn patch_new<W: World>(
     ensures passed { Passed W.Env W.World.own world.old world.new }
     ensures only { StateBecomes W.Env W.World.own world.old world.new
         (WritesOnly (IsOneOf (source.Table table ∷ []))) }
-    ensures keeper { IsErrOf result Stop.Keeper → Rose (W.marks world.old).faults (W.marks world.new).faults }
+    ensures keeper { IsErrOf result Stop.Keeper
+        → Rose (W.marks world.old).faults (W.marks world.new).faults }
     ensures done { IfOk result (λ x. StateBecomes W.Env W.World.own world.old world.new
-        (λ s t. MakesRow shape.now table (changed_cells_of shape.now.columns changes.now (blank_cells_of shape.now.columns)) s (view x) t)) }
+        (λ s t. MakesRow shape.now table (changed_cells_of shape.now.columns changes.now
+        (blank_cells_of shape.now.columns)) s (view x) t)) }
     ensures cut { OnErr result (StateBecomes W.Env W.World.own world.old world.new
-        (UpTo (λ s n x t. MakesRow shape.now table (changed_cells_of shape.now.columns changes.now (blank_cells_of shape.now.columns)) s x t))) }
+        (UpTo (λ s n x t. MakesRow shape.now table
+        (changed_cells_of shape.now.columns changes.now (blank_cells_of shape.now.columns)) s x t))) }
     ensures fits { IfOk result (λ x. fits_in (view x) (records (columns_of shape.now)) ≡ true) }
 {
     let columns = shape.columns.as_slice();
@@ -292,11 +308,14 @@ fn patch_numbered<W: World>(
     ensures passed { Passed W.Env W.World.own world.old world.new }
     ensures only { StateBecomes W.Env W.World.own world.old world.new
         (WritesOnly (IsOneOf (source.Table table ∷ []))) }
-    ensures keeper { IsErrOf result Stop.Keeper → Rose (W.marks world.old).faults (W.marks world.new).faults }
+    ensures keeper { IsErrOf result Stop.Keeper
+        → Rose (W.marks world.old).faults (W.marks world.new).faults }
     ensures done { IfOk result (λ x. StateBecomes W.Env W.World.own world.old world.new
-        (λ s t. PatchesById shape.now table changes.now (row_id_value (view base.now)) s (view x) t)) }
+        (λ s t. PatchesById shape.now table changes.now (row_id_value (view base.now)) s (view x)
+        t)) }
     ensures cut { OnErr result (StateBecomes W.Env W.World.own world.old world.new
-        (UpTo (λ s n x t. PatchesById shape.now table changes.now (row_id_value (view base.now)) s x t))) }
+        (UpTo (λ s n x t. PatchesById shape.now table changes.now (row_id_value (view base.now)) s x
+        t))) }
     ensures fits { IfOk result (λ x. fits_in (view x) (records (columns_of shape.now)) ≡ true) }
 {
     if has_blank_number(alloc, base)? {
@@ -323,7 +342,8 @@ fn patch_base<W: World>(
     ensures passed { Passed W.Env W.World.own world.old world.new }
     ensures only { StateBecomes W.Env W.World.own world.old world.new
         (WritesOnly (IsOneOf (source.Table table ∷ []))) }
-    ensures keeper { IsErrOf result Stop.Keeper → Rose (W.marks world.old).faults (W.marks world.new).faults }
+    ensures keeper { IsErrOf result Stop.Keeper
+        → Rose (W.marks world.old).faults (W.marks world.new).faults }
     ensures done { IfOk result (λ x. StateBecomes W.Env W.World.own world.old world.new
         (λ s t. PatchesBase shape.now table changes.now (view base.now) s (view x) t)) }
     ensures cut { OnErr result (StateBecomes W.Env W.World.own world.old world.new
@@ -338,7 +358,8 @@ fn patch_base<W: World>(
 
 // The first error among the number of a base and the fields of its changes.
 fn error_of(alloc: Global, base: &Value, changes: &[Fields]) -> Result<Option<Value>, Memory>
-    ensures { IfOk result (λ e. option_map view e ≡ find is_fault (row_id_value (view base.now) ∷ values_among changes.now)) }
+    ensures { IfOk result (λ e. option_map view e
+        ≡ find is_fault (row_id_value (view base.now) ∷ values_among changes.now)) }
 {
     let number = id_value(alloc, base)?;
     if let Value::Fault(fault) = number {
@@ -347,8 +368,8 @@ fn error_of(alloc: Global, base: &Value, changes: &[Fields]) -> Result<Option<Va
     error_among(alloc, changes)
 }
 
-/// `Patch` on a table, where base and changes are no errors: an error of the base's number or of a changed field is the
-/// answer.
+/// `Patch` on a table, where base and changes are no errors: an error of the base's number or of a
+/// changed field is the answer.
 pub(crate) fn patch_table<W: World>(
     alloc: Global,
     world: &mut W,
@@ -356,16 +377,21 @@ pub(crate) fn patch_table<W: World>(
     base: &Value,
     changes: &[Value],
 ) -> Result<Value, Stop>
-    requires { OfTable (W.fixed world.old).schema table (λ p. CanPatchRows p (rows_among (map view changes.now))) }
+    requires { OfTable (W.fixed world.old).schema table
+        (λ p. CanPatchRows p (rows_among (map view changes.now))) }
     ensures passed { Passed W.Env W.World.own world.old world.new }
     ensures only { StateBecomes W.Env W.World.own world.old world.new
         (WritesOnly (IsOneOf (source.Table table ∷ []))) }
-    ensures keeper { IsErrOf result Stop.Keeper → Rose (W.marks world.old).faults (W.marks world.new).faults }
+    ensures keeper { IsErrOf result Stop.Keeper
+        → Rose (W.marks world.old).faults (W.marks world.new).faults }
     ensures done { IfOk result (λ x. StateBecomes W.Env W.World.own world.old world.new
-        (λ s t. IsPatched (W.fixed world.old).schema table (view base.now) (map view changes.now) s (view x) t)) }
+        (λ s t. IsPatched (W.fixed world.old).schema table (view base.now) (map view changes.now) s
+        (view x) t)) }
     ensures cut { OnErr result (StateBecomes W.Env W.World.own world.old world.new
-        (UpTo (λ s n x t. IsPatched (W.fixed world.old).schema table (view base.now) (map view changes.now) s x t))) }
-    ensures fits { OfTable (W.fixed world.old).schema table (λ p. IfOk result (λ x. fits_in (view x) (records (columns_of p)) ≡ true)) }
+        (UpTo (λ s n x t. IsPatched (W.fixed world.old).schema table (view base.now)
+        (map view changes.now) s x t))) }
+    ensures fits { OfTable (W.fixed world.old).schema table
+        (λ p. IfOk result (λ x. fits_in (view x) (records (columns_of p)) ≡ true)) }
 {
     let shape = shape_of(alloc, world, table)?;
     let changes = with_tables(alloc, Rows::new(alloc), changes)?;
@@ -389,7 +415,8 @@ fn update_row<W: World>(
     ensures passed { Passed W.Env W.World.own world.old world.new }
     ensures only { StateBecomes W.Env W.World.own world.old world.new
         (WritesOnly (IsOneOf (source.Table table ∷ []))) }
-    ensures keeper { IsErrOf result Stop.Keeper → Rose (W.marks world.old).faults (W.marks world.new).faults }
+    ensures keeper { IsErrOf result Stop.Keeper
+        → Rose (W.marks world.old).faults (W.marks world.new).faults }
     ensures done { IfOk result (λ o. StateBecomes W.Env W.World.own world.old world.new
         (IsUpdatedRow shape.now table row.now (view change.now) o)) }
     ensures cut { OnErr result (StateBecomes W.Env W.World.own world.old world.new
@@ -431,8 +458,8 @@ fn put_end(alloc: Global, shape: &TableShape, put: Put) -> Result<Option<Value>,
     }
 }
 
-/// `UpdateIf` on a table, where no change is an error or has one: the rows that records number are changed, each by its
-/// change, up to the first that a rule refuses.
+/// `UpdateIf` on a table, where no change is an error or has one: the rows that records number are
+/// changed, each by its change, up to the first that a rule refuses.
 pub(crate) fn update_table<W: World>(
     alloc: Global,
     world: &mut W,
@@ -440,15 +467,19 @@ pub(crate) fn update_table<W: World>(
     rows: &[Fields],
     changes: &[Value],
 ) -> Result<Value, Stop>
-    requires { OfTable (W.fixed world.old).schema table (λ p. CanChangeEach p (map view changes.now)) }
+    requires { OfTable (W.fixed world.old).schema table
+        (λ p. CanChangeEach p (map view changes.now)) }
     ensures passed { Passed W.Env W.World.own world.old world.new }
     ensures only { StateBecomes W.Env W.World.own world.old world.new
         (WritesOnly (IsOneOf (source.Table table ∷ []))) }
-    ensures keeper { IsErrOf result Stop.Keeper → Rose (W.marks world.old).faults (W.marks world.new).faults }
+    ensures keeper { IsErrOf result Stop.Keeper
+        → Rose (W.marks world.old).faults (W.marks world.new).faults }
     ensures done { IfOk result (λ x. StateBecomes W.Env W.World.own world.old world.new
-        (λ s t. OfTable (W.fixed world.old).schema table (λ p. AreUpdated p table rows.now (map view changes.now) s (view x) t))) }
+        (λ s t. OfTable (W.fixed world.old).schema table
+        (λ p. AreUpdated p table rows.now (map view changes.now) s (view x) t))) }
     ensures cut { OnErr result (StateBecomes W.Env W.World.own world.old world.new
-        (UpTo (λ s n x t. OfTable (W.fixed world.old).schema table (λ p. AreUpdated p table (take n rows.now) (map view changes.now) s x t)))) }
+        (UpTo (λ s n x t. OfTable (W.fixed world.old).schema table
+        (λ p. AreUpdated p table (take n rows.now) (map view changes.now) s x t)))) }
     ensures fits { IfOk result (λ x. fits_in (view x) booleans ≡ true) }
 {
     let shape = shape_of(alloc, world, table)?;
@@ -469,11 +500,13 @@ fn update_rows<W: World>(
     ensures passed { Passed W.Env W.World.own world.old world.new }
     ensures only { StateBecomes W.Env W.World.own world.old world.new
         (WritesOnly (IsOneOf (source.Table table ∷ []))) }
-    ensures keeper { IsErrOf result Stop.Keeper → Rose (W.marks world.old).faults (W.marks world.new).faults }
+    ensures keeper { IsErrOf result Stop.Keeper
+        → Rose (W.marks world.old).faults (W.marks world.new).faults }
     ensures done { IfOk result (λ x. StateBecomes W.Env W.World.own world.old world.new
         (λ s t. AreUpdated shape.now table rows.now (map view changes.now) s (view x) t)) }
     ensures cut { OnErr result (StateBecomes W.Env W.World.own world.old world.new
-        (UpTo (λ s n x t. AreUpdated shape.now table (take n rows.now) (map view changes.now) s x t))) }
+        (UpTo (λ s n x t. AreUpdated shape.now table (take n rows.now) (map view changes.now) s x
+        t))) }
     ensures fits { IfOk result (λ x. fits_in (view x) booleans ≡ true) }
 {
     let mut rest = rows;

@@ -1,8 +1,10 @@
 //! `UpdateIf` on a collection.
-ghost use Rattle.std.specs.Prelude.{◌≡◌, ◌∷◌, [], true, IfOk, IfSome, IsErrOf, map, option_map, OnErr};
+ghost use Rattle.std.specs.Prelude.{◌≡◌, ◌∷◌, [], true, IfOk, IfSome, IsErrOf, map, option_map};
+ghost use Rattle.std.specs.Prelude.{OnErr};
 ghost use Rattle.std.specs.List.{find};
 ghost use Rattle.fx_base.specs.Faults.{Rose};
-ghost use Rattle.fx_types.specs.Types.{ColumnList, booleans, column_list, records as records_type, tables};
+ghost use Rattle.fx_types.specs.Types.{ColumnList, booleans, column_list, records as records_type};
+ghost use Rattle.fx_types.specs.Types.{tables};
 ghost use Rattle.fx_types.specs.ValueView.{view};
 ghost use Rattle.fx_semantics.specs.Around.{record_of};
 ghost use Rattle.fx_semantics.specs.Rows.{table_of};
@@ -47,7 +49,8 @@ fn error_of(alloc: Global, change: &Value) -> Result<Option<Value>, Memory>
 
 /// The first error among changes and in their fields.
 pub(crate) fn first_of_changes(alloc: Global, changes: &[Value]) -> Result<Option<Value>, Memory>
-    ensures { IfOk result (λ e. option_map view e ≡ find is_fault (errors_in (map view changes.now))) }
+    ensures { IfOk result (λ e. option_map view e
+        ≡ find is_fault (errors_in (map view changes.now))) }
 {
     let mut rest = changes;
     while let Some((change, others)) = rest.split_first() {
@@ -68,9 +71,12 @@ fn changed_if_first(
     changes: &[Value],
 ) -> Result<Option<Fields>, Memory>
     requires records { AreRecords kept.now }
-    requires can { CanChangeAll (column_list columns.now) (record_rows kept.now) (map view changes.now) }
-    ensures first { IfOk result (λ o. IsChangedFirst (column_list columns.now) row.now (record_rows kept.now) (map view changes.now) o) }
-    ensures fits { IfOk result (λ o. IfSome o (λ r. fits_in (record_of r) (records_type (column_list columns.now)) ≡ true)) }
+    requires can { CanChangeAll (column_list columns.now) (record_rows kept.now)
+        (map view changes.now) }
+    ensures first { IfOk result (λ o. IsChangedFirst (column_list columns.now) row.now
+        (record_rows kept.now) (map view changes.now) o) }
+    ensures fits { IfOk result (λ o. IfSome o
+        (λ r. fits_in (record_of r) (records_type (column_list columns.now)) ≡ true)) }
 {
     let Some((change, _)) = changes.split_first() else {
         return Ok(None);
@@ -82,7 +88,8 @@ fn changed_if_first(
     Ok(Some(changed_row(alloc, columns, changes.as_slice(), row)?))
 }
 
-// Rows in which those that were kept, which stand among them in order, are changed, each by its change.
+// Rows in which those that were kept, which stand among them in order, are changed, each by its
+// change.
 fn rows_with(
     alloc: Global,
     columns: &Columns,
@@ -91,9 +98,12 @@ fn rows_with(
     changes: &[Value],
 ) -> Result<Rows, Memory>
     requires records { AreRecords kept.now }
-    requires can { CanChangeAll (column_list columns.now) (record_rows kept.now) (map view changes.now) }
-    ensures with { IfOk result (λ made. AreWith (column_list columns.now) rows.now (record_rows kept.now) (map view changes.now) made) }
-    ensures fits { fits_in (table_of rows.now) (tables (column_list columns.now)) ≡ true → IfOk result (λ made. fits_in (table_of made) (tables (column_list columns.now)) ≡ true) }
+    requires can { CanChangeAll (column_list columns.now) (record_rows kept.now)
+        (map view changes.now) }
+    ensures with { IfOk result (λ made. AreWith (column_list columns.now) rows.now
+        (record_rows kept.now) (map view changes.now) made) }
+    ensures fits { fits_in (table_of rows.now) (tables (column_list columns.now)) ≡ true
+        → IfOk result (λ made. fits_in (table_of made) (tables (column_list columns.now)) ≡ true) }
 {
     let mut made = Rows::new(alloc);
     let mut rest = rows;
@@ -113,8 +123,8 @@ fn rows_with(
     Ok(made)
 }
 
-/// `UpdateIf` on a collection, where no change is an error or has one: the rows of its filter are changed, each by its
-/// change.
+/// `UpdateIf` on a collection, where no change is an error or has one: the rows of its filter are
+/// changed, each by its change.
 pub(crate) fn update_equal<W: World, L: Ledger>(
     alloc: Global,
     world: &mut W,
@@ -123,15 +133,21 @@ pub(crate) fn update_equal<W: World, L: Ledger>(
     changes: &[Value],
     steps: &mut Steps<L>,
 ) -> Result<Value, Stop>
-    requires { (cs : ColumnList) × IsOfColumns (W.fixed world.old).types collection cs × CanChangeAll cs kept.now (map view changes.now) }
+    requires { (cs : ColumnList) × IsOfColumns (W.fixed world.old).types collection cs
+        × CanChangeAll cs kept.now (map view changes.now) }
     ensures passed { Passed W.Env W.World.own world.old world.new }
     ensures only { StateBecomes W.Env W.World.own world.old world.new
         (WritesOnly (IsOneOf (source.Gathered collection ∷ []))) }
-    ensures keeper { IsErrOf result Stop.Keeper → Rose (W.marks world.old).faults (W.marks world.new).faults }
+    ensures keeper { IsErrOf result Stop.Keeper
+        → Rose (W.marks world.old).faults (W.marks world.new).faults }
     ensures done { IfOk result (λ x. StateBecomes W.Env W.World.own world.old world.new
-        (λ s t. AreUpdatedIn (columns_of_rows ((W.fixed world.old).types (source.Gathered collection))) collection kept.now (map view changes.now) s (view x) t)) }
+        (λ s t. AreUpdatedIn (columns_of_rows
+        ((W.fixed world.old).types (source.Gathered collection))) collection kept.now
+        (map view changes.now) s (view x) t)) }
     ensures cut { OnErr result (StateBecomes W.Env W.World.own world.old world.new
-        (UpTo (λ s n x t. AreUpdatedIn (columns_of_rows ((W.fixed world.old).types (source.Gathered collection))) collection kept.now (map view changes.now) s x t))) }
+        (UpTo (λ s n x t. AreUpdatedIn (columns_of_rows
+        ((W.fixed world.old).types (source.Gathered collection))) collection kept.now
+        (map view changes.now) s x t))) }
     ensures fits { IfOk result (λ x. fits_in (view x) booleans ≡ true) }
 {
     let columns = collection_columns(alloc, world, collection)?;

@@ -29,7 +29,8 @@ use std::alloc::Global;
 
 // The first field of a record that is none of some columns.
 fn first_more(alloc: Global, columns: &Columns, fields: &Columns) -> Result<Option<Words>, Memory>
-    ensures { IfOk result (λ w. w ≡ told.first_more (column_list columns.now) (column_list fields.now)) }
+    ensures { IfOk result (λ w. w ≡ told.first_more (column_list columns.now)
+        (column_list fields.now)) }
 {
     for (name, _) in fields.as_slice() {
         if field_in(name, columns).is_none() {
@@ -42,7 +43,8 @@ fn first_more(alloc: Global, columns: &Columns, fields: &Columns) -> Result<Opti
 // `ID`, where no field has this name.
 fn missing_id(alloc: Global, fields: &Columns) -> Result<Option<Words>, Memory>
     ensures { IfOk result (λ w. w
-        ≡ (if is_some (lists.field_in (codes "ID") (column_list fields.now)) then None else Some (codes "ID"))) }
+        ≡ (if is_some (lists.field_in (codes "ID") (column_list fields.now)) then None else Some
+        (codes "ID"))) }
 {
     let id = word(alloc, "ID")?;
     if field_in(&id, fields).is_some() {
@@ -84,7 +86,8 @@ fn first_unnamed_column(
     values: &[&Typed],
 ) -> Result<Option<Words>, Memory>
     ensures { IfOk result (λ w. w ≡ told.first_detail
-        (told.unnamed_at rows.now.target (column_list rows.now.columns)) (map (λ v. typed v.now) values.now)) }
+        (told.unnamed_at rows.now.target (column_list rows.now.columns))
+        (map (λ v. typed v.now) values.now)) }
 {
     for value in values {
         if let Some(said) = unnamed_column(alloc, rows, &value.ty)? {
@@ -101,7 +104,8 @@ fn first_unset_column(
     values: &[&Typed],
 ) -> Result<Option<Words>, Memory>
     ensures { IfOk result (λ w. w ≡ told.first_detail
-        (told.unsettable_column rows.now.target (column_list rows.now.columns)) (map (λ v. typed v.now) values.now)) }
+        (told.unsettable_column rows.now.target (column_list rows.now.columns))
+        (map (λ v. typed v.now) values.now)) }
 {
     for value in values {
         if let Some(said) = unset_column(alloc, rows, &value.ty)? {
@@ -155,7 +159,8 @@ fn column_by_name(
     values: &[&Typed],
 ) -> Result<Option<Words>, Memory>
     requires { IsLawful names.now }
-    ensures { IfOk result (λ w. w ≡ told.acting_detail (targets.rows_named names.now name.now) acting
+    ensures { IfOk result (λ w. w ≡ told.acting_detail (targets.rows_named names.now name.now)
+        acting
         (map (λ v. typed v.now) values.now)) }
 {
     let Some(rows) = find_target(alloc, names, name)? else {
@@ -179,7 +184,8 @@ fn column_behind(
 ) -> Result<Words, Memory>
     requires { IsLawful names.now }
     ensures { IfOk result (λ w. w
-        ≡ told.column_in names.now (Some (sig.Act acting)) (judged_part first.now ∷ map judged_part others.now)) }
+        ≡ told.column_in names.now (Some (sig.Act acting))
+        (judged_part first.now ∷ map judged_part others.now)) }
 {
     let Part::Target(_, name) = first else {
         return nothing(alloc);

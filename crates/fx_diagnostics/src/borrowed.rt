@@ -27,7 +27,8 @@ pub fn values_or_none<'p>(alloc: Global, all: &'p [Part]) -> Result<Vec<&'p Type
 
 /// The values and the names of columns.
 pub fn all_pieces<'p>(alloc: Global, all: &'p [Part]) -> Result<Vec<&'p Piece>, Memory>
-    ensures { IfOk result (λ ps. map (λ p. piece_view p.now) ps.items ≡ told.all_pieces (map judged_part all.now)) }
+    ensures { IfOk result (λ ps. map (λ p. piece_view p.now) ps.items
+        ≡ told.all_pieces (map judged_part all.now)) }
 {
     let mut found = Vec::new(alloc);
     for one in all {

@@ -1,4 +1,5 @@
-//! What is said of a broken node besides its rule: the names that it has wrong, its wrong types, and the limits that it passes.
+//! What is said of a broken node besides its rule: the names that it has wrong, its wrong types,
+//! and the limits that it passes.
 #![tactic(auto)]
 
 pub mod acted;

@@ -20,8 +20,8 @@ use fx_typing::Typed;
 use fx_typing::columns::{put_column, row_columns};
 use std::alloc::Global;
 
-// The number behind this one, if there is one. Past the greatest it counts as want of memory, since no clause says how
-// deep a type in memory can be.
+// The number behind this one, if there is one. Past the greatest it counts as want of memory, since
+// no clause says how deep a type in memory can be.
 fn one_more(number: usize) -> Result<usize, Memory>
     ensures { IfOk result (λ n. n ≡ suc number) }
 {
@@ -126,7 +126,8 @@ pub fn list_limit(alloc: Global, values: &[&Typed]) -> Result<Words, Memory>
 
 /// How many scopes of calls over tables would stand in one another.
 pub fn nesting(alloc: Global, scopes: &Scopes) -> Result<Words, Memory>
-    ensures { IfOk result (λ w. w ≡ told.word_with_number (codes "nested") (suc (depth_of scopes.now))) }
+    ensures { IfOk result (λ w. w ≡ told.word_with_number (codes "nested")
+        (suc (depth_of scopes.now))) }
 {
     word_with_count(alloc, "nested", one_more(scopes.depth())?)
 }

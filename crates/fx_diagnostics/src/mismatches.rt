@@ -210,7 +210,8 @@ fn call_mismatch(
     all: &[Part],
 ) -> Result<Words, Memory>
     requires { IsLawful at.now.names.now }
-    ensures { IfOk result (λ w. w ≡ told.unjoined (place_view at.now) shape (map judged_part all.now)) }
+    ensures { IfOk result (λ w. w ≡ told.unjoined (place_view at.now) shape
+        (map judged_part all.now)) }
 {
     match shape {
         Some(SigShape::Act(acting)) => acting_mismatch(alloc, at, acting, all),

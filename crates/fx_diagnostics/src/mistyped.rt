@@ -51,7 +51,8 @@ fn push_rows(
     }
 }
 
-// Adds the name of a part's type; what is no value is called a record, and a column's name has no type.
+// Adds the name of a part's type; what is no value is called a record, and a column's name has no
+// type.
 fn push_part(alloc: Global, names: &Names, one: &Part, found: &mut Vec<Words>) -> Result<(), Memory>
     requires { IsLawful names.now }
     ensures { OnOk result (found.new.items
@@ -147,7 +148,8 @@ fn stands_as_table(alloc: Global, names: &Names, one: &Part) -> Result<bool, Mem
     }
 }
 
-// The names of the types of the parts of a call that takes a table first: a wrong one is told alone.
+// The names of the types of the parts of a call that takes a table first: a wrong one is told
+// alone.
 fn names_over_table(alloc: Global, names: &Names, all: &[Part]) -> Result<Vec<Words>, Memory>
     requires { IsLawful names.now }
     ensures { IfOk result (λ v. v.items ≡ told.call_names names.now true (map judged_part all.now)) }
@@ -174,7 +176,8 @@ fn call_names(
 ) -> Result<Vec<Words>, Memory>
     requires { IsLawful names.now }
     ensures { IfOk result (λ v. v.items ≡ told.call_names names.now
-        (told.takes_table (plans.called_as names.now name.now) (map judged_part all.now)) (map judged_part all.now)) }
+        (told.takes_table (plans.called_as names.now name.now) (map judged_part all.now))
+        (map judged_part all.now)) }
 {
     if takes_table(call_shape(names, name), all) {
         names_over_table(alloc, names, all)
@@ -192,8 +195,8 @@ fn record_alone(alloc: Global) -> Result<Vec<Words>, Memory>
     Ok(found)
 }
 
-/// The names of the types of a node's parts. A name by itself that is no value is called a record, and so
-/// is a name for rows where none belongs.
+/// The names of the types of a node's parts. A name by itself that is no value is called a record,
+/// and so is a name for rows where none belongs.
 pub fn wrong_types(
     alloc: Global,
     names: &Names,
@@ -201,7 +204,8 @@ pub fn wrong_types(
     all: &[Part],
 ) -> Result<Vec<Words>, Memory>
     requires { IsLawful names.now }
-    ensures { IfOk result (λ v. v.items ≡ told.wrong_types names.now (tree_head whole.now) (map judged_part all.now)) }
+    ensures { IfOk result (λ v. v.items ≡ told.wrong_types names.now (tree_head whole.now)
+        (map judged_part all.now)) }
 {
     match &whole.node {
         Node::Name(_) | Node::Global(_) | Node::Alias(_, _) => record_alone(alloc),

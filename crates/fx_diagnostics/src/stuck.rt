@@ -101,7 +101,8 @@ fn stuck_behind(
     others: &[&Piece],
 ) -> Result<Words, Memory>
     ensures { (a : Option (List ℕ)) → IfOk result (λ w. w ≡ told.stuck_by answer
-        (local.value a value.now.core (shape value.now.ty) ∷ map (λ p. piece_view p.now) others.now)) }
+        (local.value a value.now.core (shape value.now.ty)
+        ∷ map (λ p. piece_view p.now) others.now)) }
 {
     let columns = item_columns(alloc, &value.ty)?;
     match answer {
@@ -154,7 +155,8 @@ pub fn repeated_name(
     whole: &Expr,
     all: &[Part],
 ) -> Result<Words, Memory>
-    ensures { IfOk result (λ w. w ≡ told.named_twice names.now (tree_head whole.now) (map judged_part all.now)) }
+    ensures { IfOk result (λ w. w ≡ told.named_twice names.now (tree_head whole.now)
+        (map judged_part all.now)) }
 {
     match &whole.node {
         Node::Rec(fields) => twice_in(alloc, fields.as_slice()),
@@ -187,7 +189,8 @@ pub fn unknown_column(
     all: &[Part],
 ) -> Result<Words, Memory>
     requires { IsLawful names.now }
-    ensures { IfOk result (λ w. w ≡ told.unknown_column_detail names.now (tree_head whole.now) (map judged_part all.now)) }
+    ensures { IfOk result (λ w. w ≡ told.unknown_column_detail names.now (tree_head whole.now)
+        (map judged_part all.now)) }
 {
     match &whole.node {
         Node::Dot(_, name) => name.copy(alloc),

@@ -1,5 +1,6 @@
 //! Texts that are said of a broken node.
-ghost use Rattle.std.specs.Prelude.{◌≡◌, ◌++◌, [], IfOk, OnOk, codes, encode_utf8_all, string_bytes};
+ghost use Rattle.std.specs.Prelude.{◌≡◌, ◌++◌, [], IfOk, OnOk, codes, encode_utf8_all};
+ghost use Rattle.std.specs.Prelude.{string_bytes};
 ghost use Rattle.fx_types.specs.TypeView.{shape};
 ghost use Rattle.std.specs.Fmt.{decimal};
 ghost use Rattle.std.specs.Str.{IsAscii};

@@ -14,13 +14,16 @@ use Rattle.row_queries.specs.TableRows.{rows_at, rows_table}
 
 -- each table may be read, at its type
 abbrev pub AreRead : (Source → Option Shape) → List TableShape → Type 0
-AreRead types shapes = (n : ℕ) (t : TableShape) → slice_get shapes n ≡ Some t → types (source.Table n) ≡ Some (tables (columns_of t))
+AreRead types shapes = (n : ℕ) (t : TableShape) → slice_get shapes n ≡ Some t
+    → types (source.Table n) ≡ Some (tables (columns_of t))
 
 -- the value of each table is that of its rows
 abbrev pub AreValuesOf : List TableShape → (Source → Data) → List (List Row) → Type 0
-AreValuesOf shapes values rows = (n : ℕ) (t : TableShape) → slice_get shapes n ≡ Some t → values (source.Table n) ≡ rows_table t (rows_at rows n)
+AreValuesOf shapes values rows = (n : ℕ) (t : TableShape) → slice_get shapes n ≡ Some t
+    → values (source.Table n) ≡ rows_table t (rows_at rows n)
 
--- the tables are lawful, each may be read, and where something is told, the values of tables are those of their rows
+-- the tables are lawful, each may be read, and where something is told, the values of tables are
+-- those of their rows
 pub record KeepsTables {B : Type 0} (f : Fixed) (told : Option (EnvState B)) : Type 0 where
   pub lawful : IsLawfulSchema f.schema
   pub read : AreRead f.types f.schema.tables
@@ -28,7 +31,8 @@ pub record KeepsTables {B : Type 0} (f : Fixed) (told : Option (EnvState B)) : T
 
 -- what is told of rows is what is told of the values of tables
 abbrev pub AreTold : List TableShape → Option (Source → Data) → Option (List (List Row)) → Type 0
-AreTold shapes told rows = (values : Source → Data) → told ≡ Some values → (rs : List (List Row)) × (rows ≡ Some rs) × AreValuesOf shapes values rs
+AreTold shapes told rows = (values : Source → Data) → told ≡ Some values
+    → (rs : List (List Row)) × (rows ≡ Some rs) × AreValuesOf shapes values rs
 
 -- reading a source visits no rows, but those of a table once
 abbrev pub ReadsAtMost : Source → List (List Row) → ℕ → ℕ → Type 0

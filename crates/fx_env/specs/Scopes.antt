@@ -1,5 +1,6 @@
 -- What a formula is evaluated in, and which typed trees are ready for it.
-use Rattle.std.specs.Prelude.{◌≡◌, ℕ, Bool, true, false, List, map, Option, Some, None, option_map, IsSome}
+use Rattle.std.specs.Prelude.{◌≡◌, ℕ, Bool, true, false, List, map, Option, Some, None, option_map}
+use Rattle.std.specs.Prelude.{IsSome}
 use Rattle.fx_types.specs.declared.faults.Fault.{Fault}
 use Rattle.fx_types.specs.declared.values.Value.{Value}
 use Rattle.fx_types.specs.Types.{Shape}
@@ -23,11 +24,15 @@ pub record ScopeValues : Type 0 where
 
 -- what is held of these values
 abbrev pub scope_values : List Value → Option Value → Option Fault → ScopeValues
-scope_values rows item caught = record { rows = map view rows; item = option_map view item; caught = caught }
+scope_values rows item caught = record {
+  rows = map view rows;
+  item = option_map view item;
+  caught = caught;
+}
 
--- what an environment leaves as it is: the type of each source that may be read, the tables of the app, how
--- many rows a query may take that isn't delegated, the loans through which it uses objects that are lent, if it
--- does, and whether a transaction of such an object is begun
+-- what an environment leaves as it is: the type of each source that may be read, the tables of the
+-- app, how many rows a query may take that isn't delegated, the loans through which it uses objects
+-- that are lent, if it does, and whether a transaction of such an object is begun
 pub record Fixed : Type 0 where
   pub types : Source → Option Shape
   pub schema : Schema
@@ -42,7 +47,12 @@ fitted false t = None
 
 -- where a formula stands, by the types of its sources and what is told of them
 abbrev pub around : (Source → Option Shape) → Option (Source → Data) → ScopeValues → Around
-around types told s = record { gives = Gives types told; rows = s.rows; item = s.item; caught = s.caught }
+around types told s = record {
+  gives = Gives types told;
+  rows = s.rows;
+  item = s.item;
+  caught = s.caught;
+}
 
 -- what a scope holds fits the context
 pub record Suits (types : Source → Option Shape) (s : ScopeValues) (c : Context) : Type 0 where
@@ -51,8 +61,10 @@ pub record Suits (types : Source → Option Shape) (s : ScopeValues) (c : Contex
   pub item : IsItemFit s.item c.item
   pub caught : c.caught ≡ true → IsSome s.caught
 
--- the tree doesn't act, and has the type where it stands, by a typing in which the columns of all types rise
-pub record IsTypedHere (types : Source → Option Shape) (s : ScopeValues) (t : Term) (u : Shape) : Type 0 where
+-- the tree doesn't act, and has the type where it stands, by a typing in which the columns of all
+-- types rise
+pub record IsTypedHere (types : Source → Option Shape) (s : ScopeValues) (t : Term) (u : Shape) :
+    Type 0 where
   pub context : Context
   pub suits : Suits types s context
   pub typed : IsTyped context t u

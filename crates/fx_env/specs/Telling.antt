@@ -9,7 +9,8 @@ use Rattle.row_queries.specs.declared.rows.Row.{Row}
 abbrev pub no_marks : Marks
 no_marks = record { faults = 0; doubt = 0 }
 
--- the value of each source, the rows of each table by rising ID, and what an environment of its kind tells besides
+-- the value of each source, the rows of each table by rising ID, and what an environment of its
+-- kind tells besides
 pub record EnvState (B : Type 0) : Type 0 where
   pub values : Source → Data
   pub tables : List (List Row)

@@ -1,4 +1,5 @@
--- How forms come from part to part: where a form stands before a part, and what the part's value makes of it.
+-- How forms come from part to part: where a form stands before a part, and what the part's value
+-- makes of it.
 use Rattle.std.specs.Prelude.{ℕ, Bool, true, false, List, if◌then◌else◌}
 use Rattle.fx_types.specs.declared.faults.Kind.{Kind}
 use Rattle.fx_types.specs.ValueView.{view}
@@ -8,7 +9,8 @@ use Rattle.fx_eval.specs.declared.courses.Course.TheVariants as course
 use Rattle.fx_eval.specs.declared.courses.Turn.{Turn}
 use Rattle.fx_eval.specs.declared.courses.Turn.TheVariants as turn
 use Rattle.fx_semantics.specs.Around.{Meaning}
-use Rattle.fx_semantics.specs.Forms.{IsAll, IsAny, IsIf, IsSwitch, IsSwitchMatch, IsRecovered, IsCoalesced}
+use Rattle.fx_semantics.specs.Forms.{IsAll, IsAny, IsIf, IsSwitch, IsSwitchMatch, IsRecovered}
+use Rattle.fx_semantics.specs.Forms.{IsCoalesced}
 use Rattle.fx_core.specs.declared.functions.Form.TheVariants as form
 use Rattle.fx_scalar.specs.declared.lazy_forms.Decision.{Decision}
 use Rattle.fx_scalar.specs.declared.lazy_forms.Decision.TheVariants.{Met, Unmet, Error}
@@ -58,8 +60,8 @@ form_end any = none_left form.Any
 form_end (recovers w) = w
 form_end g = blank
 
--- what the value of a part makes of a form: its value, that of the next part, that of the next part where
--- an error is caught, or where it stands from the next part on, or from the one after that
+-- what the value of a part makes of a form: its value, that of the next part, that of the next part
+-- where an error is caught, or where it stands from the next part on, or from the one after that
 pub data Turning : Type 0 where
   answers : Data → Turning
   chooses : Turning

@@ -29,8 +29,8 @@ is_inner takes.AnyFormula = true
 is_inner takes.RowFormula = true
 is_inner k = false
 
--- what a part gives where it stands: its value, or its values for the rows in order, each in the scope
--- of its row
+-- what a part gives where it stands: its value, or its values for the rows in order, each in the
+-- scope of its row
 abbrev pub PartGives : PartScope → Meaning → Around → List Row → ArgumentValues → Type 0
 PartGives inside P a rows (each ds) = AreEach P a rows ds
 PartGives plain P a rows (once d) = P a d
@@ -39,7 +39,8 @@ PartGives s P a rows g = ⊥
 -- what the parts of a head give, of which there are so many, from a place on
 abbrev pub AreGiven : Top → ℕ → ℕ → List Meaning → Around → List Row → List ArgumentValues → Type 0
 AreGiven h n i [] a rows [] = Unit {0}
-AreGiven h n i (P ∷ Ps) a rows (g ∷ gs) = PartGives (standing_at h n i) P a rows g × AreGiven h n (suc i) Ps a rows gs
+AreGiven h n i (P ∷ Ps) a rows (g ∷ gs) = PartGives (standing_at h n i) P a rows g
+    × AreGiven h n (suc i) Ps a rows gs
 AreGiven h n i Ps a rows gs = ⊥
 
 -- the values of the formula that comes first

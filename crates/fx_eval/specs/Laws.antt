@@ -23,13 +23,21 @@ use Rattle.fx_typing.specs.WellTyped.{Context, IsTyped}
 use Rattle.row_queries.specs.TableRows.{IsHeldRow, rows_at}
 
 -- where a formula stands, over sources of these types, of which these values are told
-abbrev pub standing_in : (Source → Option Shape) → Option (Source → Data) → List Data → Option Data → Option Fault → Around
-standing_in types told rows item caught = record { gives = Gives types told; rows = rows; item = item; caught = caught }
+abbrev pub standing_in : (Source → Option Shape) → Option (Source → Data) → List Data → Option Data
+    → Option Fault → Around
+standing_in types told rows item caught = record {
+  gives = Gives types told;
+  rows = rows;
+  item = item;
+  caught = caught;
+}
 
--- what a function makes of the rows of a table, and of what its other parts give, is what the call is worth
+-- what a function makes of the rows of a table, and of what its other parts give, is what the call
+-- is worth
 abbrev pub MadeIsWorth : Type 0
 MadeIsWorth =
-    (types : Source → Option Shape) (told : Option (Source → Data)) (rows : List Data) (item : Option Data) (caught : Option Fault)
+    (types : Source → Option Shape) (told : Option (Source → Data)) (rows : List Data)
+    (item : Option Data) (caught : Option Fault)
     (f : Fun) (t : Term) (ts : Terms) (n : ℕ) (d : Data) (gs : List ArgumentValues) (v : Data) →
     IsValue (standing_in types told rows item caught) t d → is_fault d ≡ false →
     AreGiven (over f) n 1 (meanings ts) (standing_in types told rows item caught) (rows_in d) gs →
@@ -39,7 +47,8 @@ MadeIsWorth =
 -- an error in the place of the table is what the call is worth
 abbrev pub ErrorIsWorth : Type 0
 ErrorIsWorth =
-    (types : Source → Option Shape) (told : Option (Source → Data)) (rows : List Data) (item : Option Data) (caught : Option Fault)
+    (types : Source → Option Shape) (told : Option (Source → Data)) (rows : List Data)
+    (item : Option Data) (caught : Option Fault)
     (f : Fun) (t : Term) (ts : Terms) (k : Kind) (cs : List ℕ) →
     IsValue (standing_in types told rows item caught) t (fault k cs) →
     IsValue (standing_in types told rows item caught) (of (over f) (cons t ts)) (fault k cs)
@@ -47,18 +56,24 @@ ErrorIsWorth =
 -- a well typed call over a table can be made of what its parts give, where what stands around fits
 abbrev pub TypedCanMake : Type 0
 TypedCanMake =
-    (c : Context) (told : Option (Source → Data)) (rows : List Data) (item : Option Data) (caught : Option Fault)
-    (f : Fun) (t : Term) (ts : Terms) (u : Shape) (w : IsTyped c (of (over f) (cons t ts)) u) (n : ℕ) (d : Data) (gs : List ArgumentValues) →
+    (c : Context) (told : Option (Source → Data)) (rows : List Data) (item : Option Data)
+    (caught : Option Fault)
+    (f : Fun) (t : Term) (ts : Terms) (u : Shape) (w : IsTyped c (of (over f) (cons t ts)) u)
+    (n : ℕ) (d : Data) (gs : List ArgumentValues) →
     AreFit rows c.rows → IsItemFit item c.item → IsLawfulTyping c (of (over f) (cons t ts)) u w →
     IsValue (standing_in c.sources told rows item caught) t d →
-    AreGiven (over f) n 1 (meanings ts) (standing_in c.sources told rows item caught) (rows_in d) gs → CanMake f (rows_in d) gs
+    AreGiven (over f) n 1 (meanings ts) (standing_in c.sources told rows item caught) (rows_in d) gs
+    → CanMake f (rows_in d) gs
 
 -- the rows of each table that is asked are rows of its shape
 abbrev pub AreHeld : AskedTables → Type 0
-AreHeld w = (n : ℕ) (t : TableShape) → slice_get w.shapes n ≡ Some t → All (IsHeldRow t) (rows_at w.rows n)
+AreHeld w = (n : ℕ) (t : TableShape) → slice_get w.shapes n ≡ Some t
+    → All (IsHeldRow t) (rows_at w.rows n)
 
 -- a tree visits one number of rows at most, where the values of its sources are told
 abbrev pub OneVisits : Type 0
 OneVisits =
-    (w : AskedTables) (types : Source → Option Shape) (values : Source → Data) (s : ScopeValues) (t : Term) (m n : ℕ) → AreHeld w →
-    Visits w t (around types (Some values) s) m → Visits w t (around types (Some values) s) n → m ≡ n
+    (w : AskedTables) (types : Source → Option Shape) (values : Source → Data) (s : ScopeValues)
+    (t : Term) (m n : ℕ) → AreHeld w →
+    Visits w t (around types (Some values) s) m → Visits w t (around types (Some values) s) n
+    → m ≡ n

@@ -6,4 +6,5 @@ use Rattle.fx_eval.specs.EvalSteps.{Moment, moment}
 
 -- what an evaluation sees of an environment, with what the scope holds and all steps
 abbrev pub moment_of : {E : Type 0} (g : Ghosts E) → E → ScopeValues → ℕ → Moment g.Beside
-moment_of g env scope steps = moment (g.fixed env) (g.told env) (g.marks env) (g.ticked env) (g.visited env) scope steps
+moment_of g env scope steps = moment (g.fixed env) (g.told env) (g.marks env) (g.ticked env)
+    (g.visited env) scope steps

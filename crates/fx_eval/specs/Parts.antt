@@ -45,7 +45,8 @@ AreConditions types s (t ∷ ts) = IsTypedHere types s t booleans × AreConditio
 abbrev pub AreBranches : (Source → Option Shape) → ScopeValues → List Term → Type 0
 AreBranches types s [] = Unit {0}
 AreBranches types s (t ∷ []) = CanEvaluate types s t
-AreBranches types s (c ∷ t ∷ ts) = IsTypedHere types s c booleans × CanEvaluate types s t × AreBranches types s ts
+AreBranches types s (c ∷ t ∷ ts) = IsTypedHere types s c booleans × CanEvaluate types s t
+    × AreBranches types s ts
 
 -- a match of a type that is compared with this one
 abbrev pub IsMatch : (Source → Option Shape) → ScopeValues → Shape → Term → Type 0
@@ -54,7 +55,8 @@ IsMatch types s u t = (k : Shape) × IsTypedHere types s t k × (is_comparable u
 abbrev pub AreMatches : (Source → Option Shape) → ScopeValues → Shape → List Term → Type 0
 AreMatches types s u [] = Unit {0}
 AreMatches types s u (t ∷ []) = CanEvaluate types s t
-AreMatches types s u (m ∷ t ∷ ts) = IsMatch types s u m × CanEvaluate types s t × AreMatches types s u ts
+AreMatches types s u (m ∷ t ∷ ts) = IsMatch types s u m × CanEvaluate types s t
+    × AreMatches types s u ts
 
 -- a fallback is ready where any error was caught
 abbrev pub IsFallback : (Source → Option Shape) → ScopeValues → Term → Type 0
@@ -63,7 +65,8 @@ IsFallback types s t = (k : Kind) (cs : List ℕ) → CanEvaluate types (caught_
 abbrev pub AreRecoveries : (Source → Option Shape) → ScopeValues → List Term → Type 0
 AreRecoveries types s [] = Unit {0}
 AreRecoveries types s (t ∷ []) = CanEvaluate types s t
-AreRecoveries types s (t ∷ f ∷ ts) = CanEvaluate types s t × IsFallback types s f × AreRecoveries types s ts
+AreRecoveries types s (t ∷ f ∷ ts) = CanEvaluate types s t × IsFallback types s f
+    × AreRecoveries types s ts
 
 -- a value that matches may be compared with
 abbrev pub IsComparable : Data → Shape → Type 0
@@ -101,13 +104,16 @@ AreInside types s t [] = Unit {0}
 AreInside types s t (r ∷ rs) = CanEvaluate types (inner s (record_of r)) t × AreInside types s t rs
 
 -- a part of a call over these rows is ready where it stands
-abbrev pub IsPartReady : PartScope → (Source → Option Shape) → ScopeValues → List Row → Term → Type 0
+abbrev pub IsPartReady : PartScope → (Source → Option Shape) → ScopeValues → List Row → Term
+    → Type 0
 IsPartReady inside types s rows t = AreInside types s t rows
 IsPartReady plain types s rows t = CanEvaluate types s t
 IsPartReady bound types s rows t = Unit {0}
 IsPartReady catching types s rows t = Unit {0}
 
 -- so are the parts from a place on, of so many
-abbrev pub ArePartsReady : Fun → ℕ → ℕ → (Source → Option Shape) → ScopeValues → List Row → List Term → Type 0
+abbrev pub ArePartsReady : Fun → ℕ → ℕ → (Source → Option Shape) → ScopeValues → List Row
+    → List Term → Type 0
 ArePartsReady f n i types s rows [] = Unit {0}
-ArePartsReady f n i types s rows (t ∷ ts) = IsPartReady (standing_at (over f) n i) types s rows t × ArePartsReady f n (suc i) types s rows ts
+ArePartsReady f n i types s rows (t ∷ ts) = IsPartReady (standing_at (over f) n i) types s rows t
+    × ArePartsReady f n (suc i) types s rows ts

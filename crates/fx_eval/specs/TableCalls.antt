@@ -5,13 +5,18 @@ use Rattle.fx_types.specs.Values.{Data, blank, text, boolean}
 use Rattle.fx_semantics.specs.Rows.{is_falling, table_of}
 use Rattle.fx_core.specs.declared.functions.Fun.{Fun}
 use Rattle.fx_core.specs.declared.functions.Fun.TheVariants as fun
-use Rattle.fx_tables.specs.AggregateCalls.{IsSumOf, IsLeastOf, IsGreatestOf, averaged, concatenated_by}
-use Rattle.fx_tables.specs.ColumnCalls.{CanAddColumns, CanRename, renamed_columns, with_columns, without_columns}
+use Rattle.fx_tables.specs.AggregateCalls.{IsSumOf, IsLeastOf, IsGreatestOf, averaged}
+use Rattle.fx_tables.specs.AggregateCalls.{concatenated_by}
+use Rattle.fx_tables.specs.ColumnCalls.{CanAddColumns, CanRename, renamed_columns, with_columns}
+use Rattle.fx_tables.specs.ColumnCalls.{without_columns}
 use Rattle.fx_tables.specs.Ends.{emptiness_of, first_rows, last_of, last_rows}
-use Rattle.fx_tables.specs.RowCalls.{AreKeysOrErrors, IsCountIfOf, IsCountValue, IsSortOf, distinct_or, filtered, first_row_record, for_all_of, holds, looked_up, verdict_of}
+use Rattle.fx_tables.specs.RowCalls.{AreKeysOrErrors, IsCountIfOf, IsCountValue, IsSortOf}
+use Rattle.fx_tables.specs.RowCalls.{distinct_or, filtered, first_row_record, for_all_of, holds}
+use Rattle.fx_tables.specs.RowCalls.{looked_up, verdict_of}
 use Rattle.fx_value.specs.Columns.{Row, fields_only}
 use Rattle.fx_tables.specs.Unions.{fault_or}
-use Rattle.fx_eval.specs.Given.{ArgumentValues, once, each, new_columns, count_argument, column_names_in, pairs_in, separator_in, values_in}
+use Rattle.fx_eval.specs.Given.{ArgumentValues, once, each, new_columns, count_argument}
+use Rattle.fx_eval.specs.Given.{column_names_in, pairs_in, separator_in, values_in}
 
 -- ---- conditions
 -- one more condition of each row
@@ -33,8 +38,8 @@ abbrev pub value_found : List Data → List Data → Data
 value_found (c ∷ cs) (d ∷ ds) = if holds c then d else value_found cs ds
 value_found cs ds = blank
 
--- `LookUp`: the first error of a condition, else the first row whose condition holds, or the formula's
--- value for that row
+-- `LookUp`: the first error of a condition, else the first row whose condition holds, or the
+-- formula's value for that row
 abbrev pub look_up_answer : List Row → List ArgumentValues → Data
 look_up_answer rows (each cs ∷ each ds ∷ gs) = fault_or cs (value_found cs ds)
 look_up_answer rows gs = looked_up rows (values_in gs)

@@ -2,7 +2,9 @@
 ghost use Rattle.std.specs.Prelude.{◌≡◌, false, length, map, option_map, Some, if◌then◌else◌};
 ghost use Rattle.fx_types.specs.ValueView.{view};
 ghost use Rattle.fx_types.specs.Values.{text};
-ghost use Rattle.fx_eval.specs.Given.{is_inner as is_inner_place, IsEach, IsName, IsOnce, count_argument, each, argument_values, once, argument_value, values_in};
+ghost use Rattle.fx_eval.specs.Given.{is_inner as is_inner_place, IsEach, IsName, IsOnce};
+ghost use Rattle.fx_eval.specs.Given.{count_argument, each, argument_values, once, argument_value};
+ghost use Rattle.fx_eval.specs.Given.{values_in};
 ghost use Rattle.fx_eval.specs.TableCalls.{IsOneOrNone, IsOneFormula};
 ghost use Rattle.fx_core.specs.Term.{over};
 ghost use Rattle.fx_typing.specs.WellTyped.{inside, plain, standing_at};
@@ -21,8 +23,8 @@ pub enum Answers {
     Each(Vec<Value>),
 }
 
-/// Whether a part of a call over a table stands in the scope of a row, by its place among so many; the
-/// table is at place 0.
+/// Whether a part of a call over a table stands in the scope of a row, by its place among so many;
+/// the table is at place 0.
 pub fn is_formula(fun: Fun, count: usize, place: usize) -> bool
     ensures { standing_at (over fun) count place ≡ (if result then inside else plain) }
 {

@@ -64,7 +64,9 @@ fn is_falling(order: SortOrder) -> bool
 // The texts of the formula joined, with the separator between each two.
 fn concatenate(alloc: Global, answers: Vec<Answers>) -> Result<Value, Memory>
     requires { IsJoining (map argument_values answers.items) }
-    ensures { IfOk result (λ v. view v ≡ concatenated_by (separator_in (map argument_values answers.items)) (values_in (map argument_values answers.items))) }
+    ensures { IfOk result (λ v. view v ≡ concatenated_by
+        (separator_in (map argument_values answers.items))
+        (values_in (map argument_values answers.items))) }
 {
     let mut left = answers.into_iter();
     let values = values_of(left.next());

@@ -24,7 +24,8 @@ pub(crate) fn names(alloc: Global, answers: Vec<Answers>) -> Result<Vec<Words>, 
 // Each name with the values of the formula behind it.
 pub(crate) fn new_columns(alloc: Global, answers: Vec<Answers>) -> Result<Vec<NewColumn>, Memory>
     requires { AreNewColumns (map argument_values answers.items) }
-    ensures { IfOk result (λ cs. map column_seen cs.items ≡ new_columns (map argument_values answers.items)) }
+    ensures { IfOk result (λ cs. map column_seen cs.items
+        ≡ new_columns (map argument_values answers.items)) }
 {
     let mut columns = Vec::new(alloc);
     let mut left = answers.into_iter();
@@ -43,7 +44,8 @@ pub(crate) fn new_columns(alloc: Global, answers: Vec<Answers>) -> Result<Vec<Ne
 // Each name with the one behind it.
 pub(crate) fn renamings(alloc: Global, answers: Vec<Answers>) -> Result<Vec<Renaming>, Memory>
     requires { AreNamePairs (map argument_values answers.items) }
-    ensures { IfOk result (λ rs. map renaming_seen rs.items ≡ pairs_in (map argument_values answers.items)) }
+    ensures { IfOk result (λ rs. map renaming_seen rs.items
+        ≡ pairs_in (map argument_values answers.items)) }
 {
     let mut renamings = Vec::new(alloc);
     let mut left = answers.into_iter();

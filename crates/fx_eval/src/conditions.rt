@@ -5,7 +5,8 @@ ghost use Rattle.fx_types.specs.Values.{boolean};
 ghost use Rattle.fx_types.specs.declared.values.Value.TheVariants.{Boolean};
 ghost use Rattle.fx_tables.specs.RowCalls.{holds as holds_in, verdict_of};
 ghost use Rattle.fx_eval.specs.Given.{argument_values};
-ghost use Rattle.fx_eval.specs.TableCalls.{AreFormulas, look_up_answer, IsConditionAndFormula, value_found, verdicts as verdicts_of, with_condition};
+ghost use Rattle.fx_eval.specs.TableCalls.{AreFormulas, look_up_answer, IsConditionAndFormula};
+ghost use Rattle.fx_eval.specs.TableCalls.{value_found, verdicts as verdicts_of, with_condition};
 ghost use Rattle.fx_value.specs.Columns.{Row};
 ghost use Rattle.fx_tables.specs.Unions.{fault_or, is_fault};
 
@@ -22,7 +23,8 @@ pub(crate) fn verdicts(
     conditions: Vec<Answers>,
 ) -> Result<Vec<Value>, Memory>
     requires { AreFormulas (length rows.now) (map argument_values conditions.items) }
-    ensures value { IfOk result (λ vs. map view vs.items ≡ verdicts_of rows.now (map argument_values conditions.items)) }
+    ensures value { IfOk result (λ vs. map view vs.items
+        ≡ verdicts_of rows.now (map argument_values conditions.items)) }
     ensures each { IfOk result (λ vs. length vs.items ≡ length rows.now) }
 {
     let mut verdicts = truths(alloc, rows)?;
@@ -55,7 +57,8 @@ fn with_one_more(
     conditions: Vec<Value>,
 ) -> Result<Vec<Value>, Memory>
     requires { length conditions.items ≡ length verdicts.items }
-    ensures { IfOk result (λ vs. map view vs.items ≡ with_condition (map view verdicts.items) (map view conditions.items)) }
+    ensures { IfOk result (λ vs. map view vs.items
+        ≡ with_condition (map view verdicts.items) (map view conditions.items)) }
 {
     let mut joined = Vec::with_capacity(alloc, verdicts.len())?;
     let mut left = conditions.into_iter();
@@ -103,7 +106,8 @@ pub(crate) fn find(alloc: Global, rows: Rows, answers: Vec<Answers>) -> Result<V
 // The first error of a condition, else the value at the place of the first that holds, or blank.
 fn value_where(conditions: Vec<Value>, values: Vec<Value>) -> Value
     requires { length values.items ≡ length conditions.items }
-    ensures { view result ≡ fault_or (map view conditions.items) (value_found (map view conditions.items) (map view values.items)) }
+    ensures { view result ≡ fault_or (map view conditions.items)
+        (value_found (map view conditions.items) (map view values.items)) }
 {
     let found = first_that_holds(conditions.as_slice(), values);
     let verdict = verdict(conditions);

@@ -1,7 +1,8 @@
 //! The forms, part by part: what each makes of the value of a part.
 ghost use Rattle.std.specs.Prelude.{◌≡◌};
 ghost use Rattle.fx_types.specs.ValueView.{view};
-ghost use Rattle.fx_eval.specs.Courses.{by_decision, coalesces, form_end, ends_in_branch, course_going, turned_by, turning};
+ghost use Rattle.fx_eval.specs.Courses.{by_decision, coalesces, form_end, ends_in_branch};
+ghost use Rattle.fx_eval.specs.Courses.{course_going, turned_by, turning};
 ghost use Rattle.fx_eval.specs.Kinds.{CanTurn};
 
 use fx_core::Form;
@@ -26,7 +27,8 @@ pub enum Course {
     Coalesce,
 }
 
-// By hand, so that it is called: what is derived is opened wherever a value may end, which costs proofs seconds each time.
+// By hand, so that it is called: what is derived is opened wherever a value may end, which costs
+// proofs seconds each time.
 impl Drop for Course {
     fn drop(self) {
         match self {

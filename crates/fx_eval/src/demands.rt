@@ -1,9 +1,11 @@
 //! What formulas take of query expressions.
-ghost use Rattle.std.specs.Prelude.{◌≡◌, ◌*◌, ℤ, List, length, map, pos, slice_get, true, IfOk, IfSome, MatchOption, None, Some};
+ghost use Rattle.std.specs.Prelude.{◌≡◌, ◌*◌, ℤ, List, length, map, pos, slice_get, true, IfOk};
+ghost use Rattle.std.specs.Prelude.{IfSome, MatchOption, None, Some};
 ghost use Rattle.fx_types.specs.ValueView.{view};
 ghost use Rattle.fx_types.specs.Values.{number};
 ghost use Rattle.fx_primitives.specs.Folds.{average_of};
-ghost use Rattle.fx_eval.specs.Demands.{IsDemand, IsFolded, IsNumberColumn, IsSearch, IsSearchBy, fun_of, most_rows_taken, settled_in};
+ghost use Rattle.fx_eval.specs.Demands.{IsDemand, IsFolded, IsNumberColumn, IsSearch, IsSearchBy};
+ghost use Rattle.fx_eval.specs.Demands.{fun_of, most_rows_taken, settled_in};
 ghost use Rattle.fx_number.specs.Decimal.{IsInRange};
 ghost use Rattle.fx_plan.specs.QueryExpressions.{sketch_of};
 ghost use Rattle.fx_semantics.specs.Rows.{rows_in};
@@ -76,8 +78,9 @@ impl Demand {
     }
 }
 
-/// What a tree that stands under so many scopes takes of a query expression, where query expressions that aren't taken
-/// whole stand with so many first rows. `None` never where it is one, or seeks a row of one.
+/// What a tree that stands under so many scopes takes of a query expression, where query
+/// expressions that aren't taken whole stand with so many first rows. `None` never where it is one,
+/// or seeks a row of one.
 pub fn asked_under(
     alloc: Global,
     schema: &Schema,
@@ -86,7 +89,8 @@ pub fn asked_under(
     depth: u32,
 ) -> Result<Option<Asked>, Memory>
     requires { IsLawfulSchema schema.now }
-    ensures { IfOk result (λ asked. MatchOption asked (IsUnasked schema.now.tables depth core.now) (λ a. IsDemand schema.now.tables depth a.demand a.sketch core.now)) }
+    ensures { IfOk result (λ asked. MatchOption asked (IsUnasked schema.now.tables depth core.now)
+        (λ a. IsDemand schema.now.tables depth a.demand a.sketch core.now)) }
 {
     match &core.node {
         CoreNode::Over(Fun::FirstN, rows, parts) => {
@@ -125,7 +129,9 @@ fn all_rows(
     depth: u32,
 ) -> Result<Option<Asked>, Memory>
     requires { IsLawfulSchema schema.now }
-    ensures { IfOk result (λ asked. MatchOption asked (sketch_of schema.now.tables depth core.now ≡ None) (λ a. IsDemand schema.now.tables depth a.demand a.sketch core.now)) }
+    ensures { IfOk result (λ asked. MatchOption asked
+        (sketch_of schema.now.tables depth core.now ≡ None)
+        (λ a. IsDemand schema.now.tables depth a.demand a.sketch core.now)) }
 {
     let sketch = sketch_under(alloc, schema, core, depth)?;
     Ok(of_sketch(Demand::Rows, sketch))
@@ -133,7 +139,8 @@ fn all_rows(
 
 // The demand on a query expression that has a sketch.
 fn of_sketch(demand: Demand, sketch: Option<Sketch>) -> Option<Asked>
-    ensures { MatchOption result (sketch ≡ None) (λ a. (a.demand ≡ demand) × (sketch ≡ Some a.sketch)) }
+    ensures { MatchOption result (sketch ≡ None)
+        (λ a. (a.demand ≡ demand) × (sketch ≡ Some a.sketch)) }
 {
     match sketch {
         Some(sketch) => Some(Asked { demand, sketch }),
@@ -161,7 +168,10 @@ fn first_rows(
     depth: u32,
 ) -> Result<Option<Asked>, Memory>
     requires { IsLawfulSchema schema.now }
-    ensures { IfOk result (λ asked. MatchOption asked (IsUnasked schema.now.tables depth (over_query fun.FirstN rows.now (all parts.now))) (λ a. IsDemand schema.now.tables depth a.demand a.sketch (over_query fun.FirstN rows.now (all parts.now)))) }
+    ensures { IfOk result (λ asked. MatchOption asked
+        (IsUnasked schema.now.tables depth (over_query fun.FirstN rows.now (all parts.now)))
+        (λ a. IsDemand schema.now.tables depth a.demand a.sketch
+        (over_query fun.FirstN rows.now (all parts.now)))) }
 {
     match parts {
         [count] if is_number(count, limit) => {
@@ -181,7 +191,10 @@ fn count(
     depth: u32,
 ) -> Result<Option<Asked>, Memory>
     requires { IsLawfulSchema schema.now }
-    ensures { IfOk result (λ asked. MatchOption asked (IsUnasked schema.now.tables depth (over_query fun.CountRows rows.now (all parts.now))) (λ a. IsDemand schema.now.tables depth a.demand a.sketch (over_query fun.CountRows rows.now (all parts.now)))) }
+    ensures { IfOk result (λ asked. MatchOption asked
+        (IsUnasked schema.now.tables depth (over_query fun.CountRows rows.now (all parts.now)))
+        (λ a. IsDemand schema.now.tables depth a.demand a.sketch
+        (over_query fun.CountRows rows.now (all parts.now)))) }
 {
     match parts {
         [] => {
@@ -201,7 +214,10 @@ fn first_row(
     depth: u32,
 ) -> Result<Option<Asked>, Memory>
     requires { IsLawfulSchema schema.now }
-    ensures { IfOk result (λ asked. MatchOption asked (IsUnasked schema.now.tables depth (over_query fun.First rows.now (all parts.now))) (λ a. IsDemand schema.now.tables depth a.demand a.sketch (over_query fun.First rows.now (all parts.now)))) }
+    ensures { IfOk result (λ asked. MatchOption asked
+        (IsUnasked schema.now.tables depth (over_query fun.First rows.now (all parts.now)))
+        (λ a. IsDemand schema.now.tables depth a.demand a.sketch
+        (over_query fun.First rows.now (all parts.now)))) }
 {
     match parts {
         [] => {
@@ -221,7 +237,10 @@ fn look_up(
     depth: u32,
 ) -> Result<Option<Asked>, Memory>
     requires { IsLawfulSchema schema.now }
-    ensures { IfOk result (λ asked. MatchOption asked (IsUnasked schema.now.tables depth (over_query fun.LookUp rows.now (all parts.now))) (λ a. IsDemand schema.now.tables depth a.demand a.sketch (over_query fun.LookUp rows.now (all parts.now)))) }
+    ensures { IfOk result (λ asked. MatchOption asked
+        (IsUnasked schema.now.tables depth (over_query fun.LookUp rows.now (all parts.now)))
+        (λ a. IsDemand schema.now.tables depth a.demand a.sketch
+        (over_query fun.LookUp rows.now (all parts.now)))) }
 {
     match parts {
         [condition] => {
@@ -246,7 +265,8 @@ fn filtered_under(
     depth: u32,
 ) -> Result<Option<Sketch>, Memory>
     requires { IsLawfulSchema schema.now }
-    ensures { IfOk result (λ s. s ≡ sketch_of schema.now.tables depth (over_query fun.Filter rows.now (cons condition.now nil))) }
+    ensures { IfOk result (λ s. s ≡ sketch_of schema.now.tables depth
+        (over_query fun.Filter rows.now (cons condition.now nil))) }
 {
     match sketch_under(alloc, schema, rows, depth)? {
         Some(rows) => filter_sketch(alloc, schema, rows, slice::from_ref(condition), depth),
@@ -286,7 +306,10 @@ fn total(
     depth: u32,
 ) -> Result<Option<Asked>, Memory>
     requires { IsLawfulSchema schema.now }
-    ensures { IfOk result (λ asked. MatchOption asked (IsUnasked schema.now.tables depth (over_query (fun_of fold) rows.now (all parts.now))) (λ a. IsDemand schema.now.tables depth a.demand a.sketch (over_query (fun_of fold) rows.now (all parts.now)))) }
+    ensures { IfOk result (λ asked. MatchOption asked
+        (IsUnasked schema.now.tables depth (over_query (fun_of fold) rows.now (all parts.now)))
+        (λ a. IsDemand schema.now.tables depth a.demand a.sketch
+        (over_query (fun_of fold) rows.now (all parts.now)))) }
 {
     match parts {
         [column] => total_of(alloc, schema, fold, rows, column, depth),
@@ -303,7 +326,10 @@ fn total_of(
     depth: u32,
 ) -> Result<Option<Asked>, Memory>
     requires { IsLawfulSchema schema.now }
-    ensures { IfOk result (λ asked. MatchOption asked (IsUnasked schema.now.tables depth (over_query (fun_of fold) rows.now (cons column.now nil))) (λ a. IsDemand schema.now.tables depth a.demand a.sketch (over_query (fun_of fold) rows.now (cons column.now nil)))) }
+    ensures { IfOk result (λ asked. MatchOption asked
+        (IsUnasked schema.now.tables depth (over_query (fun_of fold) rows.now
+        (cons column.now nil))) (λ a. IsDemand schema.now.tables depth a.demand a.sketch
+        (over_query (fun_of fold) rows.now (cons column.now nil)))) }
 {
     let Some(sketch) = sketch_under(alloc, schema, rows, depth)? else {
         return Ok(None);
@@ -326,7 +352,8 @@ fn number_column(schema: &Schema, sketch: &Sketch, column: &Core, depth: u32) ->
     column_of(shape, column, Scalar::Number, depth)
 }
 
-/// A tree that takes this of a query expression, with these values in the places of the constants of that.
+/// A tree that takes this of a query expression, with these values in the places of the constants
+/// of that.
 pub(crate) fn settle(
     alloc: Global,
     demand: Demand,

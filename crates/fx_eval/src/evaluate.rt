@@ -1,5 +1,6 @@
 //! The evaluator.
-ghost use Rattle.std.specs.Prelude.{◌≡◌, ◌+◌, ◌≤◌, ◌∷◌, [], Some, true, false, length, map, IfOk, IsErrOf, MatchOption, if◌then◌else◌};
+ghost use Rattle.std.specs.Prelude.{◌≡◌, ◌+◌, ◌≤◌, ◌∷◌, [], Some, true, false, length, map, IfOk};
+ghost use Rattle.std.specs.Prelude.{IsErrOf, MatchOption, if◌then◌else◌};
 ghost use Rattle.fx_base.specs.Faults.{Rose};
 ghost use Rattle.fx_base.specs.Silence.{MayFallSilent, IsLater, SilenceCause};
 ghost use Rattle.fx_base.specs.Telling.{Stays};
@@ -9,9 +10,13 @@ ghost use Rattle.fx_types.specs.Values.{blank};
 ghost use Rattle.fx_eval.specs.Courses.{FormIsWorth, ends_in_branch, course_going};
 ghost use Rattle.fx_eval.specs.EvalSteps.{HasVisited, Went};
 ghost use Rattle.fx_eval.specs.MomentsOver.{moment_of};
-ghost use Rattle.fx_eval.specs.Parts.{ArePartsReady, AreFilled, AreFine, AreInside, AreSet, AreSome, HasNext, IsPartReady, caught_in, inner, terms_of};
+ghost use Rattle.fx_eval.specs.Parts.{ArePartsReady, AreFilled, AreFine, AreInside, AreSet};
+ghost use Rattle.fx_eval.specs.Parts.{AreSome, HasNext, IsPartReady, caught_in, inner, terms_of};
 ghost use Rattle.fx_eval.specs.Demands.{CanStand, IsAskedFor};
-ghost use Rattle.fx_eval.specs.Visits.{AllVisit, AtMost, EachVisits, FormVisits, InFound, OverVisits, PartVisits, PartsVisit, RowsVisit, Visits, VisitsByHead, WithinVisits, asked_tables, visit_part as part_of, parts as parts_of};
+ghost use Rattle.fx_eval.specs.Visits.{AllVisit, AtMost, EachVisits, FormVisits, InFound};
+ghost use Rattle.fx_eval.specs.Visits.{OverVisits, PartVisits, PartsVisit, RowsVisit, Visits};
+ghost use Rattle.fx_eval.specs.Visits.{VisitsByHead, WithinVisits, asked_tables};
+ghost use Rattle.fx_eval.specs.Visits.{visit_part as part_of, parts as parts_of};
 ghost use Rattle.fx_env.specs.Scopes.{CanEvaluate, IsTypedHere, around};
 ghost use Rattle.fx_env.specs.Telling.{Heard, EnvState, values_told};
 ghost use Rattle.fx_semantics.specs.Around.{AreEach, AreValues, catching, inside as inside_of};
@@ -43,8 +48,8 @@ use std::slice;
 use std::sync::ledger::Ledger;
 
 /// The value of a tree, in one step beside those of its reads: that of the definition, by what the
-/// environment still tells of its sources. It may have fallen silent only where a fault was counted or a
-/// doubt has come up. `Keeper` only where a fault was counted.
+/// environment still tells of its sources. It may have fallen silent only where a fault was counted
+/// or a doubt has come up. `Keeper` only where a fault was counted.
 pub fn eval<E: Env, L: Ledger>(
     alloc: Global,
     env: &mut E,
@@ -55,22 +60,28 @@ pub fn eval<E: Env, L: Ledger>(
     requires { CanEvaluate (E.fixed env.old).types scope.old core.now }
     ensures fixed { E.fixed env.new ≡ E.fixed env.old }
     ensures scope { scope.new ≡ scope.old }
-    ensures told { MayFallSilent (SilenceCause (E.marks env.old) (E.marks env.new)) Stays (E.told env.old) (E.told env.new) }
-    ensures value { IfOk result (λ v. IsValue (around (E.fixed env.old).types (values_told (E.told env.new)) scope.old) core.now (view v)) }
-    ensures fits { (u : Shape) → IsTypedHere (E.fixed env.old).types scope.old core.now u → IfOk result (λ v. fits_in (view v) u ≡ true) }
+    ensures told { MayFallSilent (SilenceCause (E.marks env.old) (E.marks env.new)) Stays
+        (E.told env.old) (E.told env.new) }
+    ensures value { IfOk result (λ v. IsValue
+        (around (E.fixed env.old).types (values_told (E.told env.new)) scope.old) core.now (view v)) }
+    ensures fits { (u : Shape) → IsTypedHere (E.fixed env.old).types scope.old core.now u
+        → IfOk result (λ v. fits_in (view v) u ≡ true) }
     ensures marks { IsLater (E.marks env.old) (E.marks env.new) }
-    ensures keeper { IsErrOf result Stop.Keeper → Rose (E.marks env.old).faults (E.marks env.new).faults }
+    ensures keeper { IsErrOf result Stop.Keeper
+        → Rose (E.marks env.old).faults (E.marks env.new).faults }
     ensures ticks { steps.new + E.ticked env.old ≡ steps.old + 1 + E.ticked env.new }
     ensures visited { E.visited env.old ≤ E.visited env.new }
     ensures visits { IfOk result (λ _. (w : EnvState E.Beside) → E.told env.new ≡ Some w →
-        AtMost (Visits (asked_tables (E.fixed env.old) w) core.now (around (E.fixed env.old).types (Some w.values) scope.old)) (E.visited env.old) (E.visited env.new)) }
+        AtMost (Visits (asked_tables (E.fixed env.old) w) core.now
+        (around (E.fixed env.old).types (Some w.values) scope.old)) (E.visited env.old)
+        (E.visited env.new)) }
 {
     steps.tick();
     tree(alloc, env, scope, core, steps)
 }
 
-// The value of a tree, which fits its type. Apart from `node`, so that it is proved once, and not for each head, that
-// the value fits.
+// The value of a tree, which fits its type. Apart from `node`, so that it is proved once, and not
+// for each head, that the value fits.
 #[cycle(tree)]
 fn tree<E: Env, L: Ledger>(
     alloc: Global,
@@ -83,12 +94,15 @@ fn tree<E: Env, L: Ledger>(
     ensures went { Went
         (moment_of E.Env env.old scope.old steps.old)
         (moment_of E.Env env.new scope.new steps.new) }
-    ensures keeper { IsErrOf result Stop.Keeper → Rose (E.marks env.old).faults (E.marks env.new).faults }
-    ensures value { IfOk result (λ v. Heard (values_told (E.told env.new)) (λ told. IsValue (around (E.fixed env.old).types told scope.old) core.now (view v))) }
+    ensures keeper { IsErrOf result Stop.Keeper
+        → Rose (E.marks env.old).faults (E.marks env.new).faults }
+    ensures value { IfOk result (λ v. Heard (values_told (E.told env.new))
+        (λ told. IsValue (around (E.fixed env.old).types told scope.old) core.now (view v))) }
     ensures visits { IfOk result (λ _. HasVisited (λ w. Visits w core.now)
         (moment_of E.Env env.old scope.old steps.old)
         (moment_of E.Env env.new scope.new steps.new)) }
-    ensures fits { (u : Shape) → IsTypedHere (E.fixed env.old).types scope.old core.now u → IfOk result (λ v. fits_in (view v) u ≡ true) }
+    ensures fits { (u : Shape) → IsTypedHere (E.fixed env.old).types scope.old core.now u
+        → IfOk result (λ v. fits_in (view v) u ≡ true) }
 {
     values_fit();
     value_here(alloc, env, scope, core, steps)
@@ -107,8 +121,10 @@ fn value_here<E: Env, L: Ledger>(
     ensures went { Went
         (moment_of E.Env env.old scope.old steps.old)
         (moment_of E.Env env.new scope.new steps.new) }
-    ensures keeper { IsErrOf result Stop.Keeper → Rose (E.marks env.old).faults (E.marks env.new).faults }
-    ensures value { IfOk result (λ v. Heard (values_told (E.told env.new)) (λ told. IsValue (around (E.fixed env.old).types told scope.old) core.now (view v))) }
+    ensures keeper { IsErrOf result Stop.Keeper
+        → Rose (E.marks env.old).faults (E.marks env.new).faults }
+    ensures value { IfOk result (λ v. Heard (values_told (E.told env.new))
+        (λ told. IsValue (around (E.fixed env.old).types told scope.old) core.now (view v))) }
     ensures visits { IfOk result (λ _. HasVisited (λ w. Visits w core.now)
         (moment_of E.Env env.old scope.old steps.old)
         (moment_of E.Env env.new scope.new steps.new)) }
@@ -119,8 +135,9 @@ fn value_here<E: Env, L: Ledger>(
     }
 }
 
-// The value of a tree that takes a query expression, each of whose constants is evaluated once. Where one is an error, the
-// layers tell which error comes first: with the values of the constants in their places.
+// The value of a tree that takes a query expression, each of whose constants is evaluated once.
+// Where one is an error, the layers tell which error comes first: with the values of the constants
+// in their places.
 #[cycle(tree)]
 fn query<E: Env, L: Ledger>(
     alloc: Global,
@@ -131,12 +148,15 @@ fn query<E: Env, L: Ledger>(
     steps: &mut Steps<L>,
 ) -> Result<Value, Stop>
     requires ready { CanEvaluate (E.fixed env.old).types scope.old core.now }
-    requires asked { IsAskedFor (E.fixed env.old) (E.told env.old) scope.old core.now asked.now.demand asked.now.sketch }
+    requires asked { IsAskedFor (E.fixed env.old) (E.told env.old) scope.old core.now
+        asked.now.demand asked.now.sketch }
     ensures went { Went
         (moment_of E.Env env.old scope.old steps.old)
         (moment_of E.Env env.new scope.new steps.new) }
-    ensures keeper { IsErrOf result Stop.Keeper → Rose (E.marks env.old).faults (E.marks env.new).faults }
-    ensures value { IfOk result (λ v. Heard (values_told (E.told env.new)) (λ told. IsValue (around (E.fixed env.old).types told scope.old) core.now (view v))) }
+    ensures keeper { IsErrOf result Stop.Keeper
+        → Rose (E.marks env.old).faults (E.marks env.new).faults }
+    ensures value { IfOk result (λ v. Heard (values_told (E.told env.new))
+        (λ told. IsValue (around (E.fixed env.old).types told scope.old) core.now (view v))) }
     ensures visits { IfOk result (λ _. HasVisited (λ w. Visits w core.now)
         (moment_of E.Env env.old scope.old steps.old)
         (moment_of E.Env env.new scope.new steps.new)) }
@@ -158,7 +178,8 @@ fn query<E: Env, L: Ledger>(
     }
 }
 
-// The value of a formula in the scope of the row that was found; a blank one or an error is the answer.
+// The value of a formula in the scope of the row that was found; a blank one or an error is the
+// answer.
 #[cycle(tree)]
 fn of_found<E: Env, L: Ledger>(
     alloc: Global,
@@ -172,8 +193,11 @@ fn of_found<E: Env, L: Ledger>(
     ensures went { Went
         (moment_of E.Env env.old scope.old steps.old)
         (moment_of E.Env env.new scope.new steps.new) }
-    ensures keeper { IsErrOf result Stop.Keeper → Rose (E.marks env.old).faults (E.marks env.new).faults }
-    ensures value { IfOk result (λ v. Heard (values_told (E.told env.new)) (λ told. IsOfFound (view found) (meaning formula.now) (around (E.fixed env.old).types told scope.old) (view v))) }
+    ensures keeper { IsErrOf result Stop.Keeper
+        → Rose (E.marks env.old).faults (E.marks env.new).faults }
+    ensures value { IfOk result (λ v. Heard (values_told (E.told env.new))
+        (λ told. IsOfFound (view found) (meaning formula.now)
+        (around (E.fixed env.old).types told scope.old) (view v))) }
     ensures visits { IfOk result (λ _. HasVisited (λ w. InFound (view found) (Visits w formula.now))
         (moment_of E.Env env.old scope.old steps.old)
         (moment_of E.Env env.new scope.new steps.new)) }
@@ -184,7 +208,8 @@ fn of_found<E: Env, L: Ledger>(
     }
 }
 
-// The values of the constants of a query expression, which read no row: a blank one stands in its scope.
+// The values of the constants of a query expression, which read no row: a blank one stands in its
+// scope.
 #[cycle(tree)]
 fn constant_values<E: Env, L: Ledger>(
     alloc: Global,
@@ -197,9 +222,13 @@ fn constant_values<E: Env, L: Ledger>(
     ensures went { Went
         (moment_of E.Env env.old scope.old steps.old)
         (moment_of E.Env env.new scope.new steps.new) }
-    ensures keeper { IsErrOf result Stop.Keeper → Rose (E.marks env.old).faults (E.marks env.new).faults }
-    ensures value { IfOk result (λ vs. Heard (values_told (E.told env.new)) (λ told. AreValues (meanings (all constants.now)) (around (E.fixed env.old).types told (inner scope.old blank)) (map view vs.items))) }
-    ensures visits { IfOk result (λ _. HasVisited (λ w a. AllVisit (parts_of w (all constants.now)) (inside_of a blank))
+    ensures keeper { IsErrOf result Stop.Keeper
+        → Rose (E.marks env.old).faults (E.marks env.new).faults }
+    ensures value { IfOk result (λ vs. Heard (values_told (E.told env.new))
+        (λ told. AreValues (meanings (all constants.now))
+        (around (E.fixed env.old).types told (inner scope.old blank)) (map view vs.items))) }
+    ensures visits { IfOk result (λ _. HasVisited
+        (λ w a. AllVisit (parts_of w (all constants.now)) (inside_of a blank))
         (moment_of E.Env env.old scope.old steps.old)
         (moment_of E.Env env.new scope.new steps.new)) }
 {
@@ -223,8 +252,10 @@ fn node<E: Env, L: Ledger>(
     ensures went { Went
         (moment_of E.Env env.old scope.old steps.old)
         (moment_of E.Env env.new scope.new steps.new) }
-    ensures keeper { IsErrOf result Stop.Keeper → Rose (E.marks env.old).faults (E.marks env.new).faults }
-    ensures value { IfOk result (λ v. Heard (values_told (E.told env.new)) (λ told. IsValue (around (E.fixed env.old).types told scope.old) core.now (view v))) }
+    ensures keeper { IsErrOf result Stop.Keeper
+        → Rose (E.marks env.old).faults (E.marks env.new).faults }
+    ensures value { IfOk result (λ v. Heard (values_told (E.told env.new))
+        (λ told. IsValue (around (E.fixed env.old).types told scope.old) core.now (view v))) }
     ensures visits { IfOk result (λ _. HasVisited (λ w. VisitsByHead w core.now)
         (moment_of E.Env env.old scope.old steps.old)
         (moment_of E.Env env.new scope.new steps.new)) }
@@ -305,13 +336,18 @@ fn within<E: Env, L: Ledger>(
     formula: &Core,
     steps: &mut Steps<L>,
 ) -> Result<Value, Stop>
-    requires { CanEvaluate (E.fixed env.old).types scope.old (of scoped (cons part.now (cons formula.now nil))) }
+    requires { CanEvaluate (E.fixed env.old).types scope.old
+        (of scoped (cons part.now (cons formula.now nil))) }
     ensures went { Went
         (moment_of E.Env env.old scope.old steps.old)
         (moment_of E.Env env.new scope.new steps.new) }
-    ensures keeper { IsErrOf result Stop.Keeper → Rose (E.marks env.old).faults (E.marks env.new).faults }
-    ensures value { IfOk result (λ v. Heard (values_told (E.told env.new)) (λ told. IsWithin (meaning part.now ∷ meaning formula.now ∷ []) (around (E.fixed env.old).types told scope.old) (view v))) }
-    ensures visits { IfOk result (λ _. HasVisited (λ w. WithinVisits (part_of w part.now ∷ part_of w formula.now ∷ []))
+    ensures keeper { IsErrOf result Stop.Keeper
+        → Rose (E.marks env.old).faults (E.marks env.new).faults }
+    ensures value { IfOk result (λ v. Heard (values_told (E.told env.new))
+        (λ told. IsWithin (meaning part.now ∷ meaning formula.now ∷ [])
+        (around (E.fixed env.old).types told scope.old) (view v))) }
+    ensures visits { IfOk result (λ _. HasVisited
+        (λ w. WithinVisits (part_of w part.now ∷ part_of w formula.now ∷ []))
         (moment_of E.Env env.old scope.old steps.old)
         (moment_of E.Env env.new scope.new steps.new)) }
 {
@@ -336,9 +372,13 @@ fn in_scope<E: Env, L: Ledger>(
     ensures went { Went
         (moment_of E.Env env.old scope.old steps.old)
         (moment_of E.Env env.new scope.new steps.new) }
-    ensures keeper { IsErrOf result Stop.Keeper → Rose (E.marks env.old).faults (E.marks env.new).faults }
-    ensures value { IfOk result (λ v. Heard (values_told (E.told env.new)) (λ told. IsValue (around (E.fixed env.old).types told (inner scope.old (view row))) formula.now (view v))) }
-    ensures visits { IfOk result (λ _. HasVisited (λ w a. Visits w formula.now (inside_of a (view row)))
+    ensures keeper { IsErrOf result Stop.Keeper
+        → Rose (E.marks env.old).faults (E.marks env.new).faults }
+    ensures value { IfOk result (λ v. Heard (values_told (E.told env.new))
+        (λ told. IsValue (around (E.fixed env.old).types told (inner scope.old (view row)))
+        formula.now (view v))) }
+    ensures visits { IfOk result (λ _. HasVisited
+        (λ w a. Visits w formula.now (inside_of a (view row)))
         (moment_of E.Env env.old scope.old steps.old)
         (moment_of E.Env env.new scope.new steps.new)) }
 {
@@ -359,13 +399,18 @@ fn catch_error<E: Env, L: Ledger>(
     formula: &Core,
     steps: &mut Steps<L>,
 ) -> Result<Value, Stop>
-    requires { CanEvaluate (E.fixed env.old).types (caught_in scope.old fault.kind fault.message) formula.now }
+    requires { CanEvaluate (E.fixed env.old).types (caught_in scope.old fault.kind fault.message)
+        formula.now }
     ensures went { Went
         (moment_of E.Env env.old scope.old steps.old)
         (moment_of E.Env env.new scope.new steps.new) }
-    ensures keeper { IsErrOf result Stop.Keeper → Rose (E.marks env.old).faults (E.marks env.new).faults }
-    ensures value { IfOk result (λ v. Heard (values_told (E.told env.new)) (λ told. IsValue (around (E.fixed env.old).types told (caught_in scope.old fault.kind fault.message)) formula.now (view v))) }
-    ensures visits { IfOk result (λ _. HasVisited (λ w a. Visits w formula.now (catching a fault.kind fault.message))
+    ensures keeper { IsErrOf result Stop.Keeper
+        → Rose (E.marks env.old).faults (E.marks env.new).faults }
+    ensures value { IfOk result (λ v. Heard (values_told (E.told env.new))
+        (λ told. IsValue (around (E.fixed env.old).types told
+        (caught_in scope.old fault.kind fault.message)) formula.now (view v))) }
+    ensures visits { IfOk result (λ _. HasVisited
+        (λ w a. Visits w formula.now (catching a fault.kind fault.message))
         (moment_of E.Env env.old scope.old steps.old)
         (moment_of E.Env env.new scope.new steps.new)) }
 {
@@ -377,7 +422,8 @@ fn catch_error<E: Env, L: Ledger>(
 
 // Whether the value of a part, behind which these stand, is the form's.
 fn ends_here(course: &Course, others: &[Core]) -> bool
-    ensures last { result ≡ true → (others.now ≡ []) × (ends_in_branch (course_going course.now) ≡ true) }
+    ensures last { result ≡ true → (others.now ≡ [])
+        × (ends_in_branch (course_going course.now) ≡ true) }
     ensures next { result ≡ false → HasNext (course_going course.now) others.now }
 {
     others.is_empty() && course.ends_in_branch()
@@ -394,8 +440,8 @@ fn split(parts: &[Core]) -> (&Core, &[Core])
     }
 }
 
-// The value of a form, part by part. One loop serves all forms: what each makes of a value is decided outside of the
-// recursion.
+// The value of a form, part by part. One loop serves all forms: what each makes of a value is
+// decided outside of the recursion.
 #[cycle(tree)]
 fn go_through<E: Env, L: Ledger>(
     alloc: Global,
@@ -409,9 +455,13 @@ fn go_through<E: Env, L: Ledger>(
     ensures went { Went
         (moment_of E.Env env.old scope.old steps.old)
         (moment_of E.Env env.new scope.new steps.new) }
-    ensures keeper { IsErrOf result Stop.Keeper → Rose (E.marks env.old).faults (E.marks env.new).faults }
-    ensures value { IfOk result (λ v. Heard (values_told (E.told env.new)) (λ told. FormIsWorth (course_going course) (meanings (all parts.now)) (around (E.fixed env.old).types told scope.old) (view v))) }
-    ensures visits { IfOk result (λ _. HasVisited (λ w. FormVisits (course_going course) (parts_of w (all parts.now)))
+    ensures keeper { IsErrOf result Stop.Keeper
+        → Rose (E.marks env.old).faults (E.marks env.new).faults }
+    ensures value { IfOk result (λ v. Heard (values_told (E.told env.new))
+        (λ told. FormIsWorth (course_going course) (meanings (all parts.now))
+        (around (E.fixed env.old).types told scope.old) (view v))) }
+    ensures visits { IfOk result (λ _. HasVisited
+        (λ w. FormVisits (course_going course) (parts_of w (all parts.now)))
         (moment_of E.Env env.old scope.old steps.old)
         (moment_of E.Env env.new scope.new steps.new)) }
 {
@@ -459,9 +509,13 @@ fn field_values<E: Env, L: Ledger>(
     ensures went { Went
         (moment_of E.Env env.old scope.old steps.old)
         (moment_of E.Env env.new scope.new steps.new) }
-    ensures keeper { IsErrOf result Stop.Keeper → Rose (E.marks env.old).faults (E.marks env.new).faults }
-    ensures value { IfOk result (λ fs. Heard (values_told (E.told env.new)) (λ told. AreFilled fields.now (around (E.fixed env.old).types told scope.old) (fields_view fs.items))) }
-    ensures visits { IfOk result (λ _. HasVisited (λ w. AllVisit (parts_of w (all (terms_of fields.now))))
+    ensures keeper { IsErrOf result Stop.Keeper
+        → Rose (E.marks env.old).faults (E.marks env.new).faults }
+    ensures value { IfOk result (λ fs. Heard (values_told (E.told env.new))
+        (λ told. AreFilled fields.now (around (E.fixed env.old).types told scope.old)
+        (fields_view fs.items))) }
+    ensures visits { IfOk result (λ _. HasVisited
+        (λ w. AllVisit (parts_of w (all (terms_of fields.now))))
         (moment_of E.Env env.old scope.old steps.old)
         (moment_of E.Env env.new scope.new steps.new)) }
 {
@@ -486,8 +540,11 @@ fn part_values<E: Env, L: Ledger>(
     ensures went { Went
         (moment_of E.Env env.old scope.old steps.old)
         (moment_of E.Env env.new scope.new steps.new) }
-    ensures keeper { IsErrOf result Stop.Keeper → Rose (E.marks env.old).faults (E.marks env.new).faults }
-    ensures value { IfOk result (λ vs. Heard (values_told (E.told env.new)) (λ told. AreValues (meanings (all parts.now)) (around (E.fixed env.old).types told scope.old) (map view vs.items))) }
+    ensures keeper { IsErrOf result Stop.Keeper
+        → Rose (E.marks env.old).faults (E.marks env.new).faults }
+    ensures value { IfOk result (λ vs. Heard (values_told (E.told env.new))
+        (λ told. AreValues (meanings (all parts.now))
+        (around (E.fixed env.old).types told scope.old) (map view vs.items))) }
     ensures visits { IfOk result (λ _. HasVisited (λ w. AllVisit (parts_of w (all parts.now)))
         (moment_of E.Env env.old scope.old steps.old)
         (moment_of E.Env env.new scope.new steps.new)) }
@@ -500,7 +557,8 @@ fn part_values<E: Env, L: Ledger>(
     Ok(values)
 }
 
-// The value of a function of a table. `LookUp` evaluates its formula in the scope of the row that it finds alone.
+// The value of a function of a table. `LookUp` evaluates its formula in the scope of the row that
+// it finds alone.
 #[cycle(tree)]
 fn over_table<E: Env, L: Ledger>(
     alloc: Global,
@@ -511,13 +569,18 @@ fn over_table<E: Env, L: Ledger>(
     parts: &[Core],
     steps: &mut Steps<L>,
 ) -> Result<Value, Stop>
-    requires { CanEvaluate (E.fixed env.old).types scope.old (of (over_head fun) (cons table.now (all parts.now))) }
+    requires { CanEvaluate (E.fixed env.old).types scope.old
+        (of (over_head fun) (cons table.now (all parts.now))) }
     ensures went { Went
         (moment_of E.Env env.old scope.old steps.old)
         (moment_of E.Env env.new scope.new steps.new) }
-    ensures keeper { IsErrOf result Stop.Keeper → Rose (E.marks env.old).faults (E.marks env.new).faults }
-    ensures value { IfOk result (λ v. Heard (values_told (E.told env.new)) (λ told. IsTableCall fun (meaning table.now ∷ meanings (all parts.now)) (around (E.fixed env.old).types told scope.old) (view v))) }
-    ensures visits { IfOk result (λ _. HasVisited (λ w. OverVisits fun (part_of w table.now ∷ parts_of w (all parts.now)))
+    ensures keeper { IsErrOf result Stop.Keeper
+        → Rose (E.marks env.old).faults (E.marks env.new).faults }
+    ensures value { IfOk result (λ v. Heard (values_told (E.told env.new))
+        (λ told. IsTableCall fun (meaning table.now ∷ meanings (all parts.now))
+        (around (E.fixed env.old).types told scope.old) (view v))) }
+    ensures visits { IfOk result (λ _. HasVisited
+        (λ w. OverVisits fun (part_of w table.now ∷ parts_of w (all parts.now)))
         (moment_of E.Env env.old scope.old steps.old)
         (moment_of E.Env env.new scope.new steps.new)) }
 {
@@ -546,7 +609,8 @@ fn search_parts(fun: Fun, parts: &[Core]) -> Option<(&Core, &Core)>
 
 // The two parts, where there are two.
 fn pair(parts: &[Core]) -> Option<(&Core, &Core)>
-    ensures { MatchOption result (length parts.now ≡ 2 → ⊥) (λ p. parts.now ≡ p.0.now ∷ p.1.now ∷ []) }
+    ensures { MatchOption result (length parts.now ≡ 2 → ⊥)
+        (λ p. parts.now ≡ p.0.now ∷ p.1.now ∷ []) }
 {
     if parts.len() != 2 {
         return None;
@@ -565,13 +629,18 @@ fn call_over<E: Env, L: Ledger>(
     parts: &[Core],
     steps: &mut Steps<L>,
 ) -> Result<Value, Stop>
-    requires { CanEvaluate (E.fixed env.old).types scope.old (of (over_head fun) (cons table.now (all parts.now))) }
+    requires { CanEvaluate (E.fixed env.old).types scope.old
+        (of (over_head fun) (cons table.now (all parts.now))) }
     ensures went { Went
         (moment_of E.Env env.old scope.old steps.old)
         (moment_of E.Env env.new scope.new steps.new) }
-    ensures keeper { IsErrOf result Stop.Keeper → Rose (E.marks env.old).faults (E.marks env.new).faults }
-    ensures value { IfOk result (λ v. Heard (values_told (E.told env.new)) (λ told. IsTableCall fun (meaning table.now ∷ meanings (all parts.now)) (around (E.fixed env.old).types told scope.old) (view v))) }
-    ensures visits { IfOk result (λ _. HasVisited (λ w. RowsVisit fun (part_of w table.now ∷ parts_of w (all parts.now)))
+    ensures keeper { IsErrOf result Stop.Keeper
+        → Rose (E.marks env.old).faults (E.marks env.new).faults }
+    ensures value { IfOk result (λ v. Heard (values_told (E.told env.new))
+        (λ told. IsTableCall fun (meaning table.now ∷ meanings (all parts.now))
+        (around (E.fixed env.old).types told scope.old) (view v))) }
+    ensures visits { IfOk result (λ _. HasVisited
+        (λ w. RowsVisit fun (part_of w table.now ∷ parts_of w (all parts.now)))
         (moment_of E.Env env.old scope.old steps.old)
         (moment_of E.Env env.new scope.new steps.new)) }
 {
@@ -585,8 +654,8 @@ fn call_over<E: Env, L: Ledger>(
     }
 }
 
-// What the parts of a call over these rows come to. All are evaluated before the function is looked at, which so needs
-// no environment.
+// What the parts of a call over these rows come to. All are evaluated before the function is looked
+// at, which so needs no environment.
 #[cycle(tree)]
 fn part_answers<E: Env, L: Ledger>(
     alloc: Global,
@@ -597,13 +666,18 @@ fn part_answers<E: Env, L: Ledger>(
     parts: &[Core],
     steps: &mut Steps<L>,
 ) -> Result<Vec<Answers>, Stop>
-    requires { ArePartsReady fun (length parts.now + 1) 1 (E.fixed env.old).types scope.old rows.now parts.now }
+    requires { ArePartsReady fun (length parts.now + 1) 1 (E.fixed env.old).types scope.old rows.now
+        parts.now }
     ensures went { Went
         (moment_of E.Env env.old scope.old steps.old)
         (moment_of E.Env env.new scope.new steps.new) }
-    ensures keeper { IsErrOf result Stop.Keeper → Rose (E.marks env.old).faults (E.marks env.new).faults }
-    ensures value { IfOk result (λ gs. Heard (values_told (E.told env.new)) (λ told. AreGiven (over_head fun) (length parts.now + 1) 1 (meanings (all parts.now)) (around (E.fixed env.old).types told scope.old) rows.now (map argument_values gs.items))) }
-    ensures visits { IfOk result (λ _. HasVisited (λ w. PartsVisit fun (length parts.now + 1) 1 rows.now (parts_of w (all parts.now)))
+    ensures keeper { IsErrOf result Stop.Keeper
+        → Rose (E.marks env.old).faults (E.marks env.new).faults }
+    ensures value { IfOk result (λ gs. Heard (values_told (E.told env.new))
+        (λ told. AreGiven (over_head fun) (length parts.now + 1) 1 (meanings (all parts.now))
+        (around (E.fixed env.old).types told scope.old) rows.now (map argument_values gs.items))) }
+    ensures visits { IfOk result (λ _. HasVisited
+        (λ w. PartsVisit fun (length parts.now + 1) 1 rows.now (parts_of w (all parts.now)))
         (moment_of E.Env env.old scope.old steps.old)
         (moment_of E.Env env.new scope.new steps.new)) }
 {
@@ -628,13 +702,18 @@ fn answer<E: Env, L: Ledger>(
     part: &Core,
     steps: &mut Steps<L>,
 ) -> Result<Answers, Stop>
-    requires { IsPartReady (if in_rows then inside else plain) (E.fixed env.old).types scope.old rows.now part.now }
+    requires { IsPartReady (if in_rows then inside else plain) (E.fixed env.old).types scope.old
+        rows.now part.now }
     ensures went { Went
         (moment_of E.Env env.old scope.old steps.old)
         (moment_of E.Env env.new scope.new steps.new) }
-    ensures keeper { IsErrOf result Stop.Keeper → Rose (E.marks env.old).faults (E.marks env.new).faults }
-    ensures value { IfOk result (λ g. Heard (values_told (E.told env.new)) (λ told. PartGives (if in_rows then inside else plain) (meaning part.now) (around (E.fixed env.old).types told scope.old) rows.now (argument_values g))) }
-    ensures visits { IfOk result (λ _. HasVisited (λ w. PartVisits (if in_rows then inside else plain) rows.now (part_of w part.now))
+    ensures keeper { IsErrOf result Stop.Keeper
+        → Rose (E.marks env.old).faults (E.marks env.new).faults }
+    ensures value { IfOk result (λ g. Heard (values_told (E.told env.new))
+        (λ told. PartGives (if in_rows then inside else plain) (meaning part.now)
+        (around (E.fixed env.old).types told scope.old) rows.now (argument_values g))) }
+    ensures visits { IfOk result (λ _. HasVisited
+        (λ w. PartVisits (if in_rows then inside else plain) rows.now (part_of w part.now))
         (moment_of E.Env env.old scope.old steps.old)
         (moment_of E.Env env.new scope.new steps.new)) }
 {
@@ -659,8 +738,11 @@ fn each<E: Env, L: Ledger>(
     ensures went { Went
         (moment_of E.Env env.old scope.old steps.old)
         (moment_of E.Env env.new scope.new steps.new) }
-    ensures keeper { IsErrOf result Stop.Keeper → Rose (E.marks env.old).faults (E.marks env.new).faults }
-    ensures value { IfOk result (λ vs. Heard (values_told (E.told env.new)) (λ told. AreEach (meaning formula.now) (around (E.fixed env.old).types told scope.old) rows.now (map view vs.items))) }
+    ensures keeper { IsErrOf result Stop.Keeper
+        → Rose (E.marks env.old).faults (E.marks env.new).faults }
+    ensures value { IfOk result (λ vs. Heard (values_told (E.told env.new))
+        (λ told. AreEach (meaning formula.now) (around (E.fixed env.old).types told scope.old)
+        rows.now (map view vs.items))) }
     ensures visits { IfOk result (λ _. HasVisited (λ w. EachVisits (Visits w formula.now) rows.now)
         (moment_of E.Env env.old scope.old steps.old)
         (moment_of E.Env env.new scope.new steps.new)) }

@@ -5,7 +5,8 @@ ghost use Rattle.fx_types.specs.TypeView.{shape};
 ghost use Rattle.fx_types.specs.ValueView.{view};
 ghost use Rattle.fx_eval.specs.Lists.{CanList};
 ghost use Rattle.fx_tables.specs.Unions.{union_of};
-ghost use Rattle.fx_core.specs.ColumnLists.{row_columns as row_columns_of, value_column as value_column_of};
+ghost use Rattle.fx_core.specs.ColumnLists.{row_columns as row_columns_of};
+ghost use Rattle.fx_core.specs.ColumnLists.{value_column as value_column_of};
 
 use fx_base::Memory;
 use fx_tables::union;
@@ -18,13 +19,15 @@ use std::alloc::Global;
 /// `Value`. Where there is an error among the values, the first one is the answer.
 pub fn list(alloc: Global, row: &Ty, values: Vec<Value>) -> Result<Value, Memory>
     requires { CanList (shape row.now) (map view values.items) }
-    ensures { IfOk result (λ v. view v ≡ union_of (tables (row_columns_of (shape row.now))) (map view values.items)) }
+    ensures { IfOk result (λ v. view v ≡ union_of (tables (row_columns_of (shape row.now)))
+        (map view values.items)) }
 {
     let columns = row_columns(alloc, row)?;
     union(alloc, values, &Ty::Tab(columns))
 }
 
-// The columns of rows that are values of a type: a record's own, and for a scalar the column `Value`.
+// The columns of rows that are values of a type: a record's own, and for a scalar the column
+// `Value`.
 fn row_columns(alloc: Global, row: &Ty) -> Result<Columns, Memory>
     ensures { IfOk result (λ cs. column_list cs ≡ row_columns_of (shape row.now)) }
 {

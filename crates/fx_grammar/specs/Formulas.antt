@@ -30,10 +30,14 @@ named_formula cs ts t = record { name = cs; begins = first_byte ts; ends = end t
 pub data AreNamed : List Item → ℕ → List NamedFormula → Type 0 where
   no_entries : AreNamed [] 0 []
   last_entry : (x y : Item) (cs : List ℕ) (ts : List Item) (d : ℕ) (t : Tree)
-      → x.meaning ≡ m.Name cs → y.meaning ≡ m.Symbol symbol.Equal → Parses (Several join.Or) d ts t [] → AreNamed (x ∷ y ∷ ts) d (named_formula cs ts t ∷ [])
-  further_entry : (x y : Item) (cs : List ℕ) (ts : List Item) (d : ℕ) (t : Tree) (z : Item) (rest : List Item) (e : ℕ) (es : List NamedFormula)
-      → x.meaning ≡ m.Name cs → y.meaning ≡ m.Symbol symbol.Equal → Parses (Several join.Or) d (ts ++ z ∷ rest) t (z ∷ rest)
-      → z.meaning ≡ m.Symbol symbol.Semicolon → AreNamed rest e es → AreNamed (x ∷ y ∷ (ts ++ z ∷ rest)) (max d e) (named_formula cs ts t ∷ es)
+      → x.meaning ≡ m.Name cs → y.meaning ≡ m.Symbol symbol.Equal
+      → Parses (Several join.Or) d ts t [] → AreNamed (x ∷ y ∷ ts) d (named_formula cs ts t ∷ [])
+  further_entry : (x y : Item) (cs : List ℕ) (ts : List Item) (d : ℕ) (t : Tree) (z : Item)
+      (rest : List Item) (e : ℕ) (es : List NamedFormula)
+      → x.meaning ≡ m.Name cs → y.meaning ≡ m.Symbol symbol.Equal
+      → Parses (Several join.Or) d (ts ++ z ∷ rest) t (z ∷ rest)
+      → z.meaning ≡ m.Symbol symbol.Semicolon → AreNamed rest e es
+      → AreNamed (x ∷ y ∷ (ts ++ z ∷ rest)) (max d e) (named_formula cs ts t ∷ es)
 
 -- The text's tokens, with what they mean. Characters are scalar values.
 abbrev pub HasItems : List ℕ → List Item → Type 0

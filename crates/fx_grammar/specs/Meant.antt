@@ -39,7 +39,8 @@ IsSomeDoubled k xs = (cs : List ℕ) × (xs ≡ doubled (test_of k) cs)
 
 -- the number that the digits spell
 abbrev pub IsNumberOf : List ℕ → ℤ → Type 0
-IsNumberOf xs z = (ds : List ℕ) × (es : List ℕ) × IsDecimal xs ds es × (decimal_units ds es ≤ greatest) × (z ≡ pos (decimal_units ds es))
+IsNumberOf xs z = (ds : List ℕ) × (es : List ℕ) × IsDecimal xs ds es
+    × (decimal_units ds es ≤ greatest) × (z ≡ pos (decimal_units ds es))
 
 -- the name that a text is, plain or between quotes
 abbrev pub IsNameOf : List ℕ → List ℕ → Type 0

@@ -1,12 +1,14 @@
 -- Reading a formula from left to right.
-use Rattle.std.specs.Prelude.{ℕ, max, nat_le, Bool, true, false, List, [], ◌∷◌, ◌++◌, length, Option, Some, None, option_and_then, option_map, if◌then◌else◌}
+use Rattle.std.specs.Prelude.{ℕ, max, nat_le, Bool, true, false, List, [], ◌∷◌, ◌++◌, length}
+use Rattle.std.specs.Prelude.{Option, Some, None, option_and_then, option_map, if◌then◌else◌}
 use Rattle.std.proofs.Common.{zero, suc}
 use Rattle.fx_lexer.specs.declared.token.Symbol.TheVariants as symbol
 use Rattle.fx_lexer.specs.declared.token.Word.TheVariants as word
 use Rattle.fx_core.specs.declared.expr.Op.{Op}
 use Rattle.fx_core.specs.declared.expr.Op.TheVariants as op
 use Rattle.fx_core.specs.declared.expr.FieldName.{FieldName}
-use Rattle.fx_core.specs.Tree.{Tree, NamedTree, node, Head, none, more, forest, tree_field_names, places_of, field_trees}
+use Rattle.fx_core.specs.Tree.{Tree, NamedTree, node, Head, none, more, forest, tree_field_names}
+use Rattle.fx_core.specs.Tree.{places_of, field_trees}
 use Rattle.fx_core.specs.Tree as tree
 use Rattle.fx_grammar.specs.declared.item.Item.{Item}
 use Rattle.fx_grammar.specs.declared.item.Meaning.{Meaning}
@@ -18,7 +20,8 @@ use Rattle.fx_grammar.specs.declared.line.Separator.TheVariants.{Between, Comma}
 use Rattle.fx_grammar.specs.declared.line.Left.{Left}
 use Rattle.fx_grammar.specs.declared.line.Left.TheVariants as left
 use Rattle.fx_grammar.specs.declared.line.Line.{Line}
-use Rattle.fx_grammar.specs.declared.line.Line.TheVariants.{Chain, Several, By, Alias, Prefix, Power, Percent, Access, Atom}
+use Rattle.fx_grammar.specs.declared.line.Line.TheVariants.{Chain, Several, By, Alias, Prefix}
+use Rattle.fx_grammar.specs.declared.line.Line.TheVariants.{Power, Percent, Access, Atom}
 use Rattle.fx_grammar.specs.declared.line.Mark.{Mark}
 use Rattle.fx_grammar.specs.declared.line.Mark.TheVariants as mark
 use Rattle.fx_grammar.specs.Grammar.{first_byte, separates, join_head, operator, sign}
@@ -38,7 +41,8 @@ Reader = List Item → Option (Parsed Tree)
 abbrev pub Turn : Type 0 → Type 0
 Turn A = Option (Option (Parsed A))
 
-abbrev pub reader_turned : {A : Type 0} → Turn A → Parsed A → (Parsed A → Option (Parsed A)) → Option (Parsed A)
+abbrev pub reader_turned : {A : Type 0} → Turn A → Parsed A → (Parsed A → Option (Parsed A))
+    → Option (Parsed A)
 reader_turned None s go = None
 reader_turned (Some None) s go = Some s
 reader_turned (Some (Some u)) s go = go u
@@ -134,14 +138,17 @@ sign_at (x ∷ us) = sign x.meaning >>= λ h. Some (h, us)
 
 -- lines that group to the left
 unfoldable pub left_turn : ℕ → Left → ℕ → Reader → Parsed Tree → Turn Tree
-left_turn n l at read s = unless_over (operator_at l s.2) (λ x. read x.1 >>= λ u. turn_going (within_depth n (node at (tree.pair x.0) (more s.0 (more u.0 none))) (suc (max s.1 u.1)) u.2))
+left_turn n l at read s = unless_over (operator_at l s.2)
+    (λ x. read x.1 >>= λ u. turn_going (within_depth n
+    (node at (tree.pair x.0) (more s.0 (more u.0 none))) (suc (max s.1 u.1)) u.2))
 
 unfoldable pub left_with : ℕ → Left → Reader → Reader
 left_with n l read ts = read ts >>= loop_from (left_turn n l (first_byte ts) read)
 
 -- fields and `%` behind a tree
 unfoldable pub tail_turn : ℕ → ℕ → (List Item → Option (Head × List Item)) → Parsed Tree → Turn Tree
-tail_turn n at tail s = unless_over (tail s.2) (λ x. turn_going (within_depth n (node at x.0 (more s.0 none)) (suc s.1) x.1))
+tail_turn n at tail s = unless_over (tail s.2)
+    (λ x. turn_going (within_depth n (node at x.0 (more s.0 none)) (suc s.1) x.1))
 
 abbrev pub field_in_front : List Item → Option (Head × List Item)
 field_in_front rest = name_after mark.Dot rest >>= λ x. Some (tree.dot x.0, x.1)
@@ -167,7 +174,8 @@ alias_with n read ts = read ts >>= λ s. aliased_by n (first_byte ts) s (alias_a
 
 -- parts
 unfoldable pub parts_turn : Separator → Reader → Parsed (List Tree) → Turn (List Tree)
-parts_turn s read w = unless_over (between s w.2) (λ us. read us >>= λ u. Some (Some (w.0 ++ u.0 ∷ [], max w.1 u.1, u.2)))
+parts_turn s read w = unless_over (between s w.2)
+    (λ us. read us >>= λ u. Some (Some (w.0 ++ u.0 ∷ [], max w.1 u.1, u.2)))
 
 unfoldable pub parts_with : Separator → Reader → List Item → Option (Parsed (List Tree))
 parts_with s read ts = read ts >>= λ u. loop_from (parts_turn s read) (u.0 ∷ [], u.1, u.2)
@@ -176,10 +184,12 @@ parts_with s read ts = read ts >>= λ u. loop_from (parts_turn s read) (u.0 ∷ 
 abbrev pub gathered : ℕ → Head → ℕ → Parsed (List Tree) → Option (Parsed Tree)
 gathered n h at ([], d, rest) = None
 gathered n h at (t ∷ [], d, rest) = Some (t, d, rest)
-gathered n h at (t ∷ u ∷ ts, d, rest) = within_depth n (node at h (forest (t ∷ u ∷ ts))) (suc d) rest
+gathered n h at (t ∷ u ∷ ts, d, rest) = within_depth n (node at h (forest (t ∷ u ∷ ts))) (suc d)
+    rest
 
 unfoldable pub several_with : ℕ → Join → Reader → Reader
-several_with n j read ts = parts_with (Between j) read ts >>= gathered n (join_head j) (first_byte ts)
+several_with n j read ts = parts_with (Between j) read ts >>= gathered n (join_head j)
+    (first_byte ts)
 
 abbrev pub without_last : Parsed Tree → Option (List Item) → Parsed Tree
 without_last s None = s
@@ -189,19 +199,23 @@ unfoldable pub chain_with : Reader → Reader
 chain_with read ts = read ts >>= λ s. Some (without_last s (after_mark mark.Semicolon s.2))
 
 -- prefixes and powers, where prefixes one level deeper are read so
-abbrev pub signed_by : Reader → Reader → List Item → Option (Head × List Item) → Option (Parsed Tree)
+abbrev pub signed_by : Reader → Reader → List Item → Option (Head × List Item)
+    → Option (Parsed Tree)
 signed_by up read ts None = read ts
-signed_by up read ts (Some x) = up x.1 >>= λ s. Some (node (first_byte ts) x.0 (more s.0 none), suc s.1, s.2)
+signed_by up read ts (Some x) = up x.1 >>= λ s. Some
+    (node (first_byte ts) x.0 (more s.0 none), suc s.1, s.2)
 
 unfoldable pub prefix_with : Reader → Reader → Reader
 prefix_with up read ts = signed_by up read ts (sign_at ts)
 
 abbrev pub raised_by : ℕ → ℕ → Reader → Parsed Tree → Option (List Item) → Option (Parsed Tree)
 raised_by n at up s None = Some s
-raised_by n at up s (Some us) = up us >>= λ u. within_depth n (node at (tree.pair op.Pow) (more s.0 (more u.0 none))) (suc (max s.1 u.1)) u.2
+raised_by n at up s (Some us) = up us >>= λ u. within_depth n
+    (node at (tree.pair op.Pow) (more s.0 (more u.0 none))) (suc (max s.1 u.1)) u.2
 
 unfoldable pub power_with : ℕ → Reader → Reader → Reader
-power_with n up read ts = read ts >>= λ s. raised_by n (first_byte ts) up s (after_mark mark.Caret s.2)
+power_with n up read ts = read ts >>= λ s. raised_by n (first_byte ts) up s
+    (after_mark mark.Caret s.2)
 
 -- what ends with this mark
 abbrev pub shut : {A : Type 0} → Mark → Parsed A → Option (Parsed A)
@@ -229,10 +243,12 @@ unfoldable pub field_with : Reader → List Item → Option (Parsed NamedTree)
 field_with read ts = label_at ts >>= λ x. read x.1 >>= λ u. Some ((x.0, u.0), u.1, u.2)
 
 unfoldable pub fields_turn : Reader → Parsed (List NamedTree) → Turn (List NamedTree)
-fields_turn read w = unless_over (after_mark mark.Comma w.2) (λ us. field_with read us >>= λ u. Some (Some (w.0 ++ u.0 ∷ [], max w.1 u.1, u.2)))
+fields_turn read w = unless_over (after_mark mark.Comma w.2)
+    (λ us. field_with read us >>= λ u. Some (Some (w.0 ++ u.0 ∷ [], max w.1 u.1, u.2)))
 
 abbrev pub read_fields : Reader → List Item → Option (List Item) → Option (Parsed (List NamedTree))
-read_fields read ts None = field_with read ts >>= λ u. loop_from (fields_turn read) (u.0 ∷ [], u.1, u.2) >>= shut mark.CloseBrace
+read_fields read ts None = field_with read ts >>= λ u. loop_from (fields_turn read)
+    (u.0 ∷ [], u.1, u.2) >>= shut mark.CloseBrace
 read_fields read ts (Some rest) = Some ([], 0, rest)
 
 -- fields up to the closing brace, with it
@@ -250,7 +266,8 @@ strand_at inner [] = Some None
 strand_at inner (x ∷ us) = strand_by inner x us x.meaning
 
 unfoldable pub strands_turn : Reader → Parsed (List Tree) → Turn (List Tree)
-strands_turn inner w = strand_at inner w.2 >>= λ o. Some (option_map (λ u. (w.0 ++ u.0 ∷ [], max w.1 u.1, u.2)) o)
+strands_turn inner w = strand_at inner w.2 >>= λ o. Some
+    (option_map (λ u. (w.0 ++ u.0 ∷ [], max w.1 u.1, u.2)) o)
 
 -- the text of a weave up to its end, with it
 unfoldable pub strands_with : Reader → List Item → Option (Parsed (List Tree))
@@ -261,7 +278,8 @@ abbrev pub call_of : ℕ → Head → Reader → List Item → Option (Parsed Tr
 call_of at h inner us = args_with mark.CloseParen inner us >>= shut_node at h
 
 -- atoms, where lines one level deeper are read so
-abbrev pub read_call : (Line → Reader) → Item → Head → Option (Parsed Tree) → Option (List Item) → Option (Parsed Tree)
+abbrev pub read_call : (Line → Reader) → Item → Head → Option (Parsed Tree) → Option (List Item)
+    → Option (Parsed Tree)
 read_call inner x h otherwise None = otherwise
 read_call inner x h otherwise (Some us) = call_of x.at h (inner Chain) us
 
@@ -270,24 +288,37 @@ leaf_by x us h = Some (node x.at h none, 1, us)
 
 -- a global name behind `[@`
 abbrev pub read_global : ℕ → List Item → Option (Parsed Tree)
-read_global at us = name_in_front us >>= λ y. after_mark mark.CloseBracket y.1 >>= λ rest. Some (node at (tree.global y.0) none, 1, rest)
+read_global at us = name_in_front us >>= λ y. after_mark mark.CloseBracket y.1 >>= λ rest. Some
+    (node at (tree.global y.0) none, 1, rest)
 
 abbrev pub read_record : Item → Parsed (List NamedTree) → Option (Parsed Tree)
-read_record x s = Some (node x.at (tree.rec (tree_field_names s.0) (places_of s.0)) (field_trees s.0), suc s.1, s.2)
+read_record x s = Some (
+  node x.at (tree.rec (tree_field_names s.0) (places_of s.0))
+      (field_trees s.0),
+  suc s.1,
+  s.2,
+)
 
 abbrev pub atom_by : ℕ → (Line → Reader) → Item → List Item → Meaning → Option (Parsed Tree)
 atom_by n inner x us (m.Number z) = leaf_by x us (tree.num z)
 atom_by n inner x us (m.Text cs) = leaf_by x us (tree.text cs)
-atom_by n inner x us (m.Name cs) = read_call inner x (tree.call cs) (leaf_by x us (tree.name cs)) (after_mark mark.OpenParen us)
+atom_by n inner x us (m.Name cs) = read_call inner x (tree.call cs) (leaf_by x us (tree.name cs))
+    (after_mark mark.OpenParen us)
 atom_by n inner x us (m.Word word.True) = leaf_by x us (tree.truth true)
 atom_by n inner x us (m.Word word.False) = leaf_by x us (tree.truth false)
-atom_by n inner x us (m.Word word.And) = read_call inner x tree.all None (after_mark mark.OpenParen us)
-atom_by n inner x us (m.Word word.Or) = read_call inner x tree.any None (after_mark mark.OpenParen us)
-atom_by n inner x us (m.Symbol symbol.OpenParen) = inner Chain us >>= λ s. shut mark.CloseParen s >>= λ s. Some (s.0, suc s.1, s.2)
-atom_by n inner x us (m.Symbol symbol.OpenBracket) = args_with mark.CloseBracket (inner Chain) us >>= shut_node x.at tree.list
+atom_by n inner x us (m.Word word.And) = read_call inner x tree.all None
+    (after_mark mark.OpenParen us)
+atom_by n inner x us (m.Word word.Or) = read_call inner x tree.any None
+    (after_mark mark.OpenParen us)
+atom_by n inner x us (m.Symbol symbol.OpenParen)
+    = inner Chain us >>= λ s. shut mark.CloseParen s >>= λ s. Some (s.0, suc s.1, s.2)
+atom_by n inner x us (m.Symbol symbol.OpenBracket)
+    = args_with mark.CloseBracket (inner Chain) us >>= shut_node x.at tree.list
 atom_by n inner x us (m.Symbol symbol.OpenBracketAt) = read_global x.at us
-atom_by n inner x us (m.Symbol symbol.OpenBrace) = fields_with (inner (Several join.Or)) us >>= read_record x
-atom_by n inner x us m.Opening = strands_with (inner Chain) us >>= λ s. within_depth n (node x.at tree.woven (forest s.0)) (suc s.1) s.2
+atom_by n inner x us (m.Symbol symbol.OpenBrace)
+    = fields_with (inner (Several join.Or)) us >>= read_record x
+atom_by n inner x us m.Opening = strands_with (inner Chain) us >>= λ s. within_depth n
+    (node x.at tree.woven (forest s.0)) (suc s.1) s.2
 atom_by n inner x us _ = None
 
 unfoldable pub atom_with : ℕ → (Line → Reader) → Reader
@@ -299,13 +330,15 @@ abbrev percent_in : ℕ → (Line → Reader) → Reader
 percent_in n inner = percent_with n (access_with n (atom_with n inner))
 
 abbrev alias_in : ℕ → (Line → Reader) → Reader
-alias_in n inner = alias_with n (prefix_with (inner Prefix) (power_with n (inner Prefix) (percent_in n inner)))
+alias_in n inner = alias_with n (prefix_with (inner Prefix)
+    (power_with n (inner Prefix) (percent_in n inner)))
 
 abbrev sum_in : ℕ → (Line → Reader) → Reader
 sum_in n inner = left_with n left.Sum (left_with n left.Prod (alias_in n inner))
 
 abbrev member_in : ℕ → (Line → Reader) → Reader
-member_in n inner = left_with n left.Member (left_with n left.Comp (several_with n join.Cat (sum_in n inner)))
+member_in n inner = left_with n left.Member (left_with n left.Comp
+    (several_with n join.Cat (sum_in n inner)))
 
 abbrev or_in : ℕ → (Line → Reader) → Reader
 or_in n inner = several_with n join.Or (several_with n join.And (member_in n inner))
@@ -315,7 +348,8 @@ line_in n inner Atom = atom_with n inner
 line_in n inner Access = access_with n (atom_with n inner)
 line_in n inner Percent = percent_in n inner
 line_in n inner Power = power_with n (inner Prefix) (percent_in n inner)
-line_in n inner Prefix = prefix_with (inner Prefix) (power_with n (inner Prefix) (percent_in n inner))
+line_in n inner Prefix = prefix_with (inner Prefix)
+    (power_with n (inner Prefix) (percent_in n inner))
 line_in n inner Alias = alias_in n inner
 line_in n inner (By left.Prod) = left_with n left.Prod (alias_in n inner)
 line_in n inner (By left.Sum) = sum_in n inner

@@ -7,7 +7,8 @@ ghost use Rattle.fx_lexer.specs.Spelling.{begins_with, doubled};
 ghost use Rattle.fx_grammar.specs.Formulas.{HasItems};
 ghost use Rattle.fx_grammar.specs.Means.{between_quotes, TokenMeans, AllMean};
 ghost use Rattle.fx_grammar.specs.Undoubling.{test_of};
-ghost use Rattle.fx_grammar.specs.Meant.{IsValued, in_quotes, IsQuoted, IsSomeDoubled, IsNumberOf, IsNameOf, IsMeaning, IsSoundToken};
+ghost use Rattle.fx_grammar.specs.Meant.{IsValued, in_quotes, IsQuoted, IsSomeDoubled, IsNumberOf};
+ghost use Rattle.fx_grammar.specs.Meant.{IsNameOf, IsMeaning, IsSoundToken};
 
 use crate::marks::{Marks, undouble};
 use crate::{Item, Meaning};

@@ -6,5 +6,6 @@ ghost use Rattle.fx_grammar.specs.Grammar.{IsFormula};
 
 /// Tokens have one tree at most, of one depth.
 pub fn one_formula()
-    ensures { (ts : List Item) (d e : ℕ) (t u : Tree) → IsFormula ts d t → IsFormula ts e u → (t ≡ u) × (d ≡ e) }
+    ensures { (ts : List Item) (d e : ℕ) (t u : Tree) → IsFormula ts d t → IsFormula ts e u
+        → (t ≡ u) × (d ≡ e) }
 {}

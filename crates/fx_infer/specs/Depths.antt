@@ -11,4 +11,5 @@ TreesAreNoDeeper = (n : ℕ) (cs : List ℕ) (t : Tree) → HasTree n cs t → t
 
 -- and those of named formulas
 abbrev pub EntriesAreNoDeeper : Type 0
-EntriesAreNoDeeper = (n : ℕ) (xs : List Item) (es : List NamedFormula) → AreEntriesOf n xs es → All (λ (e : NamedFormula). tree_depth e.tree ≤ n) es
+EntriesAreNoDeeper = (n : ℕ) (xs : List Item) (es : List NamedFormula) → AreEntriesOf n xs es
+    → All (λ (e : NamedFormula). tree_depth e.tree ≤ n) es

@@ -11,9 +11,10 @@ use Rattle.fx_typing.specs.Meaning.{Place}
 use Rattle.fx_infer.specs.declared.ends.InferEnd.{InferEnd}
 use Rattle.fx_infer.specs.declared.ends.InferEnd.TheVariants.{Broken, Memory}
 
--- the tree and the type are the definition's, and what is said of a broken node in this cell is true;
--- memory may run out
+-- the tree and the type are the definition's, and what is said of a broken node in this cell is
+-- true; memory may run out
 abbrev pub InfersTo : Place → Bool → Option Shape → Tree → List ℕ → Result Typed InferEnd → Type 0
 InfersTo p b w e cell (Ok t) = judge_whole p b w e ≡ Ok (typed t)
-InfersTo p b w e cell (Err (Broken x)) = IsToldBrokenWhole p b w e x.at (rule_number x.rule) x.detail × (x.cell ≡ cell)
+InfersTo p b w e cell (Err (Broken x)) = IsToldBrokenWhole p b w e x.at (rule_number x.rule)
+    x.detail × (x.cell ≡ cell)
 InfersTo p b w e cell (Err Memory) = Unit {0}

@@ -10,7 +10,8 @@ abbrev pub Halt : Type 0
 Halt = OrMemory Flaw
 
 -- the thing is the definition's, and what is said of a broken node is true; memory may run out
-abbrev pub IsJudgedBy : {A B : Type 0} → (A → B) → Result B (ℕ × ℕ) → (ℕ → ℕ → List ℕ → Type 0) → Result A Halt → Type 0
+abbrev pub IsJudgedBy : {A B : Type 0} → (A → B) → Result B (ℕ × ℕ) → (ℕ → ℕ → List ℕ → Type 0)
+    → Result A Halt → Type 0
 IsJudgedBy f r Told (Ok x) = r ≡ Ok (f x)
 IsJudgedBy f r Told (Err (Flawed b)) = Told b.at (rule_number b.rule) b.detail
 IsJudgedBy f r Told (Err Memory) = Unit {0}

@@ -11,4 +11,5 @@ Settles cs n = StillChanges cs n → ⊥
 
 -- the rule LimitPassed, of the app as a whole
 abbrev pub IsRoundsLimit : Broken → Type 0
-IsRoundsLimit b = (b.cell ≡ codes "App") × (b.rule ≡ rule.LimitPassed) × (b.at ≡ 0) × (b.detail ≡ codes "rounds 256")
+IsRoundsLimit b = (b.cell ≡ codes "App") × (b.rule ≡ rule.LimitPassed) × (b.at ≡ 0)
+    × (b.detail ≡ codes "rounds 256")

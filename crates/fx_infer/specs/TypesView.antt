@@ -7,7 +7,8 @@ use Rattle.fx_infer.specs.declared.round_types.Types.{Types}
 
 abbrev pub types_view : Types → rounds.Types
 types_view t =
-    rounds.round_types (map shape t.variables.items) (map shape t.collections.items) (map shape t.formulas.items) (map shape t.items.items)
+    rounds.round_types (map shape t.variables.items) (map shape t.collections.items)
+    (map shape t.formulas.items) (map shape t.items.items)
 
 -- there is a type for each name
 pub record AreAsMany (t : Types) (n : Names) : Type 0 where

@@ -1,5 +1,6 @@
 //! The local rule: which head of judged parts is admitted, as what.
-ghost use Rattle.std.specs.Prelude.{◌≡◌, ◌<◌, ◌∷◌, ℕ, [], IfOk, List, None, Ok, Option, Result, length, map, option_map};
+ghost use Rattle.std.specs.Prelude.{◌≡◌, ◌<◌, ◌∷◌, ℕ, [], IfOk, List, None, Ok, Option, Result};
+ghost use Rattle.std.specs.Prelude.{length, map, option_map};
 ghost use Rattle.fx_types.specs.TypeView.{shape};
 ghost use Rattle.fx_types.specs.Types.{Shape};
 ghost use Rattle.fx_types.specs.ValueView.{view};
@@ -52,7 +53,8 @@ fn plainly<'a>(value: Typed) -> Part<'a>
 
 // What is made, as a part.
 fn as_part<'a>(made: Result<Typed, Wrong>) -> Result<Part<'a>, Wrong>
-    ensures { (r : Result (Term × Shape) ℕ) → IsAnswerOf typed r made → IsAnswerOf judged_part (parts.as_part r) result }
+    ensures { (r : Result (Term × Shape) ℕ) → IsAnswerOf typed r made
+        → IsAnswerOf judged_part (parts.as_part r) result }
 {
     match made {
         Ok(value) => Ok(Part::Piece(Piece::Value(None, value))),
@@ -72,7 +74,8 @@ fn constant<'a>(value: Value, ty: Ty) -> Part<'a>
 
 // What stands left of a dot: a name that is no value too.
 fn before_dot<'a>(meaning: Option<Meaning<'a>>) -> Result<Part<'a>, Wrong>
-    ensures { IsAnswerOf judged_part (typing.left_of_dot (option_map meaning_view meaning.entry)) result }
+    ensures { IsAnswerOf judged_part (typing.left_of_dot (option_map meaning_view meaning.entry))
+        result }
 {
     match meaning {
         Some(Meaning::Valued(value)) => Ok(plainly(value)),
@@ -148,7 +151,8 @@ fn alias_by<'a>(
     name: &Words,
     all: Vec<Part<'a>>,
 ) -> Result<Part<'a>, Wrong>
-    ensures { IsAnswerOf judged_part (typing.alias_by (grant allowed) name.now (map judged_part all.entry.items)) result }
+    ensures { IsAnswerOf judged_part (typing.alias_by (grant allowed) name.now
+        (map judged_part all.entry.items)) result }
 {
     match one(all) {
         Some(Part::Piece(Piece::Value(_, value))) => alias_value(alloc, allowed, name, value),
@@ -170,7 +174,8 @@ fn alias_value<'a>(
     name: &Words,
     value: Typed,
 ) -> Result<Part<'a>, Wrong>
-    ensures { (a : Option (List ℕ)) → IsAnswerOf judged_part (typing.alias_by (grant allowed) name.now
+    ensures { (a : Option (List ℕ)) → IsAnswerOf judged_part
+        (typing.alias_by (grant allowed) name.now
         (parts.piece (local.value a value.core (shape value.ty)) ∷ [])) result }
 {
     match allowed {
@@ -193,7 +198,8 @@ fn alias_target<'a>(
     name: &Words,
     changed: Words,
 ) -> Result<Part<'a>, Wrong>
-    ensures { IsAnswerOf judged_part (typing.alias_by (grant allowed) name.now (parts.target None changed ∷ [])) result }
+    ensures { IsAnswerOf judged_part (typing.alias_by (grant allowed) name.now
+        (parts.target None changed ∷ [])) result }
 {
     match allowed {
         Grant::AliasedTarget => Ok(Part::Target(Some(name.copy(alloc)?), changed)),
@@ -220,7 +226,8 @@ fn names_in(alloc: Global, fields: &[(FieldName, Expr)]) -> Result<Vec<Words>, M
 
 // Variables of a screen with their values, where none stands twice.
 fn assign<'a>(names: Vec<Words>, values: Vec<Typed>) -> Result<Part<'a>, Wrong>
-    ensures { IsAnswerOf judged_part (typing.assigned_of names.items (map typed values.items)) result }
+    ensures { IsAnswerOf judged_part (typing.assigned_of names.items (map typed values.items))
+        result }
 {
     if !are_distinct(names.as_slice()) {
         return Err(Wrong::Refused(Rule::NameTwice));
@@ -235,7 +242,8 @@ fn record_as<'a>(
     names: Vec<Words>,
     values: Vec<Typed>,
 ) -> Result<Part<'a>, Wrong>
-    ensures { IsAnswerOf judged_part (typing.record_as (grant allowed) names.items (map typed values.items)) result }
+    ensures { IsAnswerOf judged_part (typing.record_as (grant allowed) names.items
+        (map typed values.items)) result }
 {
     match allowed {
         Grant::OnScreen(_) => assign(names, values),
@@ -300,14 +308,16 @@ fn pair(alloc: Global, op: Op, all: Vec<Part>) -> Result<Typed, Wrong>
 
 // A function of all parts.
 fn make_of(alloc: Global, fun: Fun, all: Vec<Part>) -> Result<Typed, Wrong>
-    ensures { IsAnswerOf typed (local.node_made fun (parts.pieces (map judged_part all.entry.items))) result }
+    ensures { IsAnswerOf typed (local.node_made fun
+        (parts.pieces (map judged_part all.entry.items))) result }
 {
     make(alloc, fun, pieces(alloc, all)?)
 }
 
 // A form of all parts.
 fn make_form_of(alloc: Global, form: Form, all: Vec<Part>) -> Result<Typed, Wrong>
-    ensures { IsAnswerOf typed (local.formed form (parts.pieces (map judged_part all.entry.items))) result }
+    ensures { IsAnswerOf typed (local.formed form (parts.pieces (map judged_part all.entry.items)))
+        result }
 {
     make_form(alloc, form, pieces(alloc, all)?)
 }
@@ -348,14 +358,16 @@ fn chain_by(alloc: Global, values: Vec<Typed>) -> Result<Typed, Wrong>
 
 // Formulas in turn, wherever they stand.
 fn chain(alloc: Global, all: Vec<Part>) -> Result<Typed, Wrong>
-    ensures { IsAnswerOf typed (and_then (parts.values (map judged_part all.entry.items)) typing.chain_by) result }
+    ensures { IsAnswerOf typed (and_then (parts.values (map judged_part all.entry.items))
+        typing.chain_by) result }
 {
     chain_by(alloc, values(alloc, all)?)
 }
 
 // A list of all parts.
 fn list(alloc: Global, all: Vec<Part>) -> Result<Typed, Wrong>
-    ensures { IsAnswerOf typed (and_then (parts.values (map judged_part all.entry.items)) builds.typed_list) result }
+    ensures { IsAnswerOf typed (and_then (parts.values (map judged_part all.entry.items))
+        builds.typed_list) result }
 {
     list_of(alloc, values(alloc, all)?)
 }
@@ -372,8 +384,10 @@ fn call_by(
 ) -> Result<Typed, Wrong>
     requires { IsLawful at.now.names.now }
     ensures { IsAnswerOf typed (parts.unless_rule
-        (typing.is_too_deep (place_view at.now) (setting scopes.now stand) (tree_head whole.now) (map judged_part all.entry.items)) 13
-        (called (place_view at.now) (setting scopes.now stand) name.now (map judged_part all.entry.items))) result }
+        (typing.is_too_deep (place_view at.now) (setting scopes.now stand) (tree_head whole.now)
+        (map judged_part all.entry.items)) 13
+        (called (place_view at.now) (setting scopes.now stand) name.now
+        (map judged_part all.entry.items))) result }
 {
     let too_deep = is_too_deep(at, scopes, stand, whole, &all);
     unless(
@@ -406,7 +420,8 @@ pub fn admit<'a>(
 ) -> Result<Part<'a>, Wrong>
     requires lawful { IsLawful at.now.names.now }
     requires shallow { length scopes.now < 256 }
-    ensures { IsAnswerOf judged_part (typing.admit (place_view at.now) (setting scopes.now stand) (tree_head whole.now)
+    ensures { IsAnswerOf judged_part (typing.admit (place_view at.now) (setting scopes.now stand)
+        (tree_head whole.now)
         (map judged_part all.entry.items)) result }
 {
     match &whole.node {

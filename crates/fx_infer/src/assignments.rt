@@ -63,8 +63,8 @@ fn append(given: &mut Vec<Given>, more: Vec<Given>) -> Result<(), Memory>
     Ok(())
 }
 
-// The part behind the done ones, of a node with so many parts, as the others know it; what is given in
-// it is added.
+// The part behind the done ones, of a node with so many parts, as the others know it; what is given
+// in it is added.
 #[cycle(walk)]
 fn walk_next<'a>(
     alloc: Global,
@@ -80,12 +80,16 @@ fn walk_next<'a>(
     requires lawful { IsLawful at.now.names.now }
     requires shallow { length scopes.old + (1 + tree_depth next.now) ≤ 256 }
     ensures scopes { scopes.new ≡ scopes.old }
-    ensures part { IfOk result (λ q. judged_part q ≡ rounds.or_unknown (typing.judge (place_view at.now)
-        (setting_at at.now.names.now (setting scopes.old stand) (tree_head whole.now) count (map judged_part done.now))
+    ensures part { IfOk result (λ q. judged_part q
+        ≡ rounds.or_unknown (typing.judge (place_view at.now)
+        (setting_at at.now.names.now (setting scopes.old stand) (tree_head whole.now) count
+        (map judged_part done.now))
         next.now)) }
-    ensures given { IfOk result (λ q. map given_type_view given.new.items ≡ map given_type_view given.old.items
+    ensures given { IfOk result (λ q. map given_type_view given.new.items
+        ≡ map given_type_view given.old.items
         ++ rounds.given_in (place_view at.now)
-        (setting_at at.now.names.now (setting scopes.old stand) (tree_head whole.now) count (map judged_part done.now))
+        (setting_at at.now.names.now (setting scopes.old stand) (tree_head whole.now) count
+        (map judged_part done.now))
         next.now) }
 {
     let around = scopes.len();
@@ -95,8 +99,8 @@ fn walk_next<'a>(
     answer
 }
 
-// A part where it stands, as the others know it; what is given in it is added. Walked and judged apart, since a part
-// that is broken still gives what stands in it.
+// A part where it stands, as the others know it; what is given in it is added. Walked and judged
+// apart, since a part that is broken still gives what stands in it.
 #[cycle(walk)]
 fn walk_inside<'a>(
     alloc: Global,
@@ -111,7 +115,8 @@ fn walk_inside<'a>(
     ensures scopes { scopes.new ≡ scopes.old }
     ensures part { IfOk result (λ q. judged_part q
         ≡ rounds.or_unknown (typing.judge (place_view at.now) (setting scopes.old stand) whole.now)) }
-    ensures given { IfOk result (λ q. map given_type_view given.new.items ≡ map given_type_view given.old.items
+    ensures given { IfOk result (λ q. map given_type_view given.new.items
+        ≡ map given_type_view given.old.items
         ++ rounds.given_in (place_view at.now) (setting scopes.old stand) whole.now) }
 {
     walk(alloc, at, scopes, stand, whole, given)?;
@@ -119,8 +124,8 @@ fn walk_inside<'a>(
     known_part(alloc, answer)
 }
 
-/// Adds what is given in a formula, in the order of its text. Each part is judged in its place, also where
-/// others are broken. The scopes are left as they were.
+/// Adds what is given in a formula, in the order of its text. Each part is judged in its place,
+/// also where others are broken. The scopes are left as they were.
 #[cycle(walk)]
 pub fn walk(
     alloc: Global,
@@ -133,7 +138,8 @@ pub fn walk(
     requires lawful { IsLawful at.now.names.now }
     requires shallow { length scopes.old + tree_depth whole.now ≤ 256 }
     ensures scopes { scopes.new ≡ scopes.old }
-    ensures given { OnOk result (map given_type_view given.new.items ≡ map given_type_view given.old.items
+    ensures given { OnOk result (map given_type_view given.new.items
+        ≡ map given_type_view given.old.items
         ++ rounds.given_in (place_view at.now) (setting scopes.old stand) whole.now) }
 {
     let count = part_count(whole);

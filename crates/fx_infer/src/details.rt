@@ -31,7 +31,8 @@ use std::alloc::Global;
 
 // The name that a call can't act on, and else the call's.
 fn no_variable(alloc: Global, whole: &Expr, all: &[Part]) -> Result<Words, Memory>
-    ensures { IfOk result (λ w. w ≡ told.no_variable (told.head_name (tree_head whole.now)) (map judged_part all.now)) }
+    ensures { IfOk result (λ w. w ≡ told.no_variable (told.head_name (tree_head whole.now))
+        (map judged_part all.now)) }
 {
     match all.first() {
         Some(Part::Target(_, name)) => name.copy(alloc),
@@ -42,7 +43,8 @@ fn no_variable(alloc: Global, whole: &Expr, all: &[Part]) -> Result<Words, Memor
 // The type that passes the limits, of what a call gives a value to.
 fn large_in<'n>(at: &Place<'n>, shape: SigShape, all: &[Part]) -> Option<&'n Ty>
     requires { IsLawful at.now.names.now }
-    ensures { option_map (λ t. type_of t.now) result ≡ told.large_in (place_view at.now) shape (map judged_part all.now) }
+    ensures { option_map (λ t. type_of t.now) result
+        ≡ told.large_in (place_view at.now) shape (map judged_part all.now) }
 {
     match shape {
         SigShape::Act(acting) => first_large_type(at.names, at.screen, acting, all),
@@ -60,7 +62,8 @@ fn call_limit(
     all: Vec<Part>,
 ) -> Result<Words, Memory>
     requires { IsLawful at.now.names.now }
-    ensures { IfOk result (λ w. w ≡ told.call_limit (place_view at.now) (setting scopes.now stand) shape
+    ensures { IfOk result (λ w. w ≡ told.call_limit (place_view at.now) (setting scopes.now stand)
+        shape
         (map judged_part all.entry.items)) }
 {
     let Some(shape) = shape else {
@@ -82,7 +85,8 @@ fn own_limit(
     all: Vec<Part>,
 ) -> Result<Words, Memory>
     requires { IsLawful at.now.names.now }
-    ensures { IfOk result (λ w. w ≡ told.limit_of (called_by (place_view at.now) (setting scopes.now stand) shape
+    ensures { IfOk result (λ w. w ≡ told.limit_of
+        (called_by (place_view at.now) (setting scopes.now stand) shape
         (map judged_part all.entry.items))) }
 {
     match call_by_shape(alloc, at, stand, shape, all) {

@@ -95,7 +95,8 @@ fn is_table(ty: &Ty) -> bool
 
 // A whole formula, coerced to what is wanted of it.
 fn whole_of(alloc: Global, wanted: &Option<Ty>, whole: Part) -> Result<Typed, Wrong>
-    ensures { IsAnswerOf typed (typing.whole_argument (option_map shape wanted.now) (judged_part whole.entry)) result }
+    ensures { IsAnswerOf typed (typing.whole_argument (option_map shape wanted.now)
+        (judged_part whole.entry)) result }
 {
     match whole {
         Part::Piece(Piece::Value(_, value)) => to_wanted_type(alloc, wanted, value),
@@ -144,7 +145,8 @@ fn settle(
 ) -> Result<Typed, InferEnd>
     requires { IsLawful names.now }
     ensures { (b : Bool)
-        → typing.judge (formula_place names.now cell.now) (typing.outermost_setting b) cell.now.expr ≡ Ok (judged_part whole.entry)
+        → typing.judge (formula_place names.now cell.now) (typing.outermost_setting b) cell.now.expr
+        ≡ Ok (judged_part whole.entry)
         → InfersTo (formula_place names.now cell.now) b (option_map shape wanted.now) cell.now.expr
         cell.now.cell result }
 {
@@ -185,14 +187,15 @@ fn judge_cell(
     }
 }
 
-/// The typed tree of a formula and its type, coerced to what is wanted of it; or the first of its nodes
-/// from the left that is broken while all its parts are admitted, with the rule that it breaks and what
-/// is said besides. At its top a formula is broken too where its type has no coercion to what is wanted.
-/// It has at most 256 nodes above one another.
+/// The typed tree of a formula and its type, coerced to what is wanted of it; or the first of its
+/// nodes from the left that is broken while all its parts are admitted, with the rule that it
+/// breaks and what is said besides. At its top a formula is broken too where its type has no
+/// coercion to what is wanted. It has at most 256 nodes above one another.
 pub fn elaborate(alloc: Global, names: &Names, cell: &Written) -> Result<Typed, InferEnd>
     requires lawful { IsLawful names.now }
     requires shallow { tree_depth cell.now.expr ≤ 256 }
-    ensures admitted { IfOk result (λ t. judge_whole (formula_place names.now cell.now) (formula_may_act cell.now.place)
+    ensures admitted { IfOk result (λ t. judge_whole (formula_place names.now cell.now)
+        (formula_may_act cell.now.place)
         (option_map shape cell.now.wanted) cell.now.expr ≡ Ok (typed t)) }
     ensures well_typed { IfOk result (λ t. IsTyped (context_of (formula_place names.now cell.now)
         (typing.outermost_setting (formula_may_act cell.now.place))) t.core (shape t.ty)) }
@@ -203,14 +206,16 @@ pub fn elaborate(alloc: Global, names: &Names, cell: &Written) -> Result<Typed, 
         → IsToldBrokenWhole (formula_place names.now cell.now) (formula_may_act cell.now.place)
         (option_map shape cell.now.wanted) cell.now.expr b.at (rule_number b.rule) b.detail }
     ensures cell { (b : Broken) → result ≡ Err (end.Broken b) → b.cell ≡ cell.now.cell }
-    // The relation of types relates to the formula what is answered; to a broken one it relates nothing, and nothing to
-    // the node that is told, of which it relates all parts.
-    ensures related { IfOk result (λ t. FormulaElaborates (formula_place names.now cell.now) (formula_may_act cell.now.place)
+    // The relation of types relates to the formula what is answered; to a broken one it relates
+    // nothing, and nothing to the node that is told, of which it relates all parts.
+    ensures related { IfOk result (λ t. FormulaElaborates (formula_place names.now cell.now)
+        (formula_may_act cell.now.place)
         (option_map shape cell.now.wanted) cell.now.expr (typed t)) }
     ensures unrelated { (b : Broken) → result ≡ Err (end.Broken b)
         → FormulaIsNothing (formula_place names.now cell.now) (formula_may_act cell.now.place)
         (option_map shape cell.now.wanted) cell.now.expr b.at
-        × ((x : Term × Shape) → FormulaElaborates (formula_place names.now cell.now) (formula_may_act cell.now.place)
+        × ((x : Term × Shape) → FormulaElaborates (formula_place names.now cell.now)
+        (formula_may_act cell.now.place)
         (option_map shape cell.now.wanted) cell.now.expr x → ⊥) }
 {
     // The laws are called for what they say of what is admitted or broken.
@@ -224,7 +229,8 @@ pub fn elaborate(alloc: Global, names: &Names, cell: &Written) -> Result<Typed, 
 pub fn elaborate_alone(alloc: Global, names: &Names, cell: &Written) -> Result<Typed, InferEnd>
     requires lawful { IsLawful names.now }
     requires shallow { tree_depth cell.now.expr ≤ 256 }
-    ensures admitted { IfOk result (λ t. judge_whole (formula_place names.now cell.now) (formula_may_act cell.now.place)
+    ensures admitted { IfOk result (λ t. judge_whole (formula_place names.now cell.now)
+        (formula_may_act cell.now.place)
         None cell.now.expr ≡ Ok (typed t)) }
     ensures broken { (b : Broken) → result ≡ Err (end.Broken b)
         → judge_whole (formula_place names.now cell.now) (formula_may_act cell.now.place)

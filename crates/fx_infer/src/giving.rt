@@ -98,7 +98,8 @@ fn give_screen(
 // What a collected value gives to a collection.
 fn give_row(alloc: Global, name: &Words, value: &Part, given: &mut Vec<Given>) -> Result<(), Memory>
     ensures { OnOk result (map given_type_view given.new.items ≡ map given_type_view given.old.items
-        ++ rounds.given_by_node (rounds.to_collection name.now) (option_map rows_type (value_type (judged_part value.now)))) }
+        ++ rounds.given_by_node (rounds.to_collection name.now)
+        (option_map rows_type (value_type (judged_part value.now)))) }
 {
     if let Some(ty) = value_type(value) {
         given.push(Given::Collection(name.copy(alloc)?, rows_type(alloc, ty)?))?;
@@ -204,8 +205,10 @@ pub fn give(
     parts: &[Part],
     given: &mut Vec<Given>,
 ) -> Result<(), Memory>
-    ensures { (ss : List Scope) → OnOk result (map given_type_view given.new.items ≡ map given_type_view given.old.items
-        ++ rounds.node_gives (place_view at.now) (setting ss stand) (tree_head whole.now) (map judged_part parts.now)) }
+    ensures { (ss : List Scope) → OnOk result
+        (map given_type_view given.new.items ≡ map given_type_view given.old.items
+        ++ rounds.node_gives (place_view at.now) (setting ss stand) (tree_head whole.now)
+        (map judged_part parts.now)) }
 {
     match &whole.node {
         Node::Call(name, _) => match call_shape(at.names, name) {

@@ -12,7 +12,8 @@ use fx_types::types::Ty;
 use fx_value::joining::join;
 use std::alloc::Global;
 
-// The join with another type, if that is given to the same name; a type that doesn't join is passed over.
+// The join with another type, if that is given to the same name; a type that doesn't join is passed
+// over.
 fn join_if(alloc: Global, is_given: bool, ty: Ty, other: &Ty) -> Result<Ty, Memory>
     ensures { IfOk result (λ t. shape t ≡ rounds.join_if is_given (shape ty) (shape other.now)) }
 {
@@ -38,7 +39,8 @@ fn is_same_screen(a: Option<u32>, b: Option<u32>) -> bool
 
 // The join of a variable's type with what is given next.
 fn variable_next(alloc: Global, variable: &Variable, ty: Ty, next: &Given) -> Result<Ty, Memory>
-    ensures { (gs : List rounds.GivenType) → IfOk result (λ t. rounds.variable_join variable.now (shape t) gs
+    ensures { (gs : List rounds.GivenType) → IfOk result
+        (λ t. rounds.variable_join variable.now (shape t) gs
         ≡ rounds.variable_join variable.now (shape ty) (given_type_view next.now ∷ gs)) }
 {
     match next {
@@ -56,7 +58,8 @@ fn variable_next(alloc: Global, variable: &Variable, ty: Ty, next: &Given) -> Re
 
 /// The join of all that is given to a variable, from the left.
 pub fn variable_join(alloc: Global, variable: &Variable, given: &[Given]) -> Result<Ty, Memory>
-    ensures { IfOk result (λ t. shape t ≡ rounds.variable_join variable.now blanks (map given_type_view given.now)) }
+    ensures { IfOk result (λ t. shape t ≡ rounds.variable_join variable.now blanks
+        (map given_type_view given.now)) }
 {
     let mut ty = Ty::Blank;
     for next in given {
@@ -72,7 +75,8 @@ fn collection_next(
     ty: Ty,
     next: &Given,
 ) -> Result<Ty, Memory>
-    ensures { (gs : List rounds.GivenType) → IfOk result (λ t. rounds.collection_join collection.now (shape t) gs
+    ensures { (gs : List rounds.GivenType) → IfOk result
+        (λ t. rounds.collection_join collection.now (shape t) gs
         ≡ rounds.collection_join collection.now (shape ty) (given_type_view next.now ∷ gs)) }
 {
     match next {

@@ -20,8 +20,8 @@ use fx_resolve::{Part, Place, Scopes, Stand, enter};
 use fx_typing::Wrong;
 use std::alloc::Global;
 
-/// A node as a part of the whole, or the first node from the left that is broken while all its parts are
-/// admitted. The scopes are left as they were.
+/// A node as a part of the whole, or the first node from the left that is broken while all its
+/// parts are admitted. The scopes are left as they were.
 #[cycle(judge)]
 pub fn judge<'a>(
     alloc: Global,
@@ -33,7 +33,8 @@ pub fn judge<'a>(
     requires lawful { IsLawful at.now.names.now }
     requires shallow { length scopes.old + tree_depth whole.now ≤ 256 }
     ensures scopes { scopes.new ≡ scopes.old }
-    ensures judged { IsJudgedBy judged_part (typing.judge (place_view at.now) (setting scopes.old stand) whole.now)
+    ensures judged { IsJudgedBy judged_part (typing.judge (place_view at.now)
+        (setting scopes.old stand) whole.now)
         (IsToldBroken (place_view at.now) (setting scopes.old stand) whole.now) result }
 {
     let parts = judge_parts(alloc, at, scopes, stand, whole)?;

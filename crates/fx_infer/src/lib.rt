@@ -1,4 +1,5 @@
-//! Which formulas are admitted, as which typed trees, where and why others are broken, and the rounds of types.
+//! Which formulas are admitted, as which typed trees, where and why others are broken, and the
+//! rounds of types.
 #![tactic(auto)]
 
 pub mod admitting;

@@ -1,5 +1,6 @@
 //! The types that a round gives.
-ghost use Rattle.std.specs.Prelude.{◌≡◌, ◌<◌, ◌≤◌, ◌^◌, All, IfOk, Some, codes, length, map, slice_get};
+ghost use Rattle.std.specs.Prelude.{◌≡◌, ◌<◌, ◌≤◌, ◌^◌, All, IfOk, Some, codes, length, map};
+ghost use Rattle.std.specs.Prelude.{slice_get};
 ghost use Rattle.fx_types.specs.TypeView.{shape};
 ghost use Rattle.fx_types.specs.Types.{blanks};
 ghost use Rattle.fx_infer.specs.Below.{tree_depth};
@@ -114,7 +115,8 @@ fn items_types(alloc: Global, names: &Names, cells: &[Written]) -> Result<Vec<Ty
 // The types of variables, by all that is given.
 fn variable_types(alloc: Global, variables: &[Variable], given: &[Given]) -> Result<Vec<Ty>, Memory>
     ensures { IfOk result (λ ts. map shape ts.items
-        ≡ map (λ (v : Variable). rounds.variable_join v blanks (map given_type_view given.now)) variables.now) }
+        ≡ map (λ (v : Variable). rounds.variable_join v blanks (map given_type_view given.now))
+        variables.now) }
 {
     let mut types = Vec::new(alloc);
     for variable in variables {
@@ -130,7 +132,8 @@ fn collection_types(
     given: &[Given],
 ) -> Result<Vec<Ty>, Memory>
     ensures { IfOk result (λ ts. map shape ts.items
-        ≡ map (λ (c : Collection). rounds.collection_join c blanks (map given_type_view given.now)) collections.now) }
+        ≡ map (λ (c : Collection). rounds.collection_join c blanks (map given_type_view given.now))
+        collections.now) }
 {
     let mut types = Vec::new(alloc);
     for collection in collections {

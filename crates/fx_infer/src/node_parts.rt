@@ -1,4 +1,5 @@
-//! The parts of a node. They go by number, whatever the node is, so that one loop judges those of all nodes.
+//! The parts of a node. They go by number, whatever the node is, so that one loop judges those of
+//! all nodes.
 ghost use Rattle.std.specs.Prelude.{◌≡◌, MatchOption, suc};
 ghost use Rattle.fx_core.specs.Tree as tree;
 ghost use Rattle.fx_typing.specs.Parts.{part_count};
@@ -84,7 +85,8 @@ fn of_two<'e>(left: &'e Expr, right: &'e Expr, place: usize) -> Option<&'e Expr>
     ensures { MatchOption result
         (forest_from place (tree.more left.now (tree.more right.now tree.none)) ≡ tree.none)
         (λ k. forest_from place (tree.more left.now (tree.more right.now tree.none))
-        ≡ tree.more k.now (forest_from (suc place) (tree.more left.now (tree.more right.now tree.none)))) }
+        ≡ tree.more k.now (forest_from (suc place)
+        (tree.more left.now (tree.more right.now tree.none)))) }
 {
     if place == 0 {
         Some(left)

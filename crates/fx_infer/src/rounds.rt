@@ -45,17 +45,18 @@ fn rounds_limit(alloc: Global) -> Result<Broken, Memory>
     })
 }
 
-/// The names with their final types. At first all types are Blank. Each round, under the types of the one
-/// before, gives a named formula and the items of a gallery the type of its formula, and a variable or
-/// collection the join of the types that are given to it. The types are final where a round keeps them
-/// all. Where none of 256 rounds does, the rule `LimitPassed` is broken.
+/// The names with their final types. At first all types are Blank. Each round, under the types of
+/// the one before, gives a named formula and the items of a gallery the type of its formula, and a
+/// variable or collection the join of the types that are given to it. The types are final where a
+/// round keeps them all. Where none of 256 rounds does, the rule `LimitPassed` is broken.
 pub fn type_rounds(alloc: Global, names: Names, cells: &[Written]) -> Result<Names, InferEnd>
     requires lawful { IsLawful names }
     requires shallow { All (λ (c : Written). tree_depth c.expr ≤ 256) cells.now }
     ensures types { IfOk result (λ m. AreFinalTypes (map cell cells.now) names m) }
     ensures lawful { IfOk result IsLawful }
     ensures settles { IfOk result (λ m. Settles (map cell cells.now) names) }
-    ensures broken { (b : Broken) → result ≡ Err (end.Broken b) → StillChanges (map cell cells.now) names }
+    ensures broken { (b : Broken) → result ≡ Err (end.Broken b)
+        → StillChanges (map cell cells.now) names }
     ensures told { (b : Broken) → result ≡ Err (end.Broken b) → IsRoundsLimit b }
 {
     let blank = first_types(alloc, &names)?;

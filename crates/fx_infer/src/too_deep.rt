@@ -11,7 +11,8 @@ use fx_resolve::{Part, Place, Scopes, Stand, opens_rows};
 
 /// Whether a node opens a fourth scope of a call over a table.
 pub fn is_too_deep(at: &Place, scopes: &Scopes, stand: Stand, whole: &Expr, all: &[Part]) -> bool
-    ensures { result ≡ typing.is_too_deep (place_view at.now) (setting scopes.now stand) (tree_head whole.now)
+    ensures { result ≡ typing.is_too_deep (place_view at.now) (setting scopes.now stand)
+        (tree_head whole.now)
         (map judged_part all.now) }
 {
     opens_rows(at.names, stand.grant, whole, all) && 2 < scopes.depth()

@@ -3,7 +3,8 @@ ghost use Rattle.std.specs.Prelude.{◌≡◌, IfOk, length, map};
 ghost use Rattle.fx_types.specs.TypeView.{shape};
 ghost use Rattle.fx_types.specs.Types.{Shape};
 ghost use Rattle.fx_typing.specs.Rounds as rounds;
-ghost use Rattle.fx_typing.specs.Rounds.{AllSame, SameNames, SameVariable, SameCollection, SameFormula, SameControl};
+ghost use Rattle.fx_typing.specs.Rounds.{AllSame, SameNames, SameVariable, SameCollection};
+ghost use Rattle.fx_typing.specs.Rounds.{SameFormula, SameControl};
 ghost use Rattle.fx_infer.specs.TypesView.{AreAsMany, types_view};
 
 use crate::round_types::Types;

@@ -1,5 +1,6 @@
 -- Which tokens a text has.
-use Rattle.std.specs.Prelude.{◌≡◌, ◌≢◌, ℕ, ◌+◌, List, [], ◌∷◌, ◌++◌, length, map, encode_utf8, ◌==◌, if◌then◌else◌}
+use Rattle.std.specs.Prelude.{◌≡◌, ◌≢◌, ℕ, ◌+◌, List, [], ◌∷◌, ◌++◌, length, map, encode_utf8, ◌==◌}
+use Rattle.std.specs.Prelude.{if◌then◌else◌}
 use Rattle.std.specs.Char.{is_ascii_digit}
 use Rattle.fx_lexer.specs.declared.token.Symbol.TheVariants.{OpenBrace, CloseBrace}
 use Rattle.fx_lexer.specs.declared.token.TokenKind.{TokenKind}
@@ -31,7 +32,8 @@ pub record Lexeme : Type 0 where
 abbrev pub token_of : Lexeme → Tok
 token_of l = record { kind = l.kind; at = l.at; upto = l.at + width l.text }
 
--- What encloses a place, innermost first, decides how it is read: directly in a weave stands its text, elsewhere a formula.
+-- What encloses a place, innermost first, decides how it is read: directly in a weave stands its
+-- text, elsewhere a formula.
 abbrev pub mode_in : List Enclosing → Mode
 mode_in [] = Formula
 mode_in (around.Weave ∷ es) = Weave
@@ -41,7 +43,8 @@ abbrev pub outside : List Enclosing → List Enclosing
 outside [] = []
 outside (e ∷ es) = es
 
--- What encloses the place after a token: an opening mark encloses what follows, a closing one ends the innermost.
+-- What encloses the place after a token: an opening mark encloses what follows, a closing one ends
+-- the innermost.
 abbrev pub enclosing_after : TokenKind → List Enclosing → List Enclosing
 enclosing_after kind.Opening es = around.Weave ∷ es
 enclosing_after (kind.Symbol OpenBrace) es = around.Brace ∷ es
@@ -49,16 +52,23 @@ enclosing_after kind.Closing es = outside es
 enclosing_after (kind.Symbol CloseBrace) es = outside es
 enclosing_after k es = es
 
--- From the byte `at`, where the characters cs stand in es, these tokens are read, up to the byte `end`, where rest stands in fs.
-pub data LexesTo : List Enclosing → ℕ → List ℕ → List Lexeme → List Enclosing → ℕ → List ℕ → Type 0 where
+-- From the byte `at`, where the characters cs stand in es, these tokens are read, up to the byte
+-- `end`, where rest stands in fs.
+pub data LexesTo : List Enclosing → ℕ → List ℕ → List Lexeme → List Enclosing → ℕ → List ℕ
+    → Type 0 where
   stop : (es : List Enclosing) (at : ℕ) (cs : List ℕ) → LexesTo es at cs [] es at cs
-  skip : (es : List Enclosing) (at : ℕ) (xs cs : List ℕ) (ls : List Lexeme) (fs : List Enclosing) (end : ℕ) (rest : List ℕ)
-      → IsElement (mode_in es) Skip xs cs → LexesTo es (at + width xs) cs ls fs end rest → LexesTo es at (xs ++ cs) ls fs end rest
-  token : (es : List Enclosing) (at : ℕ) (k : TokenKind) (xs cs : List ℕ) (ls : List Lexeme) (fs : List Enclosing) (end : ℕ) (rest : List ℕ)
-      → IsElement (mode_in es) (Token k) xs cs → LexesTo (enclosing_after k es) (at + width xs) cs ls fs end rest
+  skip : (es : List Enclosing) (at : ℕ) (xs cs : List ℕ) (ls : List Lexeme) (fs : List Enclosing)
+      (end : ℕ) (rest : List ℕ)
+      → IsElement (mode_in es) Skip xs cs → LexesTo es (at + width xs) cs ls fs end rest
+      → LexesTo es at (xs ++ cs) ls fs end rest
+  token : (es : List Enclosing) (at : ℕ) (k : TokenKind) (xs cs : List ℕ) (ls : List Lexeme)
+      (fs : List Enclosing) (end : ℕ) (rest : List ℕ)
+      → IsElement (mode_in es) (Token k) xs cs
+      → LexesTo (enclosing_after k es) (at + width xs) cs ls fs end rest
       → LexesTo es at (xs ++ cs) (record { kind = k; at = at; text = xs } ∷ ls) fs end rest
 
--- The text is white space, comments and these tokens in turn. A weave or an island may still be open at its end.
+-- The text is white space, comments and these tokens in turn. A weave or an island may still be
+-- open at its end.
 abbrev pub HasLexemes : List ℕ → List Lexeme → Type 0
 HasLexemes cs ls = (fs : List Enclosing) × (end : ℕ) × LexesTo [] 0 cs ls fs end []
 
@@ -78,7 +88,8 @@ wrong_with Formula (c ∷ cs) =
 
 -- the first bad token begins at this byte, and this is wrong with it
 abbrev pub IsBadAt : List ℕ → LexErr → Type 0
-IsBadAt cs bad = (ls : List Lexeme) × (es : List Enclosing) × (rest : List ℕ) × LexesTo [] 0 cs ls es bad.at rest
+IsBadAt cs bad = (ls : List Lexeme) × (es : List Enclosing) × (rest : List ℕ)
+    × LexesTo [] 0 cs ls es bad.at rest
     × (rest ≢ []) × NoElement (mode_in es) rest × (bad.what ≡ wrong_with (mode_in es) rest)
 
 -- what an error says of the text

@@ -1,5 +1,6 @@
 -- The element at the front of a text.
-use Rattle.std.specs.Prelude.{◌≡◌, ℕ, ◌<◌, ◌≤◌, List, [], ◌∷◌, ◌++◌, length, take, drop, Option, Some, None}
+use Rattle.std.specs.Prelude.{◌≡◌, ℕ, ◌<◌, ◌≤◌, List, [], ◌∷◌, ◌++◌, length, take, drop, Option}
+use Rattle.std.specs.Prelude.{Some, None}
 use Rattle.fx_lexer.specs.declared.element.Element.{Element}
 use Rattle.fx_lexer.specs.declared.element.Element.TheVariants.{Skip, Token}
 use Rattle.fx_lexer.specs.declared.element.Enclosing.{Enclosing}
@@ -21,6 +22,8 @@ IsNext mode cs None = NoElement mode cs
 IsNext mode cs (Some n) = IsFirstElement mode cs n
 
 -- a token from here up to there was put down, and what encloses the next place is known
-abbrev pub IsTokenPut : Element → ℕ → ℕ → List Tok → List Tok → List Enclosing → List Enclosing → Type 0
+abbrev pub IsTokenPut : Element → ℕ → ℕ → List Tok → List Tok → List Enclosing → List Enclosing
+    → Type 0
 IsTokenPut Skip at upto out new es fs = (new ≡ out) × (fs ≡ es)
-IsTokenPut (Token k) at upto out new es fs = (new ≡ out ++ record { kind = k; at = at; upto = upto } ∷ []) × (fs ≡ enclosing_after k es)
+IsTokenPut (Token k) at upto out new es fs = (new
+    ≡ out ++ record { kind = k; at = at; upto = upto } ∷ []) × (fs ≡ enclosing_after k es)

@@ -1,8 +1,15 @@
 -- The longest spelling at the front of a text, found by reading on.
 use Rattle.std.proofs.Common.{zero, suc}
-use Rattle.std.specs.Prelude.{ℕ, Bool, List, [], ◌∷◌, Option, Some, None, take, nat_le, ◌==◌, if◌then◌else◌}
+use Rattle.std.specs.Prelude.{ℕ, Bool, List, [], ◌∷◌, Option, Some, None, take, nat_le, ◌==◌}
+use Rattle.std.specs.Prelude.{if◌then◌else◌}
 use Rattle.fx_lexer.specs.declared.token.Symbol.{Symbol}
-use Rattle.fx_lexer.specs.declared.token.Symbol.TheVariants.{OpenParen, CloseParen, OpenBrace, CloseBrace, OpenBracket, CloseBracket, OpenBracketAt, Comma, Semicolon, Colon, Dot, Plus, Minus, Star, Slash, Caret, Percent, Ampersand, DoubleAmpersand, DoubleBar, Bang, Equal, NotEqual, Less, LessEqual, Greater, GreaterEqual}
+use Rattle.fx_lexer.specs.declared.token.Symbol.TheVariants.{OpenParen, CloseParen, OpenBrace}
+use Rattle.fx_lexer.specs.declared.token.Symbol.TheVariants.{CloseBrace, OpenBracket, CloseBracket}
+use Rattle.fx_lexer.specs.declared.token.Symbol.TheVariants.{OpenBracketAt, Comma, Semicolon, Colon}
+use Rattle.fx_lexer.specs.declared.token.Symbol.TheVariants.{Dot, Plus, Minus, Star, Slash, Caret}
+use Rattle.fx_lexer.specs.declared.token.Symbol.TheVariants.{Percent, Ampersand, DoubleAmpersand}
+use Rattle.fx_lexer.specs.declared.token.Symbol.TheVariants.{DoubleBar, Bang, Equal, NotEqual, Less}
+use Rattle.fx_lexer.specs.declared.token.Symbol.TheVariants.{LessEqual, Greater, GreaterEqual}
 use Rattle.fx_lexer.specs.declared.token.Word.{Word}
 use Rattle.fx_lexer.specs.declared.token.Word.TheVariants as words
 use Rattle.fx_lexer.specs.declared.token.TokenKind.{TokenKind}
@@ -60,7 +67,8 @@ abbrev mutual
 -- how far the next `*/` is, with it
 abbrev pub comment_run : List ℕ → Option ℕ
 comment_run [] = None
-comment_run (c ∷ cs) = if c == 42 then (if begins_with 47 cs then Some 2 else more (comment_run cs)) else more (comment_run cs)
+comment_run (c ∷ cs) = if c == 42 then (if begins_with 47 cs then Some 2 else more
+    (comment_run cs)) else more (comment_run cs)
 
 -- how far a weave's text goes on, and how far after a mark
 abbrev mutual
@@ -82,17 +90,25 @@ two_letters a b =
 abbrev pub three_letters : ℕ → ℕ → ℕ → Option Word
 three_letters a b c =
     if a == 65 then (if b == 110 then (if c == 100 then Some words.And else None) else None)
-    else (if a == 78 then (if b == 111 then (if c == 116 then Some words.Not else None) else None) else None)
+    else (if a == 78 then (if b == 111 then (if c == 116 then Some words.Not else None) else
+    None) else None)
 
 abbrev pub word_at : List ℕ → Option Word
 word_at [] = None
 word_at (a ∷ []) = None
 word_at (a ∷ b ∷ []) = two_letters a b
 word_at (a ∷ b ∷ c ∷ []) = three_letters a b c
-word_at (a ∷ b ∷ c ∷ d ∷ []) = if a == 116 then (if b == 114 then (if c == 117 then (if d == 101 then Some words.True else None) else None) else None) else None
-word_at (a ∷ b ∷ c ∷ d ∷ e ∷ []) = if a == 102 then (if b == 97 then (if c == 108 then (if d == 115 then (if e == 101 then Some words.False else None) else None) else None) else None) else None
+word_at (a ∷ b ∷ c ∷ d ∷ []) = if a == 116 then
+    (if b == 114 then (if c == 117 then (if d == 101 then Some words.True else None) else None) else
+    None) else None
+word_at (a ∷ b ∷ c ∷ d ∷ e ∷ []) = if a == 102 then
+    (if b == 97 then (if c == 108 then (if d == 115 then
+    (if e == 101 then Some words.False else None) else None) else None) else None) else None
 word_at (a ∷ b ∷ c ∷ d ∷ e ∷ f ∷ []) = None
-word_at (a ∷ b ∷ c ∷ d ∷ e ∷ f ∷ g ∷ []) = if a == 101 then (if b == 120 then (if c == 97 then (if d == 99 then (if e == 116 then (if f == 105 then (if g == 110 then Some words.ExactIn else None) else None) else None) else None) else None) else None) else None
+word_at (a ∷ b ∷ c ∷ d ∷ e ∷ f ∷ g ∷ []) = if a == 101 then
+    (if b == 120 then (if c == 97 then (if d == 99 then
+    (if e == 116 then (if f == 105 then (if g == 110 then Some words.ExactIn else None) else
+    None) else None) else None) else None) else None) else None
 word_at (a ∷ b ∷ c ∷ d ∷ e ∷ f ∷ g ∷ h ∷ cs) = None
 
 -- a symbol and how many characters it has: the long one where x follows

@@ -33,7 +33,8 @@ pub record IsSlice (source : List ℕ) (t : Tok) : Type 0 where
 -- These tokens are slices of the source in rising order, from this byte on.
 abbrev pub AreSlicesFrom : List ℕ → ℕ → List Tok → Type 0
 AreSlicesFrom source from [] = Unit {0}
-AreSlicesFrom source from (t ∷ ts) = (from ≤ t.at) × IsSlice source t × AreSlicesFrom source t.upto ts
+AreSlicesFrom source from (t ∷ ts) = (from ≤ t.at) × IsSlice source t
+    × AreSlicesFrom source t.upto ts
 
 abbrev pub AreSlices : List ℕ → List Tok → Type 0
 AreSlices source ts = AreSlicesFrom source 0 ts

@@ -1,11 +1,18 @@
--- How the elements of a text are spelt: white space, comments and tokens. A text is the list of its scalar values:
--- 34 is `"`, 36 `$`, 39 `'`, 42 `*`, 47 `/`, 123 `{` and 125 `}`.
-use Rattle.std.specs.Prelude.{◌≡◌, ◌≢◌, ℕ, ℤ, ◌≤◌, Bool, true, false, not, List, [], ◌∷◌, ◌++◌, length, nat_le, ◌==◌, ◌||◌, if◌then◌else◌}
+-- How the elements of a text are spelt: white space, comments and tokens. A text is the list of its
+-- scalar values: 34 is `"`, 36 `$`, 39 `'`, 42 `*`, 47 `/`, 123 `{` and 125 `}`.
+use Rattle.std.specs.Prelude.{◌≡◌, ◌≢◌, ℕ, ℤ, ◌≤◌, Bool, true, false, not, List, [], ◌∷◌, ◌++◌}
+use Rattle.std.specs.Prelude.{length, nat_le, ◌==◌, ◌||◌, if◌then◌else◌}
 use Rattle.std.specs.Char.{is_whitespace, is_ascii_digit, is_ascii_alphabetic}
 use Rattle.fx_number.specs.Decimal.{IsInRange}
 use Rattle.fx_number.specs.Spelling.{IsDecimal, Spells}
 use Rattle.fx_lexer.specs.declared.token.Symbol.{Symbol}
-use Rattle.fx_lexer.specs.declared.token.Symbol.TheVariants.{OpenParen, CloseParen, OpenBrace, CloseBrace, OpenBracket, CloseBracket, OpenBracketAt, Comma, Semicolon, Colon, Dot, Plus, Minus, Star, Slash, Caret, Percent, Ampersand, DoubleAmpersand, DoubleBar, Bang, Equal, NotEqual, Less, LessEqual, Greater, GreaterEqual}
+use Rattle.fx_lexer.specs.declared.token.Symbol.TheVariants.{OpenParen, CloseParen, OpenBrace}
+use Rattle.fx_lexer.specs.declared.token.Symbol.TheVariants.{CloseBrace, OpenBracket, CloseBracket}
+use Rattle.fx_lexer.specs.declared.token.Symbol.TheVariants.{OpenBracketAt, Comma, Semicolon, Colon}
+use Rattle.fx_lexer.specs.declared.token.Symbol.TheVariants.{Dot, Plus, Minus, Star, Slash, Caret}
+use Rattle.fx_lexer.specs.declared.token.Symbol.TheVariants.{Percent, Ampersand, DoubleAmpersand}
+use Rattle.fx_lexer.specs.declared.token.Symbol.TheVariants.{DoubleBar, Bang, Equal, NotEqual, Less}
+use Rattle.fx_lexer.specs.declared.token.Symbol.TheVariants.{LessEqual, Greater, GreaterEqual}
 use Rattle.fx_lexer.specs.declared.token.Word.{Word}
 use Rattle.fx_lexer.specs.declared.token.Word.TheVariants as words
 use Rattle.fx_lexer.specs.declared.token.TokenKind.TheVariants as kind
@@ -48,7 +55,8 @@ in_number c = goes_on_number (class_at c)
 abbrev pub in_line : ℕ → Bool
 in_line c = not (c == 10)
 
--- what is doubled in a text and in a quoted name, and in a weave's text, where `"`, `{` and `}` are marks
+-- what is doubled in a text and in a quoted name, and in a weave's text, where `"`, `{` and `}` are
+-- marks
 abbrev pub is_quote : ℕ → ℕ → Bool
 is_quote q c = c == q
 
@@ -114,9 +122,12 @@ pub data Spelt : Mode → Element → List ℕ → Type 0 where
   line_comment : (cs : List ℕ) → Every in_line cs → Spelt Formula Skip (47 ∷ 47 ∷ cs)
   block_comment : (cs : List ℕ) → HasNoEnd cs → Spelt Formula Skip (47 ∷ 42 ∷ (cs ++ 42 ∷ 47 ∷ []))
   number : (cs ds es : List ℕ) → IsDecimal cs ds es → Spelt Formula (Token kind.Number) cs
-  text : (cs : List ℕ) → Spelt Formula (Token kind.Text) (34 ∷ (doubled (is_quote 34) cs ++ 34 ∷ []))
-  name : (c : ℕ) (cs : List ℕ) → class_at c ≡ Letter → Every in_name cs → ((w : Word) → c ∷ cs ≢ word_spelling w) → Spelt Formula (Token kind.Name) (c ∷ cs)
-  quoted_name : (c : ℕ) (cs : List ℕ) → Spelt Formula (Token kind.Name) (39 ∷ (doubled (is_quote 39) (c ∷ cs) ++ 39 ∷ []))
+  text : (cs : List ℕ) → Spelt Formula (Token kind.Text)
+      (34 ∷ (doubled (is_quote 34) cs ++ 34 ∷ []))
+  name : (c : ℕ) (cs : List ℕ) → class_at c ≡ Letter → Every in_name cs
+      → ((w : Word) → c ∷ cs ≢ word_spelling w) → Spelt Formula (Token kind.Name) (c ∷ cs)
+  quoted_name : (c : ℕ) (cs : List ℕ) → Spelt Formula (Token kind.Name)
+      (39 ∷ (doubled (is_quote 39) (c ∷ cs) ++ 39 ∷ []))
   word : (w : Word) → Spelt Formula (Token (kind.Word w)) (word_spelling w)
   symbol : (s : Symbol) → Spelt Formula (Token (kind.Symbol s)) (symbol_spelling s)
   opening : Spelt Formula (Token kind.Opening) (36 ∷ 34 ∷ [])
@@ -144,7 +155,8 @@ SpellsNumber e xs = Unit {0}
 -- xs, before rest, is this element: nothing that is spelt at this place is longer
 pub record IsElement (mode : Mode) (e : Element) (xs rest : List ℕ) : Type 0 where
   pub spelt : Spelt mode e xs
-  pub longest : (q : Element) (ys zs : List ℕ) → xs ++ rest ≡ ys ++ zs → Spelt mode q ys → length ys ≤ length xs
+  pub longest : (q : Element) (ys zs : List ℕ) → xs ++ rest ≡ ys ++ zs → Spelt mode q ys
+      → length ys ≤ length xs
   pub closed : IsClosed e xs rest
   pub has_value : SpellsNumber e xs
 

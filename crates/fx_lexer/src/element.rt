@@ -37,7 +37,8 @@ pub enum Mode {
 }
 
 /// What a run of characters is made of.
-// An enum, so that one loop serves all runs; a closure would need a promise of its own that it may be called.
+// An enum, so that one loop serves all runs; a closure would need a promise of its own that it may
+// be called.
 #[derive(Clone, Copy)]
 pub enum Run {
     Name,

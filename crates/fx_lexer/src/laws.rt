@@ -7,7 +7,8 @@ ghost use Rattle.fx_lexer.specs.Lexed.{Lexeme, HasLexemes, Lexed, IsBadAt};
 /// A text has at most one list of tokens, and at most one list of tokens with texts.
 pub fn one_list_of_tokens()
     ensures tokens { (cs : List ℕ) (ts us : List Tok) → Lexed cs ts → Lexed cs us → ts ≡ us }
-    ensures lexemes { (cs : List ℕ) (ls ms : List Lexeme) → HasLexemes cs ls → HasLexemes cs ms → ls ≡ ms }
+    ensures lexemes { (cs : List ℕ) (ls ms : List Lexeme) → HasLexemes cs ls → HasLexemes cs ms
+        → ls ≡ ms }
 {}
 
 /// A text has at most one first bad token, and only where it has no list of tokens.

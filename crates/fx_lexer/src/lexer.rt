@@ -1,8 +1,10 @@
 //! Reading the tokens of a text, once from left to right.
-ghost use Rattle.std.specs.Prelude.{◌≡◌, ◌<◌, ◌≤◌, ◌^◌, ◌↔◌, IsTrue, Option, List, ℕ, length, reverse, IfOk, IfErr};
+ghost use Rattle.std.specs.Prelude.{◌≡◌, ◌<◌, ◌≤◌, ◌^◌, ◌↔◌, IsTrue, Option, List, ℕ, length};
+ghost use Rattle.std.specs.Prelude.{reverse, IfOk, IfErr};
 ghost use Rattle.std.specs.Str.{chars};
 ghost use Rattle.fx_lexer.specs.Spelling.{SpellsNumber};
-ghost use Rattle.fx_lexer.specs.Lexed.{width, mode_in, enclosing_after, wrong_with, Lexed, HasLexemes, IsBadToken, HasNoTokens};
+ghost use Rattle.fx_lexer.specs.Lexed.{width, mode_in, enclosing_after, wrong_with, Lexed};
+ghost use Rattle.fx_lexer.specs.Lexed.{HasLexemes, IsBadToken, HasNoTokens};
 ghost use Rattle.fx_lexer.specs.Slices.{lexemes, AreSlices};
 ghost use Rattle.fx_lexer.specs.Next.{IsNext, IsTokenPut};
 
@@ -75,7 +77,8 @@ fn mode_of(around: &[Enclosing]) -> Mode
 
 /// Goes past a token: it may open a weave or a brace, or close the innermost.
 fn pass(around: &mut Vec<Enclosing>, kind: TokenKind) -> Result<(), LexEnd>
-    ensures marks { IfOk result (λ _. reverse around.new.items ≡ enclosing_after kind (reverse around.old.items)) }
+    ensures marks { IfOk result (λ _. reverse around.new.items
+        ≡ enclosing_after kind (reverse around.old.items)) }
     ensures memory { IfErr result (λ e. e ≡ LexEnd.Memory) }
 {
     match kind {
@@ -110,7 +113,8 @@ fn put(
     at: u32,
     upto: u32,
 ) -> Result<(), LexEnd>
-    ensures put { IfOk result (λ _. IsTokenPut element at upto out.old.items out.new.items (reverse around.old.items) (reverse around.new.items)) }
+    ensures put { IfOk result (λ _. IsTokenPut element at upto out.old.items out.new.items
+        (reverse around.old.items) (reverse around.new.items)) }
     ensures memory { IfErr result (λ e. e ≡ LexEnd.Memory) }
 {
     match element {
@@ -142,7 +146,8 @@ fn read_tokens(alloc: Global, cs: &[char], source: &str) -> Result<Vec<Token>, L
         };
         let upto = at + front.bytes;
         put(&mut out, &mut around, front.element, at, upto)?;
-        // By `split_at`, which tells the rest plainly: `&rest[n..]` is told as the first so many of what follows.
+        // By `split_at`, which tells the rest plainly: `&rest[n..]` is told as the first so many of
+        // what follows.
         let (_, others) = rest.split_at(front.characters);
         let (_, after) = text.split_at(front.bytes as usize);
         rest = others;
@@ -152,9 +157,10 @@ fn read_tokens(alloc: Global, cs: &[char], source: &str) -> Result<Vec<Token>, L
     Ok(out)
 }
 
-/// The tokens of a text of less than 2^32 bytes, in order, by the lexical rules of the Power Fx formula reference.
-/// Each is a slice of the text, of the greatest length; between them stand white space and comments. `Bad` comes exactly
-/// where the text has no list of tokens, and names the byte where the first bad token begins.
+/// The tokens of a text of less than 2^32 bytes, in order, by the lexical rules of the Power Fx
+/// formula reference. Each is a slice of the text, of the greatest length; between them stand white
+/// space and comments. `Bad` comes exactly where the text has no list of tokens, and names the byte
+/// where the first bad token begins.
 // The rules speak of characters, so these are listed once; their bytes are counted on the way.
 pub fn tokens(alloc: Global, source: &str) -> Result<Vec<Token>, LexEnd>
     requires { length source.now < 2 ^ 32 }

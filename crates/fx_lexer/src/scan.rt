@@ -1,6 +1,10 @@
 //! The longest spelling at the front of a text.
 ghost use Rattle.std.specs.Prelude.{◌≡◌, ◌+◌, ◌≤◌, Option, length, IfSome};
-ghost use Rattle.fx_lexer.specs.Scan.{run_length, passes, decimals, number_run, open_run, comment_run, weave_run, word_at, symbol_at, one_or_two, less_at, bar_at, slash_at, other_at, name_scanned, formula_at, mark_scanned, weave_at, element_at, text_seen, quoted_seen};
+ghost use Rattle.fx_lexer.specs.Scan.{run_length, passes, decimals, number_run, open_run};
+ghost use Rattle.fx_lexer.specs.Scan.{comment_run, weave_run, word_at, symbol_at, one_or_two};
+ghost use Rattle.fx_lexer.specs.Scan.{less_at, bar_at, slash_at, other_at, name_scanned};
+ghost use Rattle.fx_lexer.specs.Scan.{formula_at, mark_scanned, weave_at, element_at, text_seen};
+ghost use Rattle.fx_lexer.specs.Scan.{quoted_seen};
 ghost use Rattle.fx_lexer.specs.Spelling.{begins_with};
 
 use crate::element::{Class, Element, Mode, Run, class_of, is_in, is_weave_mark};

@@ -19,9 +19,11 @@ later (Err i) = Err (suc i)
 
 abbrev pub field_index : {A : Type 0} → List ℕ → List (List ℕ × A) → Result ℕ ℕ
 field_index n [] = Err 0
-field_index n (f ∷ fs) = match_ordering (slice_cmp nat_cmp n f.0) (Err 0) (Ok 0) (later (field_index n fs))
+field_index n (f ∷ fs) = match_ordering (slice_cmp nat_cmp n f.0) (Err 0) (Ok 0)
+    (later (field_index n fs))
 
 -- fields put among others
-abbrev pub put_onto : List (List ℕ) → List (Term × Shape) → List (List ℕ × (Term × Shape)) → List (List ℕ × (Term × Shape))
+abbrev pub put_onto : List (List ℕ) → List (Term × Shape) → List (List ℕ × (Term × Shape))
+    → List (List ℕ × (Term × Shape))
 put_onto (n ∷ ns) (x ∷ xs) fs = put_field n x (put_onto ns xs fs)
 put_onto _ _ fs = fs

@@ -17,10 +17,11 @@ use fx_typing::typed::Typed;
 use fx_typing::wrong::Wrong;
 use std::alloc::Global;
 
-/// The type that a call answers, from its parts as they stand and the common type of its branches, or
-/// the rule that is broken.
+/// The type that a call answers, from its parts as they stand and the common type of its branches,
+/// or the rule that is broken.
 pub fn answer_type(alloc: Global, answer: Answer, common: &Ty, parts: &[Typed]) -> Result<Ty, Wrong>
-    ensures { IsAnswerOf shape (typing.answered_type answer (shape common.now) (map typed parts.now)) result }
+    ensures { IsAnswerOf shape (typing.answered_type answer (shape common.now)
+        (map typed parts.now)) result }
 {
     match parts.split_first() {
         Some((first, rest)) => answer_type_behind(alloc, answer, common, first, rest),
@@ -40,7 +41,8 @@ fn answer_type_behind(
     first: &Typed,
     rest: &[Typed],
 ) -> Result<Ty, Wrong>
-    ensures { IsAnswerOf shape (typing.answered_type answer (shape common.now) (typed first.now ∷ map typed rest.now)) result }
+    ensures { IsAnswerOf shape (typing.answered_type answer (shape common.now)
+        (typed first.now ∷ map typed rest.now)) result }
 {
     match answer {
         Answer::Scalar(scalar) => Ok(scalar.ty()),

@@ -32,7 +32,8 @@ pub fn stand(
     common: &Ty,
     part: Piece,
 ) -> Result<Typed, Wrong>
-    ensures { IsAnswerOf typed (local.stand takes (shape first.now) (shape common.now) (piece_view part)) result }
+    ensures { IsAnswerOf typed (local.stand takes (shape first.now) (shape common.now)
+        (piece_view part)) result }
 {
     match part {
         Piece::Value(_, value) => stand_value(alloc, takes, first, common, value),
@@ -79,7 +80,8 @@ fn stand_value(
 
 // A value that is coerced to a type.
 fn as_type(alloc: Global, value: Typed, to: &Ty) -> Result<Typed, Wrong>
-    ensures { IsAnswerOf typed (local.by_way (way (shape value.ty) (shape to.now)) value.core (shape to.now)) result }
+    ensures { IsAnswerOf typed (local.by_way (way (shape value.ty) (shape to.now)) value.core
+        (shape to.now)) result }
 {
     let way = way_to(alloc, &value.ty, to)?;
     by_way(alloc, way, value.core, to)
@@ -87,7 +89,8 @@ fn as_type(alloc: Global, value: Typed, to: &Ty) -> Result<Typed, Wrong>
 
 // A value of just this type, or of type Blank.
 fn as_exactly(alloc: Global, value: Typed, to: &Ty) -> Result<Typed, Wrong>
-    ensures { IsAnswerOf typed (local.by_way (local.exact_way (shape value.ty) (shape to.now)) value.core (shape to.now)) result }
+    ensures { IsAnswerOf typed (local.by_way (local.exact_way (shape value.ty) (shape to.now))
+        value.core (shape to.now)) result }
 {
     let way = exact_way(&value.ty, to);
     by_way(alloc, way, value.core, to)
@@ -95,7 +98,8 @@ fn as_exactly(alloc: Global, value: Typed, to: &Ty) -> Result<Typed, Wrong>
 
 // A branch that is coerced to the common type.
 fn as_branch(alloc: Global, value: Typed, common: &Ty) -> Result<Typed, Wrong>
-    ensures { IsAnswerOf typed (local.by_way (local.branch_way (shape value.ty) (shape common.now)) value.core (shape common.now)) result }
+    ensures { IsAnswerOf typed (local.by_way (local.branch_way (shape value.ty) (shape common.now))
+        value.core (shape common.now)) result }
 {
     let way = branch_way(alloc, &value.ty, common)?;
     by_way(alloc, way, value.core, common)
@@ -103,7 +107,8 @@ fn as_branch(alloc: Global, value: Typed, common: &Ty) -> Result<Typed, Wrong>
 
 // A record that tells an error.
 fn as_error(alloc: Global, value: Typed) -> Result<Typed, Wrong>
-    ensures { IsAnswerOf typed (local.stand takes.ErrorRecord blanks blanks (local.value None value.core (shape value.ty))) result }
+    ensures { IsAnswerOf typed (local.stand takes.ErrorRecord blanks blanks
+        (local.value None value.core (shape value.ty))) result }
 {
     // Taken apart first, since no field can be moved out while another is matched on.
     let Typed { core, ty } = value;
@@ -123,7 +128,8 @@ fn as_error(alloc: Global, value: Typed) -> Result<Typed, Wrong>
 
 // The rule that a record breaks which tells no error.
 fn without_kind(alloc: Global, columns: &Columns) -> Result<Rule, Memory>
-    ensures { IfOk result (λ r. rule_number r ≡ local.without_kind (field_in (codes "Kind") (column_list columns.now))) }
+    ensures { IfOk result (λ r. rule_number r
+        ≡ local.without_kind (field_in (codes "Kind") (column_list columns.now))) }
 {
     let kind = Words::of(alloc, "Kind")?;
     match field_in(&kind, columns) {
@@ -134,7 +140,8 @@ fn without_kind(alloc: Global, columns: &Columns) -> Result<Rule, Memory>
 
 // A table, or a blank one without columns.
 fn as_table(alloc: Global, value: Typed) -> Result<Typed, Wrong>
-    ensures { IsAnswerOf typed (local.stand takes.Table blanks blanks (local.value None value.core (shape value.ty))) result }
+    ensures { IsAnswerOf typed (local.stand takes.Table blanks blanks
+        (local.value None value.core (shape value.ty))) result }
 {
     let Typed { core, ty } = value;
     match ty {
@@ -153,7 +160,8 @@ fn as_table(alloc: Global, value: Typed) -> Result<Typed, Wrong>
 
 // A record or a value without parts.
 fn as_row(value: Typed) -> Result<Typed, Wrong>
-    ensures { IsAnswerOf typed (local.stand takes.RowFormula blanks blanks (local.value None value.core (shape value.ty))) result }
+    ensures { IsAnswerOf typed (local.stand takes.RowFormula blanks blanks
+        (local.value None value.core (shape value.ty))) result }
 {
     match value.ty {
         Ty::Tab(_) => Err(Wrong::Refused(Rule::WrongType)),
@@ -172,15 +180,16 @@ fn if_fits(fits: bool, value: Typed) -> Result<Typed, Wrong>
     }
 }
 
-/// All parts as they stand, or the first rule that breaks. The type of the first one, as it stands, is
-/// known to the others.
+/// All parts as they stand, or the first rule that breaks. The type of the first one, as it stands,
+/// is known to the others.
 pub fn stand_all(
     alloc: Global,
     row: Row,
     common: &Ty,
     parts: Vec<Piece>,
 ) -> Result<Vec<Typed>, Wrong>
-    ensures { IsAnswerOf (λ xs. map typed xs.items) (local.stand_all row (shape common.now) (map piece_view parts.items)) result }
+    ensures { IsAnswerOf (λ xs. map typed xs.items)
+        (local.stand_all row (shape common.now) (map piece_view parts.items)) result }
 {
     let count = parts.len();
     let mut done = Vec::new(alloc);

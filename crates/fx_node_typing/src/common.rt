@@ -22,7 +22,8 @@ fn is_branch(takes: Takes) -> bool
 
 /// The branches among the parts.
 pub fn branches<'a>(alloc: Global, row: Row, parts: &'a [Piece]) -> Result<Vec<&'a Typed>, Memory>
-    ensures { IfOk result (λ bs. map (λ b. typed b.now) bs.items ≡ local.branches row (length parts.now) 0 (map piece_view parts.now)) }
+    ensures { IfOk result (λ bs. map (λ b. typed b.now) bs.items
+        ≡ local.branches row (length parts.now) 0 (map piece_view parts.now)) }
 {
     let mut found = Vec::new(alloc);
     for (place, part) in parts.iter().enumerate() {
@@ -37,7 +38,8 @@ pub fn branches<'a>(alloc: Global, row: Row, parts: &'a [Piece]) -> Result<Vec<&
 
 /// The join of a type and those of these trees, from the left, if there is one.
 pub fn join_all(alloc: Global, start: Option<Ty>, parts: &[&Typed]) -> Result<Option<Ty>, Memory>
-    ensures { IfOk result (λ t. option_map shape t ≡ local.join_all (option_map shape start) (map (λ b. typed b.now) parts.now)) }
+    ensures { IfOk result (λ t. option_map shape t
+        ≡ local.join_all (option_map shape start) (map (λ b. typed b.now) parts.now)) }
 {
     let mut joined = start;
     for part in parts {
@@ -48,7 +50,8 @@ pub fn join_all(alloc: Global, start: Option<Ty>, parts: &[&Typed]) -> Result<Op
 
 // The join with one more type.
 fn join_next(alloc: Global, joined: Option<Ty>, next: &Ty) -> Result<Option<Ty>, Memory>
-    ensures { IfOk result (λ t. option_map shape t ≡ local.then_join (shape next.now) (option_map shape joined)) }
+    ensures { IfOk result (λ t. option_map shape t
+        ≡ local.then_join (shape next.now) (option_map shape joined)) }
 {
     match joined {
         Some(ty) => join(alloc, &ty, next),
@@ -95,7 +98,8 @@ fn some_acts(parts: &[&Typed]) -> bool
 /// The common type of branches: their join; or Text where all are scalars and one is Text; or Blank
 /// where one acts.
 pub fn common_of(alloc: Global, parts: &[&Typed]) -> Result<Option<Ty>, Memory>
-    ensures { IfOk result (λ t. option_map shape t ≡ local.common_of (map (λ b. typed b.now) parts.now)) }
+    ensures { IfOk result (λ t. option_map shape t
+        ≡ local.common_of (map (λ b. typed b.now) parts.now)) }
 {
     let joined = join_all(alloc, Some(Ty::Blank), parts)?;
     match joined {

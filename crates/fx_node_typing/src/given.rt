@@ -69,7 +69,8 @@ pub fn give(alloc: Global, ty: &Ty, value: Typed) -> Result<Typed, Wrong>
 /// The deed that gives variables of a screen their values.
 pub fn give_context(alloc: Global, given: Vec<(Source, Core)>) -> Result<Typed, Memory>
     ensures { IfOk result (λ t. typed t
-        ≡ deeds.done_by (Deed.UpdateContext (deeds.given_sources given.items)) (deeds.given_terms given.items)) }
+        ≡ deeds.done_by (Deed.UpdateContext (deeds.given_sources given.items))
+        (deeds.given_terms given.items)) }
 {
     let mut sources = Sources::new(alloc);
     let mut cores = CoreArgs::new(alloc);

@@ -1,4 +1,5 @@
-//! The typed tree of an operator, a form or a function of values, made of its parts as they were judged.
+//! The typed tree of an operator, a form or a function of values, made of its parts as they were
+//! judged.
 #![tactic(auto)]
 
 pub mod acting;

@@ -33,7 +33,8 @@ pub fn cores_of(alloc: Global, parts: Vec<Typed>) -> Result<CoreArgs, Memory>
 
 // The join with one more type, if there is one.
 fn join_next(alloc: Global, joined: Option<Ty>, next: &Ty) -> Result<Option<Ty>, Memory>
-    ensures { IfOk result (λ t. option_map shape t ≡ local.then_join (shape next.now) (option_map shape joined)) }
+    ensures { IfOk result (λ t. option_map shape t
+        ≡ local.then_join (shape next.now) (option_map shape joined)) }
 {
     match joined {
         Some(ty) => join(alloc, &ty, next),
@@ -43,7 +44,8 @@ fn join_next(alloc: Global, joined: Option<Ty>, next: &Ty) -> Result<Option<Ty>,
 
 // The join of a type and those of parts, from the left, if there is one.
 fn join_types(alloc: Global, start: Option<Ty>, parts: &[Typed]) -> Result<Option<Ty>, Memory>
-    ensures { IfOk result (λ t. option_map shape t ≡ local.join_all (option_map shape start) (map typed parts.now)) }
+    ensures { IfOk result (λ t. option_map shape t
+        ≡ local.join_all (option_map shape start) (map typed parts.now)) }
 {
     let mut joined = start;
     for part in parts {
@@ -54,7 +56,8 @@ fn join_types(alloc: Global, start: Option<Ty>, parts: &[Typed]) -> Result<Optio
 
 /// A value as one of a type, if it comes to it, or the rule `WrongType`.
 pub fn come_to(alloc: Global, part: Typed, ty: &Ty) -> Result<Typed, Wrong>
-    ensures { IsAnswerOf typed (local.by_way (way (shape part.ty) (shape ty.now)) part.core (shape ty.now)) result }
+    ensures { IsAnswerOf typed (local.by_way (way (shape part.ty) (shape ty.now)) part.core
+        (shape ty.now)) result }
 {
     let way = way_to(alloc, &part.ty, ty)?;
     by_way(alloc, way, part.core, ty)
@@ -62,7 +65,8 @@ pub fn come_to(alloc: Global, part: Typed, ty: &Ty) -> Result<Typed, Wrong>
 
 // All rows as ones of a type.
 fn rows_to(alloc: Global, ty: &Ty, parts: Vec<Typed>) -> Result<Vec<Typed>, Wrong>
-    ensures { IsAnswerOf (λ rs. map typed rs.items) (builds.rows_to (shape ty.now) (map typed parts.items)) result }
+    ensures { IsAnswerOf (λ rs. map typed rs.items)
+        (builds.rows_to (shape ty.now) (map typed parts.items)) result }
 {
     let mut rows = Vec::new(alloc);
     for part in parts {
@@ -85,7 +89,8 @@ fn list_by(alloc: Global, row: Ty, parts: Vec<Typed>) -> Result<Typed, Memory>
 
 // A table of rows of the join of their types, if there is one.
 fn list_as(alloc: Global, row: Option<Ty>, parts: Vec<Typed>) -> Result<Typed, Wrong>
-    ensures { IsAnswerOf typed (builds.list_as (option_map shape row) (map typed parts.items)) result }
+    ensures { IsAnswerOf typed (builds.list_as (option_map shape row) (map typed parts.items))
+        result }
 {
     match row {
         None | Some(Ty::Tab(_)) => Err(Wrong::Refused(Rule::WrongType)),
@@ -114,8 +119,8 @@ fn full_list(alloc: Global, parts: Vec<Typed>) -> Result<Typed, Wrong>
     check_limits(table)
 }
 
-/// `[..]`: a table of values or of records. Of type Blank alone it has values, and without rows it has
-/// no columns. The rule is `WrongType` or `LimitPassed`.
+/// `[..]`: a table of values or of records. Of type Blank alone it has values, and without rows it
+/// has no columns. The rule is `WrongType` or `LimitPassed`.
 pub fn list_of(alloc: Global, parts: Vec<Typed>) -> Result<Typed, Wrong>
     ensures { IsAnswerOf typed (builds.typed_list (map typed parts.items)) result }
 {
@@ -147,8 +152,8 @@ fn as_record(alloc: Global, part: Typed) -> Result<Core, Wrong>
     }
 }
 
-/// `With`: a record, and a formula in its scope. The rule is `WrongType`, or `WrongCount` where there
-/// are not two parts.
+/// `With`: a record, and a formula in its scope. The rule is `WrongType`, or `WrongCount` where
+/// there are not two parts.
 pub fn with_of(alloc: Global, parts: Vec<Typed>) -> Result<Typed, Wrong>
     ensures { IsAnswerOf typed (builds.with_of (map typed parts.items)) result }
 {

@@ -41,7 +41,8 @@ pub fn make_form(alloc: Global, form: Form, parts: Vec<Piece>) -> Result<Typed, 
 
 // The parts as they stand, and the type of the whole, whatever its head is.
 fn resolve_parts(alloc: Global, row: Row, parts: Vec<Piece>) -> Result<(Vec<Typed>, Ty), Wrong>
-    ensures made { (h : term.Top) → IsAnswerOf (λ x. built h x.0.items x.1) (local.made_by row h (map piece_view parts.items)) result }
+    ensures made { (h : term.Top) → IsAnswerOf (λ x. built h x.0.items x.1)
+        (local.made_by row h (map piece_view parts.items)) result }
     ensures count { IfOk result (λ x. takes_count row (length x.0.items) ≡ true) }
 {
     if !row.takes_count(parts.len()) {
@@ -57,7 +58,8 @@ fn resolve_parts(alloc: Global, row: Row, parts: Vec<Piece>) -> Result<(Vec<Type
 
 // The common type of the branches among the parts.
 fn common_type(alloc: Global, row: Row, parts: &[Piece]) -> Result<Option<Ty>, Memory>
-    ensures { IfOk result (λ t. option_map shape t ≡ local.common_of (local.branches row (length parts.now) 0 (map piece_view parts.now))) }
+    ensures { IfOk result (λ t. option_map shape t
+        ≡ local.common_of (local.branches row (length parts.now) 0 (map piece_view parts.now))) }
 {
     let found = branches(alloc, row, parts)?;
     common_of(alloc, found.as_slice())
@@ -66,7 +68,8 @@ fn common_type(alloc: Global, row: Row, parts: &[Piece]) -> Result<Option<Ty>, M
 // A function of parts: over the first one, where that is a table.
 fn apply_function(alloc: Global, fun: Fun, first: Takes, parts: Vec<Typed>) -> Result<Core, Memory>
     requires { first ≡ Takes.Table → 0 < length parts.items }
-    ensures { IfOk result (λ c. c ≡ term.of (head_by first fun) (term.all (local.firsts (map typed parts.items)))) }
+    ensures { IfOk result (λ c. c ≡ term.of (head_by first fun)
+        (term.all (local.firsts (map typed parts.items)))) }
 {
     match first {
         Takes::Table => over(alloc, fun, parts),
@@ -77,7 +80,8 @@ fn apply_function(alloc: Global, fun: Fun, first: Takes, parts: Vec<Typed>) -> R
 // A function over a table.
 fn over(alloc: Global, fun: Fun, parts: Vec<Typed>) -> Result<Core, Memory>
     requires { 0 < length parts.items }
-    ensures { IfOk result (λ c. c ≡ term.of (term.over fun) (term.all (local.firsts (map typed parts.items)))) }
+    ensures { IfOk result (λ c. c ≡ term.of (term.over fun)
+        (term.all (local.firsts (map typed parts.items)))) }
 {
     let mut parts = parts;
     let Typed { core, ty: _ } = parts.remove(0);

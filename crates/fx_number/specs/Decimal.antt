@@ -1,5 +1,7 @@
--- Exact arithmetic in ten-thousandths, rounded once. A number is the whole count of its ten-thousandths.
-use Rattle.std.specs.Prelude.{◌≡◌, ◌≢◌, ℕ, zero, suc, ℤ, pos, negsuc, ◌+◌, ◌*◌, ◌/◌, ◌^◌, ◌-◌, ◌≤◌, neg_ℤ, ◌≤ℤ◌, ◌*ℤ◌, ◌-ℤ◌, Result, Ok, Err, Bool, if◌then◌else◌}
+-- Exact arithmetic in ten-thousandths, rounded once. A number is the whole count of its
+-- ten-thousandths.
+use Rattle.std.specs.Prelude.{◌≡◌, ◌≢◌, ℕ, zero, suc, ℤ, pos, negsuc, ◌+◌, ◌*◌, ◌/◌, ◌^◌, ◌-◌, ◌≤◌}
+use Rattle.std.specs.Prelude.{neg_ℤ, ◌≤ℤ◌, ◌*ℤ◌, ◌-ℤ◌, Result, Ok, Err, Bool, if◌then◌else◌}
 use Rattle.std.specs.Int.{div_ceil}
 use Rattle.fx_number.specs.declared.NumErr.{NumErr}
 use Rattle.fx_number.specs.declared.NumErr.TheVariants.{Overflow, DivZero, BadArgument}
@@ -89,9 +91,11 @@ IsExponent b e = (b ≡ e *ℤ pos 10000) × (neg_ℤ (pos 1000) ≤ℤ e) × (e
 
 -- the answer of a to the power b: that of the exponent which b is, and BadArgument where b is none
 abbrev pub IsPower : ℤ → ℤ → Result ℤ NumErr → Type 0
-IsPower a b r = ((e : ℤ) → IsExponent b e → IsPowerTo a e r) × (((e : ℤ) → ¬ IsExponent b e) → r ≡ Err BadArgument)
+IsPower a b r = ((e : ℤ) → IsExponent b e → IsPowerTo a e r)
+    × (((e : ℤ) → ¬ IsExponent b e) → r ≡ Err BadArgument)
 
--- the ten-thousandths in one unit of the last decimal that is kept: 10 ^ (4 - digits), and 1 from four digits on
+-- the ten-thousandths in one unit of the last decimal that is kept: 10 ^ (4 - digits), and 1 from
+-- four digits on
 abbrev pub step_of : ℤ → ℕ
 step_of (pos digits) = 10 ^ (4 - digits)
 step_of (negsuc n) = 10 ^ (5 + n)

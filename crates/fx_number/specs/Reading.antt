@@ -1,5 +1,6 @@
 -- What a text spells, found from left to right.
-use Rattle.std.specs.Prelude.{ℕ, ℤ, Bool, not, ◌||◌, if◌then◌else◌, List, [], ◌∷◌, drop, length, Option, Some, None, ◌==◌, take_while}
+use Rattle.std.specs.Prelude.{ℕ, ℤ, Bool, not, ◌||◌, if◌then◌else◌, List, [], ◌∷◌, drop, length}
+use Rattle.std.specs.Prelude.{Option, Some, None, ◌==◌, take_while}
 use Rattle.std.specs.Char.{is_ascii_digit}
 use Rattle.std.specs.List.{prefix_len}
 use Rattle.fx_number.specs.Decimal.{signed}
@@ -21,7 +22,8 @@ abbrev pub after_sign : List ℕ → List ℕ
 after_sign [] = []
 after_sign (c ∷ cs) = if c == 43 || c == 45 then cs else c ∷ cs
 
--- the digits after a point at the front, and what follows them; a point with no digit after it is none
+-- the digits after a point at the front, and what follows them; a point with no digit after it is
+-- none
 abbrev pub fraction_of : List ℕ → List ℕ
 fraction_of [] = []
 fraction_of (c ∷ cs) = if c == 46 then take_while is_ascii_digit cs else []

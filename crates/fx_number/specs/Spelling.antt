@@ -1,12 +1,15 @@
 -- The texts that spell numbers, as lists of bytes, and the one text that a number is written as.
-use Rattle.std.specs.Prelude.{◌≡◌, ℕ, suc, ℤ, pos, negsuc, ◌+◌, ◌*◌, ◌/◌, ◌%◌, ◌^◌, Bool, true, false, if◌then◌else◌, List, [], ◌∷◌, ◌++◌, length, replicate, ◌==◌, decimal}
+use Rattle.std.specs.Prelude.{◌≡◌, ℕ, suc, ℤ, pos, negsuc, ◌+◌, ◌*◌, ◌/◌, ◌%◌, ◌^◌, Bool, true}
+use Rattle.std.specs.Prelude.{false, if◌then◌else◌, List, [], ◌∷◌, ◌++◌, length, replicate, ◌==◌}
+use Rattle.std.specs.Prelude.{decimal}
 use Rattle.std.specs.List.{list_all}
 use Rattle.std.specs.Str.Parse.{digits_value, AllDigits, IsNumeral}
 use Rattle.fx_number.specs.Decimal.{nearest, signed}
 
 -- the ten-thousandths that digits before and after a point spell, the nearest, half up
 abbrev pub decimal_units : List ℕ → List ℕ → ℕ
-decimal_units whole fraction = nearest (digits_value 10 (whole ++ fraction) * 10000) (10 ^ length fraction)
+decimal_units whole fraction = nearest (digits_value 10 (whole ++ fraction) * 10000)
+    (10 ^ length fraction)
 
 -- a point and the digits after it, or nothing where there are none
 abbrev pub point_and : List ℕ → List ℕ
@@ -50,13 +53,15 @@ pub record Spells (text : List ℕ) (z : ℤ) : Type 0 where
 -- digits without the zeros at their end
 abbrev pub without_end_zeros : List ℕ → List ℕ
 without_end_zeros [] = []
-without_end_zeros (d ∷ ds) = if list_all (λ c. c == 48) (d ∷ ds) then [] else d ∷ without_end_zeros ds
+without_end_zeros (d ∷ ds) = if list_all (λ c. c == 48) (d ∷ ds) then [] else d
+    ∷ without_end_zeros ds
 
 -- the four decimal digits of a number below 10000
 abbrev pub four_digits : ℕ → List ℕ
 four_digits n = (48 + n / 1000) ∷ (48 + n / 100 % 10) ∷ (48 + n / 10 % 10) ∷ (48 + n % 10) ∷ []
 
--- the text of n ten-thousandths: the whole part, and a point and the fraction's digits where it isn't 0
+-- the text of n ten-thousandths: the whole part, and a point and the fraction's digits where it
+-- isn't 0
 abbrev pub magnitude_text : ℕ → List ℕ
 magnitude_text n = decimal (n / 10000) ++ point_and (without_end_zeros (four_digits (n % 10000)))
 

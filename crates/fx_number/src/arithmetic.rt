@@ -1,7 +1,11 @@
 //! Arithmetic that is exact and rounds once. Products and quotients are computed in 128 bits.
 
-ghost use Rattle.std.specs.Prelude.{◌≡◌, ◌+ℤ◌, ◌-ℤ◌, ℤ, ◌+◌, ◌*◌, ◌^◌, ◌<◌, ◌≤◌, min, MatchOption, Ok};
-ghost use Rattle.fx_number.specs.Decimal.{Checked, CheckedOnWay, UnlessZero, nearest, product_of, quotient_of, remainder_of, signed, power_of, ArePowersInRange, IsPower, IsExponent, step_of, divided, rounded_to};
+ghost use Rattle.std.specs.Prelude.{◌≡◌, ◌+ℤ◌, ◌-ℤ◌, ℤ, ◌+◌, ◌*◌, ◌^◌, ◌<◌, ◌≤◌, min, MatchOption};
+ghost use Rattle.std.specs.Prelude.{Ok};
+ghost use Rattle.fx_number.specs.Decimal.{Checked, CheckedOnWay, UnlessZero, nearest, product_of};
+ghost use Rattle.fx_number.specs.Decimal.{quotient_of, remainder_of, signed, power_of};
+ghost use Rattle.fx_number.specs.Decimal.{ArePowersInRange, IsPower, IsExponent, step_of, divided};
+ghost use Rattle.fx_number.specs.Decimal.{rounded_to};
 
 use crate::{Num, NumErr, Way};
 
@@ -150,8 +154,8 @@ fn exponent(b: Num) -> Option<i64>
     }
 }
 
-// `a` multiplied with itself, each product rounded. Not by squaring, since another order of roundings could give
-// another number.
+// `a` multiplied with itself, each product rounded. Not by squaring, since another order of
+// roundings could give another number.
 fn whole_power(a: Num, exponent: u64) -> Result<Num, NumErr>
     ensures { CheckedOnWay (ArePowersInRange a exponent) (power_of a exponent) result }
 {

@@ -1,11 +1,14 @@
 //! The texts that spell numbers, and the text that a number is written as.
 
-ghost use Rattle.std.specs.Prelude.{◌≡◌, ℕ, ℤ, List, ◌+◌, ◌^◌, ◌<◌, ◌≤◌, ◌↔◌, ◌++◌, pos, Some, length, take_while, IfOk, OnOk, MatchOption, string_bytes};
+ghost use Rattle.std.specs.Prelude.{◌≡◌, ℕ, ℤ, List, ◌+◌, ◌^◌, ◌<◌, ◌≤◌, ◌↔◌, ◌++◌, pos, Some};
+ghost use Rattle.std.specs.Prelude.{length, take_while, IfOk, OnOk, MatchOption, string_bytes};
 ghost use Rattle.std.specs.Char.{is_ascii_digit};
 ghost use Rattle.std.specs.Str.Parse.{AllDigits, digits_value_after};
 ghost use Rattle.fx_number.specs.Decimal.{IsInRange, greatest};
-ghost use Rattle.fx_number.specs.Spelling.{Spells, IsDecimal, decimal_units, point_and, without_end_zeros, four_digits, is_minus, text_of};
-ghost use Rattle.fx_number.specs.Reading.{is_space, skip_while, sign_of, after_sign, fraction_of, after_fraction, spelled};
+ghost use Rattle.fx_number.specs.Spelling.{Spells, IsDecimal, decimal_units, point_and};
+ghost use Rattle.fx_number.specs.Spelling.{without_end_zeros, four_digits, is_minus, text_of};
+ghost use Rattle.fx_number.specs.Reading.{is_space, skip_while, sign_of, after_sign, fraction_of};
+ghost use Rattle.fx_number.specs.Reading.{after_fraction, spelled};
 
 use crate::arithmetic::with_sign;
 use crate::{Memory, Num};
@@ -40,7 +43,8 @@ pub fn text(alloc: Global, a: Num) -> Result<String, Memory>
 /// Laws, and no work: a text spells one number or none, which can be found from left to right; the
 /// text of a number spells that number, so that reading it gives the number back; and digits with
 /// or without a fraction, and nothing around them, spell their value.
-// A statement is proved only where it is a clause of a function, so a law is a function with an empty body.
+// A statement is proved only where it is a clause of a function, so a law is a function with an
+// empty body.
 pub fn spelling_laws()
     ensures one_number { (text : List ℕ) → (z : ℤ) → Spells text z ↔ (spelled text ≡ Some z) }
     ensures read_back { (z : ℤ) → IsInRange z → Spells (text_of z) z }
@@ -147,7 +151,8 @@ fn push_fraction(text: &mut String, fraction: u16) -> Result<(), Memory>
 // Writes the decimals of a fraction, without the zeros at their end.
 fn push_decimals(text: &mut String, fraction: u16) -> Result<(), Memory>
     requires { fraction < 10000 }
-    ensures { OnOk result (string_bytes text.new ≡ string_bytes text.old ++ without_end_zeros (four_digits fraction)) }
+    ensures { OnOk result (string_bytes text.new
+        ≡ string_bytes text.old ++ without_end_zeros (four_digits fraction)) }
 {
     let mut rest = fraction;
     while rest != 0 {

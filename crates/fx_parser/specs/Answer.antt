@@ -1,5 +1,6 @@
 -- What the descent answers.
-use Rattle.std.specs.Prelude.{◌≡◌, ℕ, List, [], ◌∷◌, Option, Some, None, Result, Ok, Err, option_map}
+use Rattle.std.specs.Prelude.{◌≡◌, ℕ, List, [], ◌∷◌, Option, Some, None, Result, Ok, Err}
+use Rattle.std.specs.Prelude.{option_map}
 use Rattle.std.specs.Borrow.{Bor}
 use Rattle.fx_core.specs.declared.expr.FieldName.{FieldName}
 use Rattle.fx_core.specs.declared.expr.Op.{Op}
@@ -9,7 +10,8 @@ use Rattle.fx_parser.specs.declared.front.Sign.{Sign}
 use Rattle.fx_parser.specs.declared.front.Sign.TheVariants.{Minus, Not}
 use Rattle.fx_grammar.specs.declared.item.Item.{Item}
 use Rattle.fx_grammar.specs.declared.line.Mark.TheVariants as mark
-use Rattle.fx_grammar.specs.Reading.{◌>>=◌, Parsed, Reader, after_mark, field_with, fields_turn, label, loop_from}
+use Rattle.fx_grammar.specs.Reading.{◌>>=◌, Parsed, Reader, after_mark, field_with, fields_turn}
+use Rattle.fx_grammar.specs.Reading.{label, loop_from}
 use Rattle.fx_grammar.specs.Formulas.{IsDeeper}
 use Rattle.fx_parser.specs.declared.descent_end.End.{End}
 use Rattle.fx_parser.specs.declared.descent_end.End.TheVariants.{Refused, Memory}
@@ -33,7 +35,8 @@ abbrev pub name_found : Option (Bor (List ℕ) × Bor (List Item)) → Option (L
 name_found = option_map (λ x. (x.0.now, x.1.now))
 
 -- the name of a field that was sought at the front of these tokens, and the tokens after its colon
-abbrev pub label_found : List Item → Option (Bor (List ℕ) × Bor (List Item)) → Option (FieldName × List Item)
+abbrev pub label_found : List Item → Option (Bor (List ℕ) × Bor (List Item))
+    → Option (FieldName × List Item)
 label_found ts = option_map (λ x. (label x.0.now ts, x.1.now))
 
 -- the node that a sign makes

@@ -12,10 +12,12 @@ use Rattle.fx_grammar.specs.Formulas.{NamedFormula, AreEntriesOf, AreDeeper}
 use Rattle.fx_parser.specs.declared.entries.Named.{Named}
 use Rattle.fx_parser.specs.Texts.{named_of}
 
--- The tokens stand in the source in rising order from this byte on, and it may be cut where they begin and end.
+-- The tokens stand in the source in rising order from this byte on, and it may be cut where they
+-- begin and end.
 abbrev pub AreCutsFrom : List ℕ → ℕ → List Item → Type 0
 AreCutsFrom source from [] = Unit {0}
-AreCutsFrom source from (x ∷ xs) = (from ≤ x.at) × IsCharBoundary source x.at × (x.at ≤ x.upto) × IsCharBoundary source x.upto × AreCutsFrom source x.upto xs
+AreCutsFrom source from (x ∷ xs) = (from ≤ x.at) × IsCharBoundary source x.at × (x.at ≤ x.upto)
+    × IsCharBoundary source x.upto × AreCutsFrom source x.upto xs
 
 abbrev pub AreCuts : List ℕ → List Item → Type 0
 AreCuts source xs = AreCutsFrom source 0 xs
@@ -46,10 +48,12 @@ abbrev pub next_seen : Option (Bor (List Item)) → Option (List Item)
 next_seen = option_map (λ x. x.now)
 
 -- The first named formula of the tokens, where the others follow.
-pub record IsFirstFormula (source : List ℕ) (ts : List Item) (n : Named) (others : List Item) : Type 0 where
+pub record IsFirstFormula (source : List ℕ) (ts : List Item) (n : Named) (others : List Item) : Type
+    0 where
   pub entry : NamedFormula
   pub is_it : n ≡ named_of source entry
-  pub onward : (es : List NamedFormula) → AreEntriesOf 64 others es → AreEntriesOf 64 ts (entry ∷ es)
+  pub onward : (es : List NamedFormula) → AreEntriesOf 64 others es
+      → AreEntriesOf 64 ts (entry ∷ es)
   pub refuse : AreDeeper 64 others → AreDeeper 64 ts
 
 -- The tokens are these named formulas.

@@ -26,12 +26,17 @@ brackets xs = tokens_weight 1 0 xs
 abbrev pub comma_count : List Item → ℕ
 comma_count xs = tokens_weight 0 1 xs
 
--- these are the tokens of a text, and they are a formula of this tree, of any depth and up to positions
+-- these are the tokens of a text, and they are a formula of this tree, of any depth and up to
+-- positions
 abbrev pub AreTokensOf : List ℕ → List Item → Tree → Type 0
-AreTokensOf cs xs t = HasItems cs xs × (n : ℕ) × (u : Tree) × (unplaced u ≡ unplaced t) × IsTreeOf n xs u
+AreTokensOf cs xs t = HasItems cs xs × (n : ℕ) × (u : Tree) × (unplaced u ≡ unplaced t)
+    × IsTreeOf n xs u
 
--- No text of the tree has fewer commas, and none that has no more commas has fewer opening brackets.
--- Conditions that are joined by `And(..)` or `Or(..)` in place of `&&` or `||` have a comma more for each further one.
+-- No text of the tree has fewer commas, and none that has no more commas has fewer opening
+-- brackets. Conditions that are joined by `And(..)` or `Or(..)` in place of `&&` or `||` have a
+-- comma more for each further one.
 abbrev pub HasFewest : List ℕ → Tree → Type 0
 HasFewest cs t = (xs : List Item) × AreTokensOf cs xs t
-    × ((ds : List ℕ) (ys : List Item) → AreTokensOf ds ys t → (comma_count xs ≤ comma_count ys) × (comma_count ys ≤ comma_count xs → brackets xs ≤ brackets ys))
+    × ((ds : List ℕ) (ys : List Item) → AreTokensOf ds ys t
+    → (comma_count xs ≤ comma_count ys) × (comma_count ys ≤ comma_count xs
+    → brackets xs ≤ brackets ys))

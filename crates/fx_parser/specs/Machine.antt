@@ -1,5 +1,6 @@
 -- A reader that takes each token in one step, with a stack of what is open, the innermost first.
-use Rattle.std.specs.Prelude.{◌≡◌, ℕ, suc, ◌<◌, ◌≤◌, Bool, true, false, List, [], ◌∷◌, length, take, Option, Some, None, option_and_then}
+use Rattle.std.specs.Prelude.{◌≡◌, ℕ, suc, ◌<◌, ◌≤◌, Bool, true, false, List, [], ◌∷◌, length, take}
+use Rattle.std.specs.Prelude.{Option, Some, None, option_and_then}
 use Rattle.fx_lexer.specs.declared.token.Symbol.TheVariants as symbol
 use Rattle.fx_lexer.specs.declared.token.Word.TheVariants as word
 use Rattle.fx_grammar.specs.declared.item.Item.{Item}
@@ -175,7 +176,8 @@ turn w state.FieldName o k = name_then (begin_of k) state.AfterAccess
 turn w state.AliasName o k = name_then (begin_of k) state.AfterAlias
 turn w state.GlobalName o k = name_then (begin_of k) state.GlobalClose
 turn w state.GlobalClose o k = bracket_then (follow_of k) state.AfterAccess
-turn w state.FirstLabel o k = or_move (name_then (begin_of k) state.Colon) (brace_then (follow_of k) state.AfterAccess)
+turn w state.FirstLabel o k = or_move (name_then (begin_of k) state.Colon)
+    (brace_then (follow_of k) state.AfterAccess)
 turn w state.Label o k = name_then (begin_of k) state.Colon
 turn w state.Colon o k = colon k
 turn w state.Strand o k = strand k
@@ -207,7 +209,8 @@ with_stack (Some s) fs = Some (s, fs)
 -- where the tokens lead
 abbrev pub run : Whole → State → List Frame → List Item → Option MachinePlace
 run w s fs [] = Some (s, fs)
-run w s fs (x ∷ us) = option_and_then (λ p. run w p.0 p.1 us) (place_moved fs (turn w s (top fs) x.meaning))
+run w s fs (x ∷ us) = option_and_then (λ p. run w p.0 p.1 us)
+    (place_moved fs (turn w s (top fs) x.meaning))
 
 abbrev pub may_end : Whole → State → Bool
 may_end _ state.AfterName = true
@@ -227,7 +230,8 @@ abbrev pub accepted : Whole → Option MachinePlace → Bool
 accepted w None = false
 accepted w (Some p) = ends w p.0 p.1
 
--- The tokens before the place i lead on, and the token there does not; behind the last, they may not end.
+-- The tokens before the place i lead on, and the token there does not; behind the last, they may
+-- not end.
 pub record IsLastPlace (w : Whole) (s : State) (xs : List Item) (i : ℕ) : Type 0 where
   pub within : i ≤ length xs
   pub place : MachinePlace

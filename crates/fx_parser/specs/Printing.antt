@@ -1,5 +1,6 @@
 -- The text of a tree, in characters.
-use Rattle.std.specs.Prelude.{ℕ, Bool, true, false, not, List, [], ◌∷◌, ◌++◌, Option, Some, None, nat_le, ◌&&◌, if◌then◌else◌}
+use Rattle.std.specs.Prelude.{ℕ, Bool, true, false, not, List, [], ◌∷◌, ◌++◌, Option, Some, None}
+use Rattle.std.specs.Prelude.{nat_le, ◌&&◌, if◌then◌else◌}
 use Rattle.fx_number.specs.Spelling.{text_of}
 use Rattle.fx_core.specs.declared.expr.Op.{Op}
 use Rattle.fx_core.specs.declared.expr.Op.TheVariants as op
@@ -10,12 +11,14 @@ use Rattle.fx_lexer.specs.declared.token.Word.{Word}
 use Rattle.fx_lexer.specs.declared.token.Word.TheVariants as word
 use Rattle.fx_lexer.specs.declared.element.Class.{Class}
 use Rattle.fx_lexer.specs.declared.element.Class.TheVariants.{White, Digit, Letter, Other}
-use Rattle.fx_lexer.specs.Spelling.{class_at, in_name, is_mark, doubled, begins_with, word_spelling, symbol_spelling}
+use Rattle.fx_lexer.specs.Spelling.{class_at, in_name, is_mark, doubled, begins_with, word_spelling}
+use Rattle.fx_lexer.specs.Spelling.{symbol_spelling}
 use Rattle.fx_lexer.specs.Scan.{word_at}
 use Rattle.fx_grammar.specs.declared.line.Join.TheVariants as join
 use Rattle.fx_grammar.specs.declared.line.Left.TheVariants as left
 use Rattle.fx_grammar.specs.declared.line.Line.{Line}
-use Rattle.fx_grammar.specs.declared.line.Line.TheVariants.{Chain, Several, By, Alias, Prefix, Power, Percent, Access, Atom}
+use Rattle.fx_grammar.specs.declared.line.Line.TheVariants.{Chain, Several, By, Alias, Prefix}
+use Rattle.fx_grammar.specs.declared.line.Line.TheVariants.{Power, Percent, Access, Atom}
 use Rattle.fx_grammar.specs.Means.{between_quotes}
 
 -- how loosely the formulas of a line hold together
@@ -108,7 +111,8 @@ is_some_word (Some w) = true
 -- A plain name: a letter, then letters, digits and `_`, and none of the words.
 abbrev pub is_plain_name : List ℕ → Bool
 is_plain_name [] = false
-is_plain_name (c ∷ cs) = begins_name (class_at c) && (all_in_name cs && not (is_some_word (word_at (c ∷ cs))))
+is_plain_name (c ∷ cs) = begins_name (class_at c)
+    && (all_in_name cs && not (is_some_word (word_at (c ∷ cs))))
 
 -- a name, between quotes where it is not plain
 abbrev pub name_text : List ℕ → List ℕ
@@ -144,7 +148,8 @@ abbrev pub is_text : Tree → Bool
 is_text (node at (tree.text cs) ts) = true
 is_text t = false
 
--- The piece as which a part of a weave prints: a text does, where it is not empty and no text stands before it.
+-- The piece as which a part of a weave prints: a text does, where it is not empty and no text
+-- stands before it.
 abbrev pub printed_piece : Bool → Tree → Option (List ℕ)
 printed_piece false (node at (tree.text (c ∷ cs)) ts) = Some (c ∷ cs)
 printed_piece after t = None
@@ -185,20 +190,27 @@ abbrev mutual
   shown (node at (tree.truth true) ts) = word_spelling word.True
   shown (node at (tree.truth false) ts) = word_spelling word.False
   shown (node at (tree.name cs) ts) = name_text cs
-  shown (node at (tree.global cs) ts) = symbol_spelling symbol.OpenBracketAt ++ (name_text cs ++ symbol_spelling symbol.CloseBracket)
-  shown (node at (tree.dot cs) ts) = shown_part Access ts ++ (symbol_spelling symbol.Dot ++ name_text cs)
+  shown (node at (tree.global cs) ts) = symbol_spelling symbol.OpenBracketAt
+      ++ (name_text cs ++ symbol_spelling symbol.CloseBracket)
+  shown (node at (tree.dot cs) ts) = shown_part Access ts
+      ++ (symbol_spelling symbol.Dot ++ name_text cs)
   shown (node at (tree.call cs) ts) = name_text cs ++ in_brackets (shown_parts comma_text Chain ts)
   shown (node at tree.neg ts) = symbol_spelling symbol.Minus ++ shown_part Prefix ts
   shown (node at tree.opposite ts) = symbol_spelling symbol.Bang ++ shown_part Prefix ts
   shown (node at tree.percent ts) = shown_part Percent ts ++ symbol_spelling symbol.Percent
   shown (node at (tree.pair o) ts) = shown_pair o ts
   shown (node at tree.joined ts) = shown_parts cat_text (By left.Sum) ts
-  shown (node at tree.all ts) = if is_several ts then shown_parts and_text (By left.Member) ts else word_spelling word.And ++ in_brackets (shown_parts comma_text Chain ts)
-  shown (node at tree.any ts) = if is_several ts then shown_parts or_text (Several join.And) ts else word_spelling word.Or ++ in_brackets (shown_parts comma_text Chain ts)
+  shown (node at tree.all ts) = if is_several ts then shown_parts and_text (By left.Member) ts else
+      word_spelling word.And ++ in_brackets (shown_parts comma_text Chain ts)
+  shown (node at tree.any ts) = if is_several ts then shown_parts or_text (Several join.And) ts else
+      word_spelling word.Or ++ in_brackets (shown_parts comma_text Chain ts)
   shown (node at tree.chain ts) = shown_parts chain_text (Several join.Or) ts
-  shown (node at (tree.alias cs) ts) = shown_part Prefix ts ++ (spaced (word_spelling word.As) ++ name_text cs)
-  shown (node at (tree.rec ns ps) ts) = symbol_spelling symbol.OpenBrace ++ (shown_fields ns ts ++ symbol_spelling symbol.CloseBrace)
-  shown (node at tree.list ts) = symbol_spelling symbol.OpenBracket ++ (shown_parts comma_text Chain ts ++ symbol_spelling symbol.CloseBracket)
+  shown (node at (tree.alias cs) ts) = shown_part Prefix ts
+      ++ (spaced (word_spelling word.As) ++ name_text cs)
+  shown (node at (tree.rec ns ps) ts) = symbol_spelling symbol.OpenBrace
+      ++ (shown_fields ns ts ++ symbol_spelling symbol.CloseBrace)
+  shown (node at tree.list ts) = symbol_spelling symbol.OpenBracket
+      ++ (shown_parts comma_text Chain ts ++ symbol_spelling symbol.CloseBracket)
   shown (node at tree.woven ts) = 36 ∷ 34 ∷ (shown_strands false ts ++ 34 ∷ [])
 
   -- the only part, where this line stands
@@ -208,7 +220,8 @@ abbrev mutual
 
   -- two operands
   pub shown_pair : Op → Forest → List ℕ
-  shown_pair o (more t (more u us)) = printed_within (left_line o) t (shown t) ++ (spaced (operator_spelling o) ++ printed_within (right_line o) u (shown u))
+  shown_pair o (more t (more u us)) = printed_within (left_line o) t (shown t)
+      ++ (spaced (operator_spelling o) ++ printed_within (right_line o) u (shown u))
   shown_pair o ts = []
 
   -- the parts where this line stands, with a text between each two
@@ -218,18 +231,23 @@ abbrev mutual
 
   pub shown_further : List ℕ → Line → Forest → List ℕ
   shown_further between l none = []
-  shown_further between l (more t ts) = between ++ (printed_within l t (shown t) ++ shown_further between l ts)
+  shown_further between l (more t ts) = between
+      ++ (printed_within l t (shown t) ++ shown_further between l ts)
 
   -- the fields of a record
   pub shown_fields : List (List ℕ) → Forest → List ℕ
-  shown_fields (n ∷ ns) (more t ts) = label_text n ++ (printed_within (Several join.Or) t (shown t) ++ shown_further_fields ns ts)
+  shown_fields (n ∷ ns) (more t ts) = label_text n
+      ++ (printed_within (Several join.Or) t (shown t) ++ shown_further_fields ns ts)
   shown_fields ns ts = []
 
   pub shown_further_fields : List (List ℕ) → Forest → List ℕ
-  shown_further_fields (n ∷ ns) (more t ts) = comma_text ++ (label_text n ++ (printed_within (Several join.Or) t (shown t) ++ shown_further_fields ns ts))
+  shown_further_fields (n ∷ ns) (more t ts) = comma_text
+      ++ (label_text n ++ (printed_within (Several join.Or) t (shown t)
+      ++ shown_further_fields ns ts))
   shown_further_fields ns ts = []
 
   -- the parts of a weave: whether a text stands before them
   pub shown_strands : Bool → Forest → List ℕ
   shown_strands after none = []
-  shown_strands after (more t ts) = strand_text (printed_piece after t) (shown t) ++ shown_strands (is_text t) ts
+  shown_strands after (more t ts) = strand_text (printed_piece after t) (shown t)
+      ++ shown_strands (is_text t) ts

@@ -15,7 +15,8 @@ HasFormula xs = (d : ℕ) × (t : Tree) × IsFormula xs d t
 abbrev pub HasEntries : List Item → Type 0
 HasEntries xs = (d : ℕ) × (es : List NamedFormula) × AreNamed xs d es
 
--- The tokens are none of these, those before the place i may go on to be one, and those up to and with the token at i may not, whatever follows.
+-- The tokens are none of these, those before the place i may go on to be one, and those up to and
+-- with the token at i may not, whatever follows.
 pub record Stops (P : List Item → Type 0) (xs : List Item) (i : ℕ) : Type 0 where
   pub none : P xs → ⊥
   pub within : i ≤ length xs

@@ -1,5 +1,5 @@
-//! The first node that is too deep, in the order in which nodes end: one pass from left to right, with a
-//! stack of the brackets that are open and of the operators that wait for an operand.
+//! The first node that is too deep, in the order in which nodes end: one pass from left to right,
+//! with a stack of the brackets that are open and of the operators that wait for an operand.
 ghost use Rattle.std.specs.Prelude.{◌≡◌, ◌<◌, IfOk, IfSome, length, vec_len};
 
 use crate::formula::DEEPEST;
@@ -25,8 +25,8 @@ const POWER: u8 = 11;
 /// What waits on the stack.
 #[derive(Clone, Copy)]
 enum Kind {
-    /// An operator of this binding power: the looser it binds the less. `several` holds of one that has two
-    /// parts behind it and may have more.
+    /// An operator of this binding power: the looser it binds the less. `several` holds of one that
+    /// has two parts behind it and may have more.
     Operator { power: u8, several: bool },
     /// A bracket whose values are parts of one node.
     Bracket,
@@ -50,7 +50,8 @@ struct Open {
     part: Part,
 }
 
-/// What has been read: the open ones, the innermost last, and the value behind them, if there is one.
+/// What has been read: the open ones, the innermost last, and the value behind them, if there is
+/// one.
 #[derive(Drop)]
 struct Reader {
     open: Vec<Open>,
@@ -139,8 +140,8 @@ impl Reader {
         }
     }
 
-    /// Ends the operators that bind tighter than so, or as tight where `same`. A last `;` behind one part makes no
-    /// node.
+    /// Ends the operators that bind tighter than so, or as tight where `same`. A last `;` behind
+    /// one part makes no node.
     fn end(&mut self, power: u8, same: bool) {
         while let Some((part, several)) = self.innermost_operator(power, same) {
             self.open.pop();
@@ -331,16 +332,16 @@ fn first_deep(alloc: Global, items: &[Item], named: bool) -> Result<Option<usize
     Ok(reader.found)
 }
 
-/// Of tokens that are a formula, or named formulas, deeper than 64: the index of the token where the first node
-/// or pair of brackets begins, in the order in which they end, that is 65 deep.
+/// Of tokens that are a formula, or named formulas, deeper than 64: the index of the token where
+/// the first node or pair of brackets begins, in the order in which they end, that is 65 deep.
 pub fn deepest(alloc: Global, items: &[Item], named: bool) -> Result<usize, Memory>
     requires { 0 < length items.now }
     ensures { IfOk result (λ i. i < length items.now) }
 {
     match first_deep(alloc, items, named)? {
         Some(index) => {
-            // The test spares the reader a contract: what it finds is shown by tests alone, and this keeps it among the
-            // tokens.
+            // The test spares the reader a contract: what it finds is shown by tests alone, and
+            // this keeps it among the tokens.
             if index < items.len() {
                 Ok(index)
             } else {

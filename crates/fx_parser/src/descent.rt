@@ -1,5 +1,6 @@
-//! The descent: one function for each line of the grammar, each no deeper than its limit. Each takes the tokens that
-//! are left and gives back those behind its tree, so that no proof follows places in a list.
+//! The descent: one function for each line of the grammar, each no deeper than its limit. Each
+//! takes the tokens that are left and gives back those behind its tree, so that no proof follows
+//! places in a list.
 ghost use Rattle.std.specs.Prelude.{◌≡◌, ◌<◌, ◌≤◌, ◌-◌, ◌+◌, ◌^◌, IfOk, Some, IfSome, length};
 ghost use Rattle.fx_core.specs.Tree.{Head};
 ghost use Rattle.fx_grammar.specs.Grammar as grammar;
@@ -68,7 +69,8 @@ fn several<'t>(
     tokens: &'t [Item],
 ) -> Result<(Expr, u32, &'t [Item]), End>
     requires { 0 < limit }
-    ensures gives { ParserAnswers parsed_view result (read.line_at limit (Line.Several join) tokens.now) }
+    ensures gives { ParserAnswers parsed_view result
+        (read.line_at limit (Line.Several join) tokens.now) }
     ensures shallow { IfOk result (λ x. x.1 ≤ limit) }
     ensures shorter { IfOk result (λ x. length x.2.now < length tokens.now) }
 {
@@ -84,7 +86,8 @@ fn parts<'t>(
     limit: u32,
     tokens: &'t [Item],
 ) -> Result<(Args, u32, &'t [Item]), End>
-    ensures gives { ParserAnswers parsed_view result (read.parts_with separator (read.line_at limit (grammar.part_of separator)) tokens.now) }
+    ensures gives { ParserAnswers parsed_view result
+        (read.parts_with separator (read.line_at limit (grammar.part_of separator)) tokens.now) }
     ensures shallow { IfOk result (λ x. x.1 ≤ limit) }
     ensures shorter { IfOk result (λ x. length x.2.now < length tokens.now) }
 {
@@ -236,7 +239,8 @@ fn atom_of<'t>(
     tokens: &'t [Item],
 ) -> Result<(Expr, u32, &'t [Item]), End>
     requires { 0 < limit }
-    ensures gives { ParserAnswers parsed_view result (read.atom_by limit (read.line_at (limit - 1)) x.now tokens.now x.now.meaning) }
+    ensures gives { ParserAnswers parsed_view result
+        (read.atom_by limit (read.line_at (limit - 1)) x.now tokens.now x.now.meaning) }
     ensures shallow { IfOk result (λ y. y.1 ≤ limit) }
     ensures shorter { IfOk result (λ y. length y.2.now ≤ length tokens.now) }
 {
@@ -268,7 +272,9 @@ fn call<'t>(
     tokens: &'t [Item],
 ) -> Result<(Expr, u32, &'t [Item]), End>
     requires { 0 < limit }
-    ensures gives { (h : Head) → grammar.callee x.now.meaning ≡ Some h → ParserAnswers parsed_view result (read.call_of x.now.at h (read.line_at (limit - 1) Line.Chain) tokens.now) }
+    ensures gives { (h : Head) → grammar.callee x.now.meaning ≡ Some h
+        → ParserAnswers parsed_view result (read.call_of x.now.at h
+        (read.line_at (limit - 1) Line.Chain) tokens.now) }
     ensures shallow { IfOk result (λ y. y.1 ≤ limit) }
     ensures shorter { IfOk result (λ y. length y.2.now < length tokens.now) }
 {
@@ -286,7 +292,8 @@ fn bracket<'t>(
     tokens: &'t [Item],
 ) -> Result<(Expr, u32, &'t [Item]), End>
     requires { 0 < limit }
-    ensures gives { ParserAnswers parsed_view result (read.atom_by limit (read.line_at (limit - 1)) x.now tokens.now (Meaning.Symbol symbol)) }
+    ensures gives { ParserAnswers parsed_view result
+        (read.atom_by limit (read.line_at (limit - 1)) x.now tokens.now (Meaning.Symbol symbol)) }
     ensures shallow { IfOk result (λ y. y.1 ≤ limit) }
     ensures shorter { IfOk result (λ y. length y.2.now < length tokens.now) }
 {
@@ -316,7 +323,8 @@ fn args<'t>(
     limit: u32,
     tokens: &'t [Item],
 ) -> Result<(Args, u32, &'t [Item]), End>
-    ensures gives { ParserAnswers parsed_view result (read.args_with mark (read.line_at limit Line.Chain) tokens.now) }
+    ensures gives { ParserAnswers parsed_view result
+        (read.args_with mark (read.line_at limit Line.Chain) tokens.now) }
     ensures shallow { IfOk result (λ x. x.1 ≤ limit) }
     ensures shorter { IfOk result (λ x. length x.2.now < length tokens.now) }
 {
@@ -336,7 +344,8 @@ fn fields<'t>(
     limit: u32,
     tokens: &'t [Item],
 ) -> Result<(Parts, u32, &'t [Item]), End>
-    ensures gives { ParserAnswers parsed_view result (read.fields_with (read.line_at limit (Line.Several Join.Or)) tokens.now) }
+    ensures gives { ParserAnswers parsed_view result
+        (read.fields_with (read.line_at limit (Line.Several Join.Or)) tokens.now) }
     ensures shallow { IfOk result (λ x. x.1 ≤ limit) }
     ensures shorter { IfOk result (λ x. length x.2.now < length tokens.now) }
 {
@@ -356,7 +365,8 @@ fn some_fields<'t>(
     limit: u32,
     tokens: &'t [Item],
 ) -> Result<(Parts, u32, &'t [Item]), End>
-    ensures gives { ParserAnswers parsed_view result (fields_from (read.line_at limit (Line.Several Join.Or)) tokens.now) }
+    ensures gives { ParserAnswers parsed_view result
+        (fields_from (read.line_at limit (Line.Several Join.Or)) tokens.now) }
     ensures shallow { IfOk result (λ x. x.1 ≤ limit) }
     ensures shorter { IfOk result (λ x. length x.2.now < length tokens.now) }
 {
@@ -380,7 +390,8 @@ fn field<'t>(
     limit: u32,
     tokens: &'t [Item],
 ) -> Result<((FieldName, Expr), u32, &'t [Item]), End>
-    ensures gives { ParserAnswers parsed_view result (read.field_with (read.line_at limit (Line.Several Join.Or)) tokens.now) }
+    ensures gives { ParserAnswers parsed_view result
+        (read.field_with (read.line_at limit (Line.Several Join.Or)) tokens.now) }
     ensures shallow { IfOk result (λ x. x.1 ≤ limit) }
     ensures shorter { IfOk result (λ x. length x.2.now < length tokens.now) }
 {
@@ -406,7 +417,8 @@ fn weave<'t>(
     tokens: &'t [Item],
 ) -> Result<(Expr, u32, &'t [Item]), End>
     requires { 0 < limit }
-    ensures gives { ParserAnswers parsed_view result (read.atom_by limit (read.line_at (limit - 1)) x.now tokens.now Meaning.Opening) }
+    ensures gives { ParserAnswers parsed_view result
+        (read.atom_by limit (read.line_at (limit - 1)) x.now tokens.now Meaning.Opening) }
     ensures shallow { IfOk result (λ y. y.1 ≤ limit) }
     ensures shorter { IfOk result (λ y. length y.2.now < length tokens.now) }
 {
@@ -433,7 +445,8 @@ fn strand<'t>(
     limit: u32,
     tokens: &'t [Item],
 ) -> Result<Option<(Expr, u32, &'t [Item])>, End>
-    ensures gives { ParserAnswers strand_seen result (read.strand_at (read.line_at limit Line.Chain) tokens.now) }
+    ensures gives { ParserAnswers strand_seen result
+        (read.strand_at (read.line_at limit Line.Chain) tokens.now) }
     ensures shallow { IfOk result (λ o. IfSome o (λ x. x.1 ≤ limit + 1)) }
     ensures shorter { IfOk result (λ o. IfSome o (λ x. length x.2.now < length tokens.now)) }
 {
@@ -451,7 +464,8 @@ fn strand_of<'t>(
     x: &Item,
     tokens: &'t [Item],
 ) -> Result<Option<(Expr, u32, &'t [Item])>, End>
-    ensures gives { ParserAnswers strand_seen result (read.strand_by (read.line_at limit Line.Chain) x.now tokens.now x.now.meaning) }
+    ensures gives { ParserAnswers strand_seen result
+        (read.strand_by (read.line_at limit Line.Chain) x.now tokens.now x.now.meaning) }
     ensures shallow { IfOk result (λ o. IfSome o (λ y. y.1 ≤ limit + 1)) }
     ensures shorter { IfOk result (λ o. IfSome o (λ y. length y.2.now ≤ length tokens.now)) }
 {

@@ -38,11 +38,13 @@ fn token_at(tokens: &[Token], at: u32) -> Option<Token>
     None
 }
 
-/// What is said of the place where a text of less than 2^32 bytes stops being a formula: `unexpected `
-/// and the text of the token that begins at this byte, or `unexpected end` where none does.
+/// What is said of the place where a text of less than 2^32 bytes stops being a formula:
+/// `unexpected ` and the text of the token that begins at this byte, or `unexpected end` where none
+/// does.
 pub fn syntax_detail(alloc: Global, source: &str, at: u32) -> Result<Words, Memory>
     requires { length source.now < 2 ^ 32 }
-    ensures { IfOk result (λ w. (ts : List Tok) → Lexed (chars source.now) ts → w ≡ unexpected_words source.now at ts) }
+    ensures { IfOk result (λ w. (ts : List Tok) → Lexed (chars source.now) ts
+        → w ≡ unexpected_words source.now at ts) }
 {
     // The tokens are read again, since an error carries its place alone.
     match tokens(alloc, source) {

@@ -2,7 +2,8 @@
 ghost use Rattle.std.specs.Prelude.{◌≡◌, ◌<◌, IfOk, IfErr, IfSome, length};
 ghost use Rattle.fx_grammar.specs.Grammar as grammar;
 ghost use Rattle.fx_grammar.specs.Formulas as formulas;
-ghost use Rattle.fx_parser.specs.Entries.{AreCuts, entry_head, head_seen, next_of, next_seen, IsFirstFormula, AreThese, AreTooDeep};
+ghost use Rattle.fx_parser.specs.Entries.{AreCuts, entry_head, head_seen, next_of, next_seen};
+ghost use Rattle.fx_parser.specs.Entries.{IsFirstFormula, AreThese, AreTooDeep};
 
 use crate::descent::line;
 use crate::descent_end::End;

@@ -2,7 +2,8 @@
 ghost use Rattle.std.specs.Prelude.{◌≡◌, ◌<◌, Option, IfSome, option_map, length};
 ghost use Rattle.fx_grammar.specs.Grammar as grammar;
 ghost use Rattle.fx_grammar.specs.Reading as read;
-ghost use Rattle.fx_parser.specs.Answer.{label_found, rest_of, name_found, sign_found, first_token, first_seen};
+ghost use Rattle.fx_parser.specs.Answer.{label_found, rest_of, name_found, sign_found, first_token};
+ghost use Rattle.fx_parser.specs.Answer.{first_seen};
 
 use fx_core::expr::Op;
 use fx_grammar::{Item, Join, Left, Line, Mark, Meaning, Separator};

@@ -1,4 +1,5 @@
-//! From texts to trees, by descent, and which texts have none; and from trees to texts that are read back.
+//! From texts to trees, by descent, and which texts have none; and from trees to texts that are
+//! read back.
 #![tactic(auto)]
 
 mod depth_scan;

@@ -1,6 +1,10 @@
 //! The step that a token makes.
 ghost use Rattle.std.specs.Prelude.{◌≡◌, reverse, IfOk, Bool};
-ghost use Rattle.fx_parser.specs.Machine.{begin_of, follow_of, or_move, operand, emptied, closed, semicolon, behind_alias, behind_percent, behind_access, behind_name, follow_move, name_then, bracket_then, brace_then, equal_then, colon, strand, turn, top, place_moved, with_stack, ends};
+ghost use Rattle.fx_parser.specs.Machine.{begin_of, follow_of, or_move, operand, emptied, closed};
+ghost use Rattle.fx_parser.specs.Machine.{semicolon, behind_alias, behind_percent, behind_access};
+ghost use Rattle.fx_parser.specs.Machine.{behind_name, follow_move, name_then, bracket_then};
+ghost use Rattle.fx_parser.specs.Machine.{brace_then, equal_then, colon, strand, turn, top};
+ghost use Rattle.fx_parser.specs.Machine.{place_moved, with_stack, ends};
 
 use crate::state::{Begin, Follow, Frame, Move, State, Whole};
 use fx_base::Memory;
@@ -124,7 +128,8 @@ fn at_semicolon(whole: Whole, innermost: Option<Frame>) -> Move
     }
 }
 
-// This function and the next three each take what their state adds, and leave the rest to the one before.
+// This function and the next three each take what their state adds, and leave the rest to the one
+// before.
 fn after_alias(whole: Whole, innermost: Option<Frame>, follow: Follow) -> Move
     ensures { result ≡ behind_alias whole innermost follow }
 {
@@ -273,7 +278,8 @@ pub fn innermost_of(opened: &[Frame]) -> Option<Frame>
 
 /// Does what a token does, and says what may come next.
 pub fn perform(opened: &mut Vec<Frame>, turn: Move) -> Result<Option<State>, Memory>
-    ensures { IfOk result (λ o. with_stack o (reverse opened.new.items) ≡ place_moved (reverse opened.old.items) turn) }
+    ensures { IfOk result (λ o. with_stack o (reverse opened.new.items)
+        ≡ place_moved (reverse opened.old.items) turn) }
 {
     match turn {
         Move::Stay(state) => Ok(Some(state)),

@@ -1,5 +1,5 @@
-//! What stands behind a tree that is read, and what is made of it. None of it calls a line of the grammar, so it stands
-//! outside of the recursion.
+//! What stands behind a tree that is read, and what is made of it. None of it calls a line of the
+//! grammar, so it stands outside of the recursion.
 ghost use Rattle.std.specs.Prelude.{◌≡◌, ◌<◌, ◌≤◌, ◌+◌, ◌-◌, ◌^◌, IfOk, length, Some};
 ghost use Rattle.fx_core.specs.Tree.{Head, node, forest, more, none};
 ghost use Rattle.fx_core.specs.Tree as tree;
@@ -26,7 +26,8 @@ pub fn dots<'t>(
     tokens: &'t [Item],
 ) -> Result<(Expr, u32, &'t [Item]), End>
     requires { depth ≤ limit }
-    ensures gives { ParserAnswers parsed_view result (read.loop_from (read.tail_turn limit at read.field_in_front) (part, depth, tokens.now)) }
+    ensures gives { ParserAnswers parsed_view result
+        (read.loop_from (read.tail_turn limit at read.field_in_front) (part, depth, tokens.now)) }
     ensures shallow { IfOk result (λ x. x.1 ≤ limit) }
     ensures shorter { IfOk result (λ x. length x.2.now ≤ length tokens.now) }
 {
@@ -55,7 +56,8 @@ pub fn percents<'t>(
     tokens: &'t [Item],
 ) -> Result<(Expr, u32, &'t [Item]), End>
     requires { depth ≤ limit }
-    ensures gives { ParserAnswers parsed_view result (read.loop_from (read.tail_turn limit at read.percent_at) (part, depth, tokens.now)) }
+    ensures gives { ParserAnswers parsed_view result
+        (read.loop_from (read.tail_turn limit at read.percent_at) (part, depth, tokens.now)) }
     ensures shallow { IfOk result (λ x. x.1 ≤ limit) }
     ensures shorter { IfOk result (λ x. length x.2.now ≤ length tokens.now) }
 {
@@ -83,7 +85,8 @@ pub fn alias_behind<'t>(
     tokens: &'t [Item],
 ) -> Result<(Expr, u32, &'t [Item]), End>
     requires { depth ≤ limit }
-    ensures gives { ParserAnswers parsed_view result (read.aliased_by limit at (part, depth, tokens.now) (read.alias_at tokens.now)) }
+    ensures gives { ParserAnswers parsed_view result
+        (read.aliased_by limit at (part, depth, tokens.now) (read.alias_at tokens.now)) }
     ensures shallow { IfOk result (λ x. x.1 ≤ limit) }
     ensures shorter { IfOk result (λ x. length x.2.now ≤ length tokens.now) }
 {
@@ -133,7 +136,8 @@ pub fn global<'t>(
 
 /// A call of what this token names.
 pub fn apply(alloc: Global, at: u32, meaning: &Meaning, parts: Args) -> Result<Expr, Memory>
-    ensures { (h : Head) → grammar.callee meaning.now ≡ Some h → IfOk result (λ e. e ≡ node at h (forest parts)) }
+    ensures { (h : Head) → grammar.callee meaning.now ≡ Some h
+        → IfOk result (λ e. e ≡ node at h (forest parts)) }
 {
     match meaning {
         Meaning::Name(name) => Ok(make_expr::call(at, name.copy(alloc)?, parts)),
@@ -164,7 +168,8 @@ pub fn gather<'t>(
     rest: &'t [Item],
 ) -> Result<(Expr, u32, &'t [Item]), End>
     requires { depth ≤ limit }
-    ensures gives { ParserAnswers parsed_view result (read.gathered limit (grammar.join_head join) at (parts, depth, rest.now)) }
+    ensures gives { ParserAnswers parsed_view result
+        (read.gathered limit (grammar.join_head join) at (parts, depth, rest.now)) }
     ensures shallow { IfOk result (λ x. x.1 ≤ limit) }
     ensures rest { IfOk result (λ x. x.2.now ≡ rest.now) }
 {

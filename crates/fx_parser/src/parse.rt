@@ -22,7 +22,8 @@ pub fn parse_formula(alloc: Global, source: &str) -> Result<Expr, ParseEnd>
     let items = items_of(alloc, source)?;
     match parse(alloc, items.as_slice()) {
         Ok(tree) => Ok(tree),
-        // Only tokens without a tree that is shallow enough are gone through again, to say where and why.
+        // Only tokens without a tree that is shallow enough are gone through again, to say where
+        // and why.
         Err(End::Refused) => Err(formula_end(alloc, items.as_slice(), source.len() as u32)),
         Err(End::Memory) => Err(ParseEnd::Memory),
     }

@@ -3,7 +3,9 @@ ghost use Rattle.std.specs.Prelude.{◌≡◌, if◌then◌else◌};
 ghost use Rattle.std.specs.Str.{IsAscii};
 ghost use Rattle.fx_core.specs.Tree.{forest};
 ghost use Rattle.fx_parser.specs.Printing.{operator_spelling, spaced};
-ghost use Rattle.fx_parser.specs.Printing.{is_several as several, looseness as loose, line_of as tightest, left_line as left_of, right_line as right_of, line_of_op as line_of_operator};
+ghost use Rattle.fx_parser.specs.Printing.{is_several as several, looseness as loose};
+ghost use Rattle.fx_parser.specs.Printing.{line_of as tightest, left_line as left_of};
+ghost use Rattle.fx_parser.specs.Printing.{right_line as right_of, line_of_op as line_of_operator};
 
 use fx_core::expr::{Expr, Node, Op};
 use fx_grammar::{Join, Left, Line};

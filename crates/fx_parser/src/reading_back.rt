@@ -18,11 +18,14 @@ pub enum ReadBackEnd {
     Parse(ParseEnd),
 }
 
-/// Prints a formula and parses its text. Where a parse gave the formula, this gives it again, up to positions; its text
-/// is refused only where it is deeper than 64, too long, or where memory is wanting.
+/// Prints a formula and parses its text. Where a parse gave the formula, this gives it again, up to
+/// positions; its text is refused only where it is deeper than 64, too long, or where memory is
+/// wanting.
 pub fn read_back(alloc: Global, expr: &Expr) -> Result<Expr, ReadBackEnd>
-    ensures same_tree { IfOk result (λ e. (n : ℕ) (cs : List ℕ) → HasTree n cs expr.now → unplaced e ≡ unplaced expr.now) }
-    ensures end { IfErr result (λ end. (n : ℕ) (cs : List ℕ) → HasTree n cs expr.now → MayEnd expr.now end) }
+    ensures same_tree { IfOk result (λ e. (n : ℕ) (cs : List ℕ) → HasTree n cs expr.now
+        → unplaced e ≡ unplaced expr.now) }
+    ensures end { IfErr result (λ end. (n : ℕ) (cs : List ℕ) → HasTree n cs expr.now
+        → MayEnd expr.now end) }
 {
     let text = match print(alloc, expr) {
         Ok(text) => text,

@@ -1,5 +1,5 @@
-//! Reading the tokens once, from left to right. The descent can't tell a text that is too deep from one without a tree.
-//! This can, since it keeps what is open in a list and doesn't recurse.
+//! Reading the tokens once, from left to right. The descent can't tell a text that is too deep from
+//! one without a tree. This can, since it keeps what is open in a list and doesn't recurse.
 ghost use Rattle.std.specs.Prelude.{◌≡◌, IfOk};
 ghost use Rattle.fx_parser.specs.Trees.{HasFormula, HasEntries, Judges};
 ghost use Rattle.fx_parser.specs.Machine.{Ended};

@@ -1,13 +1,20 @@
 //! Printing a formula's tree.
-ghost use Rattle.std.specs.Prelude.{◌≡◌, ◌++◌, ◌∷◌, [], ℕ, List, IfOk, OnOk, IsTrue, ◌↔◌, MatchOption, Some, None, false, string_bytes, encode_utf8_all, if◌then◌else◌};
+ghost use Rattle.std.specs.Prelude.{◌≡◌, ◌++◌, ◌∷◌, [], ℕ, List, IfOk, OnOk, IsTrue, ◌↔◌};
+ghost use Rattle.std.specs.Prelude.{MatchOption, Some, None, false, string_bytes, encode_utf8_all};
+ghost use Rattle.std.specs.Prelude.{if◌then◌else◌};
 ghost use Rattle.std.specs.Str.{chars, IsAscii};
 ghost use Rattle.fx_number.specs.Spelling.{text_of};
 ghost use Rattle.fx_core.specs.Tree.{node, forest, tree_field_names, field_trees};
 ghost use Rattle.fx_core.specs.Tree as tree;
 ghost use Rattle.fx_lexer.specs.Spelling.{begins_with, word_spelling};
 ghost use Rattle.fx_grammar.specs.Formulas.{HasTree};
-ghost use Rattle.fx_parser.specs.Printing.{shown, shown_parts, shown_further, shown_fields, shown_further_fields, shown_strands, island_text, label_text, strand_text, printed_piece, name_text, operator_spelling, spaced, in_brackets, comma_text, printed_within};
-ghost use Rattle.fx_parser.specs.Printing.{is_text as is_text_tree, left_line as left_of, right_line as right_of};
+ghost use Rattle.fx_parser.specs.Printing.{shown, shown_parts, shown_further, shown_fields};
+ghost use Rattle.fx_parser.specs.Printing.{shown_further_fields, shown_strands, island_text};
+ghost use Rattle.fx_parser.specs.Printing.{label_text, strand_text, printed_piece, name_text};
+ghost use Rattle.fx_parser.specs.Printing.{operator_spelling, spaced, in_brackets, comma_text};
+ghost use Rattle.fx_parser.specs.Printing.{printed_within};
+ghost use Rattle.fx_parser.specs.Printing.{is_text as is_text_tree, left_line as left_of};
+ghost use Rattle.fx_parser.specs.Printing.{right_line as right_of};
 ghost use Rattle.fx_parser.specs.SameTree.{HasTreeLike};
 ghost use Rattle.fx_parser.specs.Fewest.{HasFewest};
 
@@ -22,13 +29,16 @@ use fx_number::Num;
 use fx_types::words::Words;
 use std::alloc::Global;
 
-/// The text of a formula's tree, as the Power Fx formula reference spells it: one space on both sides of an operator
-/// between two operands, and the fewest brackets. It takes memory for the text alone.
+/// The text of a formula's tree, as the Power Fx formula reference spells it: one space on both
+/// sides of an operator between two operands, and the fewest brackets. It takes memory for the text
+/// alone.
 pub fn print(alloc: Global, expr: &Expr) -> Result<String, Memory>
     ensures characters { IfOk result (λ s. chars (string_bytes s) ≡ shown expr.now) }
     ensures bytes { IfOk result (λ s. string_bytes s ≡ encode_utf8_all (shown expr.now)) }
-    ensures same_tree { IfOk result (λ s. (n : ℕ) (cs : List ℕ) → HasTree n cs expr.now → HasTreeLike (chars (string_bytes s)) expr.now) }
-    ensures fewest { IfOk result (λ s. (n : ℕ) (cs : List ℕ) → HasTree n cs expr.now → HasFewest (chars (string_bytes s)) expr.now) }
+    ensures same_tree { IfOk result (λ s. (n : ℕ) (cs : List ℕ) → HasTree n cs expr.now
+        → HasTreeLike (chars (string_bytes s)) expr.now) }
+    ensures fewest { IfOk result (λ s. (n : ℕ) (cs : List ℕ) → HasTree n cs expr.now
+        → HasFewest (chars (string_bytes s)) expr.now) }
 {
     let mut out = Writer::new(alloc);
     write(alloc, expr, &mut out)?;
@@ -90,7 +100,8 @@ fn write_number(alloc: Global, value: Num, out: &mut Writer) -> Result<(), Memor
 }
 
 fn truth_text(value: bool) -> &'static str
-    ensures text { result.now ≡ (if value then word_spelling Word.True else word_spelling Word.False) }
+    ensures text { result.now ≡ (if value then word_spelling Word.True else word_spelling
+        Word.False) }
     ensures ascii { IsAscii result.now }
 {
     if value { "true" } else { "false" }
@@ -121,7 +132,8 @@ fn write_within(alloc: Global, line: Line, expr: &Expr, out: &mut Writer) -> Res
 /// Adds a field of a tree.
 #[cycle(print)]
 fn write_dot(alloc: Global, part: &Expr, name: &Words, out: &mut Writer) -> Result<(), Memory>
-    ensures { OnOk result (out.new ≡ out.old ++ (printed_within Line.Access part.now (shown part.now) ++ 46 ∷ name_text name.now)) }
+    ensures { OnOk result (out.new ≡ out.old ++ (printed_within Line.Access part.now
+        (shown part.now) ++ 46 ∷ name_text name.now)) }
 {
     write_within(alloc, Line::Access, part, out)?;
     out.push_plain(".")?;
@@ -131,7 +143,8 @@ fn write_dot(alloc: Global, part: &Expr, name: &Words, out: &mut Writer) -> Resu
 /// Adds a tree under a name for its rows.
 #[cycle(print)]
 fn write_alias(alloc: Global, part: &Expr, name: &Words, out: &mut Writer) -> Result<(), Memory>
-    ensures { OnOk result (out.new ≡ out.old ++ (printed_within Line.Prefix part.now (shown part.now) ++ (spaced (word_spelling Word.As) ++ name_text name.now))) }
+    ensures { OnOk result (out.new ≡ out.old ++ (printed_within Line.Prefix part.now
+        (shown part.now) ++ (spaced (word_spelling Word.As) ++ name_text name.now))) }
 {
     write_within(alloc, Line::Prefix, part, out)?;
     out.push_plain(" As ")?;
@@ -147,7 +160,9 @@ fn write_pair(
     right: &Expr,
     out: &mut Writer,
 ) -> Result<(), Memory>
-    ensures { OnOk result (out.new ≡ out.old ++ (printed_within (left_of op) left.now (shown left.now) ++ (spaced (operator_spelling op) ++ printed_within (right_of op) right.now (shown right.now)))) }
+    ensures { OnOk result (out.new ≡ out.old ++ (printed_within (left_of op) left.now
+        (shown left.now) ++ (spaced (operator_spelling op)
+        ++ printed_within (right_of op) right.now (shown right.now)))) }
 {
     write_within(alloc, left_line(op), left, out)?;
     out.push_plain(operator_text(op))?;
@@ -199,7 +214,8 @@ fn write_further(
 /// Adds arguments in brackets.
 #[cycle(print)]
 fn write_args(alloc: Global, parts: &[Expr], out: &mut Writer) -> Result<(), Memory>
-    ensures { OnOk result (out.new ≡ out.old ++ in_brackets (shown_parts comma_text Line.Chain (forest parts.now))) }
+    ensures { OnOk result (out.new ≡ out.old ++ in_brackets
+        (shown_parts comma_text Line.Chain (forest parts.now))) }
 {
     out.push_plain("(")?;
     write_parts(alloc, ", ", Line::Chain, parts, out)?;
@@ -233,7 +249,8 @@ fn write_any(alloc: Global, parts: &[Expr], out: &mut Writer) -> Result<(), Memo
 /// Adds a table of these.
 #[cycle(print)]
 fn write_list(alloc: Global, parts: &[Expr], out: &mut Writer) -> Result<(), Memory>
-    ensures { OnOk result (out.new ≡ out.old ++ 91 ∷ (shown_parts comma_text Line.Chain (forest parts.now) ++ 93 ∷ [])) }
+    ensures { OnOk result (out.new ≡ out.old ++ 91
+        ∷ (shown_parts comma_text Line.Chain (forest parts.now) ++ 93 ∷ [])) }
 {
     out.push_plain("[")?;
     write_parts(alloc, ", ", Line::Chain, parts, out)?;
@@ -243,7 +260,8 @@ fn write_list(alloc: Global, parts: &[Expr], out: &mut Writer) -> Result<(), Mem
 /// Adds a record.
 #[cycle(print)]
 fn write_record(alloc: Global, fields: &[(FieldName, Expr)], out: &mut Writer) -> Result<(), Memory>
-    ensures { OnOk result (out.new ≡ out.old ++ 123 ∷ (shown_fields (tree_field_names fields.now) (field_trees fields.now) ++ 125 ∷ [])) }
+    ensures { OnOk result (out.new ≡ out.old ++ 123
+        ∷ (shown_fields (tree_field_names fields.now) (field_trees fields.now) ++ 125 ∷ [])) }
 {
     out.push_plain("{")?;
     write_fields(alloc, fields, out)?;
@@ -253,7 +271,8 @@ fn write_record(alloc: Global, fields: &[(FieldName, Expr)], out: &mut Writer) -
 /// Adds fields with commas between them.
 #[cycle(print)]
 fn write_fields(alloc: Global, fields: &[(FieldName, Expr)], out: &mut Writer) -> Result<(), Memory>
-    ensures { OnOk result (out.new ≡ out.old ++ shown_fields (tree_field_names fields.now) (field_trees fields.now)) }
+    ensures { OnOk result (out.new ≡ out.old ++ shown_fields (tree_field_names fields.now)
+        (field_trees fields.now)) }
 {
     match fields {
         [] => Ok(()),
@@ -272,7 +291,8 @@ fn write_further_fields(
     fields: &[(FieldName, Expr)],
     out: &mut Writer,
 ) -> Result<(), Memory>
-    ensures { OnOk result (out.new ≡ out.old ++ shown_further_fields (tree_field_names fields.now) (field_trees fields.now)) }
+    ensures { OnOk result (out.new ≡ out.old ++ shown_further_fields (tree_field_names fields.now)
+        (field_trees fields.now)) }
 {
     for (name, part) in fields {
         out.push_plain(", ")?;
@@ -284,7 +304,8 @@ fn write_further_fields(
 /// Adds a field with its name.
 #[cycle(print)]
 fn write_field(alloc: Global, name: &Words, part: &Expr, out: &mut Writer) -> Result<(), Memory>
-    ensures { OnOk result (out.new ≡ out.old ++ (label_text name.now ++ printed_within (Line.Several Join.Or) part.now (shown part.now))) }
+    ensures { OnOk result (out.new ≡ out.old ++ (label_text name.now
+        ++ printed_within (Line.Several Join.Or) part.now (shown part.now))) }
 {
     write_name(alloc, name, out)?;
     out.push_plain(": ")?;
@@ -294,7 +315,8 @@ fn write_field(alloc: Global, name: &Words, part: &Expr, out: &mut Writer) -> Re
 /// Adds a weave.
 #[cycle(print)]
 fn write_woven(alloc: Global, parts: &[Expr], out: &mut Writer) -> Result<(), Memory>
-    ensures { OnOk result (out.new ≡ out.old ++ 36 ∷ 34 ∷ (shown_strands false (forest parts.now) ++ 34 ∷ [])) }
+    ensures { OnOk result (out.new ≡ out.old ++ 36 ∷ 34
+        ∷ (shown_strands false (forest parts.now) ++ 34 ∷ [])) }
 {
     out.push_plain("$\"")?;
     write_strands(alloc, parts, out)?;
@@ -323,7 +345,8 @@ fn write_strand(
     part: &Expr,
     out: &mut Writer,
 ) -> Result<(), Memory>
-    ensures { OnOk result (out.new ≡ out.old ++ strand_text (printed_piece after_text part.now) (shown part.now)) }
+    ensures { OnOk result (out.new ≡ out.old ++ strand_text (printed_piece after_text part.now)
+        (shown part.now)) }
 {
     match piece(after_text, part) {
         Some(words) => write_piece(alloc, words, out),
@@ -365,7 +388,8 @@ fn is_empty(words: &Words) -> bool
 
 /// The words of a part that is a piece: a text that is not empty, and behind no text.
 fn piece(after_text: bool, part: &Expr) -> Option<&Words>
-    ensures { MatchOption result (printed_piece after_text part.now ≡ None) (λ w. printed_piece after_text part.now ≡ Some w.now) }
+    ensures { MatchOption result (printed_piece after_text part.now ≡ None)
+        (λ w. printed_piece after_text part.now ≡ Some w.now) }
 {
     match &part.node {
         Node::Text(words) => {

@@ -1,5 +1,6 @@
 //! A text that grows at its end.
-ghost use Rattle.std.specs.Prelude.{◌≡◌, ◌++◌, ◌∷◌, [], OnOk, IfOk, string_bytes, encode_utf8_all, if◌then◌else◌};
+ghost use Rattle.std.specs.Prelude.{◌≡◌, ◌++◌, ◌∷◌, [], OnOk, IfOk, string_bytes, encode_utf8_all};
+ghost use Rattle.std.specs.Prelude.{if◌then◌else◌};
 ghost use Rattle.std.specs.Str.{chars, IsAscii};
 ghost use Rattle.fx_lexer.specs.Spelling.{begins_with, doubled};
 ghost use Rattle.fx_parser.specs.Doubling.{doubles};
@@ -8,7 +9,8 @@ use fx_base::Memory;
 use std::alloc::Global;
 use std::marker::Model;
 
-/// What is doubled inside a text: the quote of a text, the quote of a name, or the marks of a weave.
+/// What is doubled inside a text: the quote of a text, the quote of a name, or the marks of a
+/// weave.
 #[derive(Clone, Copy)]
 pub enum Doubling {
     Quote,

@@ -25,7 +25,8 @@ in_row c t = record c { rows = c.rows ++ row_shape t ∷ [] }
 
 -- each table may be read, at its type
 abbrev pub ReadsTables : List TableShape → Context → Type 0
-ReadsTables ts c = (n : ℕ) (t : TableShape) → slice_get ts n ≡ Some t → c.sources (source.Table n) ≡ Some (tables (columns_of t))
+ReadsTables ts c = (n : ℕ) (t : TableShape) → slice_get ts n ≡ Some t
+    → c.sources (source.Table n) ≡ Some (tables (columns_of t))
 
 -- a typing in which the columns of all types rise
 abbrev pub HasType : Context → Term → Shape → Type 0
@@ -37,8 +38,9 @@ HaveTypes c [] [] = Unit {0}
 HaveTypes c (t ∷ ts) (u ∷ us) = HasType c t u × (acts t ≡ false) × HaveTypes c ts us
 HaveTypes c ts us = ⊥
 
--- what a well typed query expression is, with its sketch: a table of its table's rows, whose constants have types in the
--- scope of a row, and whose sketch can be planned with values that fit these
+-- what a well typed query expression is, with its sketch: a table of its table's rows, whose
+-- constants have types in the scope of a row, and whose sketch can be planned with values that fit
+-- these
 pub record IsSketched (c : Context) (ts : List TableShape) (u : Shape) (s : Sketch) : Type 0 where
   pub table : TableShape
   pub is_table : slice_get ts s.table ≡ Some table
@@ -50,5 +52,6 @@ pub record IsSketched (c : Context) (ts : List TableShape) (u : Shape) (s : Sket
 -- THE law: a well typed query expression is so
 abbrev pub SketchesCanPlan : Type 0
 SketchesCanPlan =
-    (c : Context) (ts : List TableShape) (q : Term) (u : Shape) (s : Sketch) → All IsLawfulTable ts → ReadsTables ts c → HasType c q u →
+    (c : Context) (ts : List TableShape) (q : Term) (u : Shape) (s : Sketch) → All IsLawfulTable ts
+    → ReadsTables ts c → HasType c q u →
     sketch_of ts (length c.rows) q ≡ Some s → IsSketched c ts u s

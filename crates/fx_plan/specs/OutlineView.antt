@@ -1,5 +1,6 @@
 -- What a pattern is seen as.
-use Rattle.fx_plan.specs.Outlines.{Outline, always, flag, constant, compares, is_blank, starts, contains, all_of, any_of, opposite, outline_list}
+use Rattle.fx_plan.specs.Outlines.{Outline, always, flag, constant, compares, is_blank, starts}
+use Rattle.fx_plan.specs.Outlines.{contains, all_of, any_of, opposite, outline_list}
 use Rattle.fx_plan.specs.declared.patterns.PatternNode.{PatternNode}
 use Rattle.fx_plan.specs.declared.patterns.PatternNode.TheVariants as n
 

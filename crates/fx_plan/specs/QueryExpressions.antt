@@ -1,7 +1,9 @@
--- Query expressions: the typed trees that a keeper answers with one query. One is a table; the rows of one that meet
--- delegable conditions; or, at most once, those of one in the order of a column. It stands under k scopes, so that the
--- row that its conditions judge is the row of scope k.
-use Rattle.std.specs.Prelude.{ℕ, suc, List, [], ◌∷◌, ◌++◌, Bool, true, false, not, ◌&&◌, nat_eq, bytes_eq, length, Option, Some, None, is_some, slice_get, option_map, option_and_then, position, if◌then◌else◌}
+-- Query expressions: the typed trees that a keeper answers with one query. One is a table; the rows
+-- of one that meet delegable conditions; or, at most once, those of one in the order of a column.
+-- It stands under k scopes, so that the row that its conditions judge is the row of scope k.
+use Rattle.std.specs.Prelude.{ℕ, suc, List, [], ◌∷◌, ◌++◌, Bool, true, false, not, ◌&&◌, nat_eq}
+use Rattle.std.specs.Prelude.{bytes_eq, length, Option, Some, None, is_some, slice_get, option_map}
+use Rattle.std.specs.Prelude.{option_and_then, position, if◌then◌else◌}
 use Rattle.fx_types.specs.declared.comparisons.Cmp.{Cmp}
 use Rattle.fx_types.specs.declared.comparisons.Cmp.TheVariants.{Eq, Ne, Lt, Le, Gt, Ge}
 use Rattle.fx_types.specs.Types.{Shape, numbers, texts, booleans, dates}
@@ -19,7 +21,8 @@ use Rattle.fx_core.specs.Lawful.{id_name}
 use Rattle.fx_core.specs.Term.{Term, Terms, of, nil, cons, Top}
 use Rattle.fx_core.specs.Term as top
 use Rattle.fx_plan.specs.declared.plans.Sketch.{Sketch}
-use Rattle.fx_plan.specs.Outlines.{Outline, always, flag, constant, compares, is_blank, starts, contains, all_of, any_of, opposite, outline_list}
+use Rattle.fx_plan.specs.Outlines.{Outline, always, flag, constant, compares, is_blank, starts}
+use Rattle.fx_plan.specs.Outlines.{contains, all_of, any_of, opposite, outline_list}
 use Rattle.fx_plan.specs.Ranges.{column_type}
 
 -- ---- constants
@@ -44,7 +47,8 @@ abbrev mutual
 
 -- the column of a name, by its number: `ID` is column 0
 abbrev pub column_number : TableShape → List ℕ → Option ℕ
-column_number t n = if bytes_eq n id_name then Some 0 else option_map suc (position (λ (c : Column). bytes_eq c.name n) t.columns)
+column_number t n = if bytes_eq n id_name then Some 0 else option_map suc
+    (position (λ (c : Column). bytes_eq c.name n) t.columns)
 
 -- the row of scope k
 abbrev pub is_row : ℕ → Term → Bool
@@ -115,22 +119,29 @@ abbrev pub beside : TableShape → ℕ → Scalar → Term → Term → Option �
 beside t k s a b = if is_constant k b then column_of t k s a else None
 
 -- a column compared with a constant
-abbrev pub compared_with : TableShape → ℕ → Cmp → Scalar → Term → Term → List Term → Option (Outline × List Term)
-compared_with t k op s a b ds = option_map (λ i. with_constant (compares op i) b ds) (beside t k s a b)
+abbrev pub compared_with : TableShape → ℕ → Cmp → Scalar → Term → Term → List Term
+    → Option (Outline × List Term)
+compared_with t k op s a b ds = option_map (λ i. with_constant (compares op i) b ds)
+    (beside t k s a b)
 
 -- the same, the constant standing on either side
-abbrev pub comparison_pattern : TableShape → ℕ → Option (Cmp × Scalar) → Term → Term → List Term → Option (Outline × List Term)
+abbrev pub comparison_pattern : TableShape → ℕ → Option (Cmp × Scalar) → Term → Term → List Term
+    → Option (Outline × List Term)
 comparison_pattern t k None a b ds = None
-comparison_pattern t k (Some c) a b ds = if is_constant k b then compared_with t k c.0 c.1 a b ds else compared_with t k (flipped c.0) c.1 b a ds
+comparison_pattern t k (Some c) a b ds = if is_constant k b then compared_with t k c.0 c.1 a b
+    ds else compared_with t k (flipped c.0) c.1 b a ds
 
 -- a call of a column, and of a column and a constant
 abbrev pub called_with_one : TableShape → ℕ → Fun → Term → List Term → Option (Outline × List Term)
 called_with_one t k fun.IsBlank a ds = along ds (option_map is_blank (plain_column t k a))
 called_with_one t k f a ds = None
 
-abbrev pub called_with_two : TableShape → ℕ → Fun → Term → Term → List Term → Option (Outline × List Term)
-called_with_two t k fun.StartsWith a b ds = option_map (λ i. with_constant (starts i) b ds) (beside t k Text a b)
-called_with_two t k fun.In a b ds = option_map (λ i. with_constant (contains i) a ds) (beside t k Text b a)
+abbrev pub called_with_two : TableShape → ℕ → Fun → Term → Term → List Term
+    → Option (Outline × List Term)
+called_with_two t k fun.StartsWith a b ds = option_map (λ i. with_constant (starts i) b ds)
+    (beside t k Text a b)
+called_with_two t k fun.In a b ds = option_map (λ i. with_constant (contains i) a ds)
+    (beside t k Text b a)
 called_with_two t k f a b ds = comparison_pattern t k (comparison_by f) a b ds
 
 abbrev pub call_pattern : TableShape → ℕ → Fun → Terms → List Term → Option (Outline × List Term)
@@ -143,30 +154,38 @@ abbrev pub negated : List Outline × List Term → Option (Outline × List Term)
 negated (o ∷ [], ds) = Some (opposite o, ds)
 negated p = None
 
--- a condition that reads its row, by its head: one of a column, or And, Or and Not of delegable ones
-abbrev pub pattern_by : TableShape → ℕ → Top → Terms → List Term → Option (List Outline × List Term) → Option (Outline × List Term)
-pattern_by t k (top.form form.All) cs ds parts = option_map (λ p. (all_of (outline_list p.0), p.1)) parts
-pattern_by t k (top.form form.Any) cs ds parts = option_map (λ p. (any_of (outline_list p.0), p.1)) parts
+-- a condition that reads its row, by its head: one of a column, or And, Or and Not of delegable
+-- ones
+abbrev pub pattern_by : TableShape → ℕ → Top → Terms → List Term → Option (List Outline × List Term)
+    → Option (Outline × List Term)
+pattern_by t k (top.form form.All) cs ds parts
+    = option_map (λ p. (all_of (outline_list p.0), p.1)) parts
+pattern_by t k (top.form form.Any) cs ds parts
+    = option_map (λ p. (any_of (outline_list p.0), p.1)) parts
 pattern_by t k (top.call fun.Not) cs ds parts = option_and_then negated parts
 pattern_by t k (top.call f) cs ds parts = call_pattern t k f cs ds
-pattern_by t k (top.dot n) cs ds parts = along ds (option_map flag (column_of t k Boolean (of (top.dot n) cs)))
+pattern_by t k (top.dot n) cs ds parts = along ds
+    (option_map flag (column_of t k Boolean (of (top.dot n) cs)))
 pattern_by t k h cs ds parts = None
 
 abbrev mutual
-  -- THE pattern of a condition on the rows of a table, with its constants behind those so far, as they stand in it;
-  -- none where the condition isn't delegable
+  -- THE pattern of a condition on the rows of a table, with its constants behind those so far, as
+  -- they stand in it; none where the condition isn't delegable
   pub pattern_of : TableShape → ℕ → Term → List Term → Option (Outline × List Term)
   pattern_of t k (of h cs) ds =
-      if is_constant k (of h cs) then Some (with_constant constant (of h cs) ds) else pattern_by t k h cs ds (patterns_of t k cs ds)
+      if is_constant k (of h cs) then Some (with_constant constant (of h cs) ds) else pattern_by t k
+      h cs ds (patterns_of t k cs ds)
 
   -- those of several conditions in turn
   pub patterns_of : TableShape → ℕ → Terms → List Term → Option (List Outline × List Term)
   patterns_of t k nil ds = Some ([], ds)
   patterns_of t k (cons c cs) ds =
-      option_and_then (λ p. option_map (λ q. (p.0 ∷ q.0, q.1)) (patterns_of t k cs p.1)) (pattern_of t k c ds)
+      option_and_then (λ p. option_map (λ q. (p.0 ∷ q.0, q.1)) (patterns_of t k cs p.1))
+      (pattern_of t k c ds)
 
 -- patterns behind others
-abbrev pub patterns_behind : List Outline → Option (List Outline × List Term) → Option (List Outline × List Term)
+abbrev pub patterns_behind : List Outline → Option (List Outline × List Term)
+    → Option (List Outline × List Term)
 patterns_behind front r = option_map (λ p. (front ++ p.0, p.1)) r
 
 -- ---- query expressions
@@ -177,25 +196,34 @@ is_falling Descending = true
 
 -- a table: all of its rows
 abbrev pub table_sketch : List TableShape → ℕ → Option Sketch
-table_sketch ts n = option_map (λ (t : TableShape). record { table = n; test = always; order = None; constants = [] }) (slice_get ts n)
+table_sketch ts n = option_map (λ (t : TableShape).
+    record { table = n; test = always; order = None; constants = [] }) (slice_get ts n)
 
 -- `Filter`: the rows that meet all conditions besides
 abbrev pub filter_sketch : List TableShape → ℕ → Terms → Sketch → Option Sketch
 filter_sketch ts k cs s =
-    option_and_then (λ (t : TableShape). option_map (λ (p : List Outline × List Term). record s { test = all_of (outline_list p.0); constants = p.1 }) (patterns_behind (s.test ∷ []) (patterns_of t k cs s.constants))) (slice_get ts s.table)
+    option_and_then (λ (t : TableShape). option_map
+    (λ (p : List Outline × List Term). record s
+    { test = all_of (outline_list p.0); constants = p.1 })
+    (patterns_behind (s.test ∷ []) (patterns_of t k cs s.constants))) (slice_get ts s.table)
 
 -- `Sort`: rows that have no order yet, in the order of a plain column
 abbrev pub sorted_by : List TableShape → ℕ → SortOrder → Term → Sketch → Option Sketch
 sorted_by ts k o f s =
-    option_and_then (λ (t : TableShape). option_map (λ (i : ℕ). record s { order = Some (i, is_falling o) }) (plain_column t k f)) (slice_get ts s.table)
+    option_and_then (λ (t : TableShape). option_map
+    (λ (i : ℕ). record s { order = Some (i, is_falling o) }) (plain_column t k f))
+    (slice_get ts s.table)
 
 abbrev pub sorted : List TableShape → ℕ → SortOrder → Terms → Sketch → Option Sketch
 sorted ts k o (cons f nil) s = if is_some s.order then None else sorted_by ts k o f s
 sorted ts k o cs s = None
 
--- THE sketch of a query expression over these tables, under so many scopes; none where the tree is no query expression
+-- THE sketch of a query expression over these tables, under so many scopes; none where the tree is
+-- no query expression
 abbrev pub sketch_of : List TableShape → ℕ → Term → Option Sketch
 sketch_of ts k (of (top.read (source.Table n)) nil) = table_sketch ts n
-sketch_of ts k (of (top.over fun.Filter) (cons q cs)) = option_and_then (filter_sketch ts k cs) (sketch_of ts k q)
-sketch_of ts k (of (top.over (fun.Sort o)) (cons q cs)) = option_and_then (sorted ts k o cs) (sketch_of ts k q)
+sketch_of ts k (of (top.over fun.Filter) (cons q cs))
+    = option_and_then (filter_sketch ts k cs) (sketch_of ts k q)
+sketch_of ts k (of (top.over (fun.Sort o)) (cons q cs))
+    = option_and_then (sorted ts k o cs) (sketch_of ts k q)
 sketch_of ts k c = None

@@ -1,5 +1,8 @@
--- Which keys a query looks through: ranges on the first indexed column that a conjunct of its test compares.
-use Rattle.std.specs.Prelude.{◌≡◌, ℕ, zero, suc, pos, ◌==◌, Bool, true, false, not, ◌&&◌, ◌||◌, if◌then◌else◌, List, [], ◌∷◌, ◌++◌, Option, None, Some, slice_get, option_map}
+-- Which keys a query looks through: ranges on the first indexed column that a conjunct of its test
+-- compares.
+use Rattle.std.specs.Prelude.{◌≡◌, ℕ, zero, suc, pos, ◌==◌, Bool, true, false, not, ◌&&◌, ◌||◌}
+use Rattle.std.specs.Prelude.{if◌then◌else◌, List, [], ◌∷◌, ◌++◌, Option, None, Some, slice_get}
+use Rattle.std.specs.Prelude.{option_map}
 use Rattle.std.specs.List.{list_all}
 use Rattle.fx_types.specs.declared.comparisons.Cmp.{Cmp}
 use Rattle.fx_types.specs.declared.comparisons.Cmp.TheVariants.{Eq, Ne}
@@ -13,7 +16,8 @@ use Rattle.fx_value.specs.Operators.{holds_of}
 use Rattle.fx_value.specs.Order.{IsScalar}
 use Rattle.fx_plan.specs.declared.ranges.Reach.{Reach}
 use Rattle.fx_value.specs.Fits.{fits_in}
-use Rattle.row_queries.specs.Conditions.{Condition, ConditionList, compares, all_of, no_conditions, also}
+use Rattle.row_queries.specs.Conditions.{Condition, ConditionList, compares, all_of, no_conditions}
+use Rattle.row_queries.specs.Conditions.{also}
 use Rattle.row_queries.specs.declared.ranges.KeyRange.{KeyRange}
 use Rattle.row_queries.specs.Ranges.{in_ranges}
 use Rattle.row_queries.specs.RowTests.{met, outcome}
@@ -50,11 +54,13 @@ is_reached c k test = (c.indexed || c.unique) && not (is_empty (comparisons k te
 -- the first such column from the one of this number on
 abbrev pub first_reached : ℕ → List Column → Condition → Option ℕ
 first_reached k [] test = None
-first_reached k (c ∷ cs) test = if is_reached c k test then Some k else first_reached (suc k) cs test
+first_reached k (c ∷ cs) test = if is_reached c k test then Some k else first_reached (suc k) cs
+    test
 
 -- `ID`, which is always indexed, comes first
 abbrev pub reached_column : TableShape → Condition → Option ℕ
-reached_column t test = if is_empty (comparisons 0 test) then first_reached 1 t.columns test else Some 0
+reached_column t test = if is_empty (comparisons 0 test) then first_reached 1 t.columns test else
+    Some 0
 
 -- the type of a column: that of `ID` is Number
 abbrev pub column_type : TableShape → ℕ → Option Shape
@@ -78,7 +84,8 @@ is_sought t ps d = meets_all ps d || (is_blank d && (is_numbers t && meets_all p
 
 -- the keys in the ranges are exactly those of sought values
 abbrev pub AreSought : Shape → List Comparison → List KeyRange → Type 0
-AreSought t ps ranges = (d : Data) → IsScalar d → IsProper d → fits_in d t ≡ true → in_ranges ranges (key_bytes d) ≡ is_sought t ps d
+AreSought t ps ranges = (d : Data) → IsScalar d → IsProper d → fits_in d t ≡ true
+    → in_ranges ranges (key_bytes d) ≡ is_sought t ps d
 
 -- all keys
 abbrev pub everything : List KeyRange
@@ -87,7 +94,8 @@ everything = record { from = []; upto = None } ∷ []
 -- ranges on this column, or everything where there is none
 abbrev pub IsReachOn : Option ℕ → TableShape → Condition → Reach → Type 0
 IsReachOn None t test r = (r.column ≡ 0) × (r.ranges ≡ everything)
-IsReachOn (Some k) t test r = (r.column ≡ k) × ((u : Shape) → column_type t k ≡ Some u → AreSought u (comparisons k test) r.ranges)
+IsReachOn (Some k) t test r = (r.column ≡ k) × ((u : Shape) → column_type t k ≡ Some u
+    → AreSought u (comparisons k test) r.ranges)
 
 -- THE ranges of a condition on the rows of a table
 abbrev pub IsReach : TableShape → Condition → Reach → Type 0
@@ -115,10 +123,12 @@ AllTaken t (p ∷ ps) = ColumnTakes t p × AllTaken t ps
 
 -- each column takes the comparisons among the conjuncts
 abbrev pub TakesComparisons : TableShape → Condition → Type 0
-TakesComparisons t test = (k : ℕ) (u : Shape) → column_type t k ≡ Some u → AllTaken u (comparisons k test)
+TakesComparisons t test = (k : ℕ) (u : Shape) → column_type t k ≡ Some u
+    → AllTaken u (comparisons k test)
 
 -- ---- what holds of them
 
 -- no row outside the ranges meets the test
 abbrev pub NoRowIsMissed : Type 0
-NoRowIsMissed = (t : Shape) (k : ℕ) (test : Condition) (row : List Data) → outcome row test ≡ met → is_sought t (comparisons k test) (value_at row k) ≡ true
+NoRowIsMissed = (t : Shape) (k : ℕ) (test : Condition) (row : List Data) → outcome row test ≡ met
+    → is_sought t (comparisons k test) (value_at row k) ≡ true

@@ -16,4 +16,9 @@ pub record EvalSetting : Type 0 where
   pub caught : Option Fault
 
 abbrev pub setting_around : EvalSetting → Around
-setting_around s = record { gives = Gives s.types s.told; rows = s.rows; item = s.item; caught = s.caught }
+setting_around s = record {
+  gives = Gives s.types s.told;
+  rows = s.rows;
+  item = s.item;
+  caught = s.caught;
+}

@@ -8,11 +8,21 @@ use Rattle.fx_plan.specs.declared.site_list.Scoped.TheVariants.{Nothing, Others,
 use Rattle.fx_plan.specs.Sites.{Position, deeper, is_first, is_formula}
 
 abbrev pub place_position : Place → Position
-place_position p = record { depth = p.depth; by = p.by.now; delegated = p.delegated; inner = p.inner }
+place_position p = record {
+  depth = p.depth;
+  by = p.by.now;
+  delegated = p.delegated;
+  inner = p.inner;
+}
 
 -- the same for a part of no special place in a call of this name, or of none
 abbrev pub within_call : Option (List ℕ) → Position → Position
-within_call n p = record { depth = p.depth; by = unwrap_or n p.by; delegated = false; inner = false }
+within_call n p = record {
+  depth = p.depth;
+  by = unwrap_or n p.by;
+  delegated = false;
+  inner = false;
+}
 
 -- the same in one more scope, if there is one
 abbrev pub scope_opened : Bool → Position → Position

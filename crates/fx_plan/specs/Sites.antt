@@ -1,6 +1,8 @@
--- Sites: where a formula takes rows of tables. Each is a largest query expression of its tree, and they are numbered
--- in the order in which they begin.
-use Rattle.std.specs.Prelude.{ℕ, zero, suc, codes, List, [], ◌∷◌, ◌++◌, Bool, true, false, not, ◌&&◌, Option, Some, None, is_some, length, slice_get, option_and_then, unwrap_or, if◌then◌else◌}
+-- Sites: where a formula takes rows of tables. Each is a largest query expression of its tree, and
+-- they are numbered in the order in which they begin.
+use Rattle.std.specs.Prelude.{ℕ, zero, suc, codes, List, [], ◌∷◌, ◌++◌, Bool, true, false, not}
+use Rattle.std.specs.Prelude.{◌&&◌, Option, Some, None, is_some, length, slice_get, option_and_then}
+use Rattle.std.specs.Prelude.{unwrap_or, if◌then◌else◌}
 use Rattle.fx_types.specs.Words.{scalars_of}
 use Rattle.fx_core.specs.declared.deeds.Deed.{Deed}
 use Rattle.fx_core.specs.declared.deeds.Deed.TheVariants as deed
@@ -24,7 +26,8 @@ is_query ts k c = is_some (sketch_of ts k c)
 
 -- a column of numbers of the table that a query asks
 abbrev pub number_column : List TableShape → ℕ → Term → Sketch → Option ℕ
-number_column ts k f s = option_and_then (λ (t : TableShape). column_of t k Number f) (slice_get ts s.table)
+number_column ts k f s = option_and_then (λ (t : TableShape). column_of t k Number f)
+    (slice_get ts s.table)
 
 -- the total of a plain column of numbers
 abbrev pub totals_column : List TableShape → ℕ → Term → Term → Bool
@@ -38,8 +41,8 @@ totals ts k q cs = false
 abbrev pub is_filter : List TableShape → ℕ → Term → Terms → Bool
 is_filter ts k q cs = is_query ts k (of (top.over fun.Filter) (cons q cs))
 
--- whether a node takes the whole of the query expression that is its first part. `LookUp` does with a delegable
--- condition, so that its rows with that condition are a query expression too.
+-- whether a node takes the whole of the query expression that is its first part. `LookUp` does with
+-- a delegable condition, so that its rows with that condition are a query expression too.
 abbrev pub takes_whole : List TableShape → ℕ → Term → Bool
 takes_whole ts k (of (top.over fun.CountRows) cs) = true
 takes_whole ts k (of (top.over fun.First) cs) = true
@@ -52,8 +55,8 @@ takes_whole ts k c = false
 
 -- ---- where a tree stands
 
--- under how many scopes; in the call of which function, and `cell` where there is none around; whether that takes the
--- whole of it; and whether it is the first part of a larger query expression
+-- under how many scopes; in the call of which function, and `cell` where there is none around;
+-- whether that takes the whole of it; and whether it is the first part of a larger query expression
 pub record Position : Type 0 where
   pub depth : ℕ
   pub by : List ℕ
@@ -79,8 +82,9 @@ abbrev pub is_update : Deed → Bool
 is_update (deed.UpdateIf t) = true
 is_update d = false
 
--- whether the part at a place of so many stands in a scope of its node: the formulas behind a table and the change of
--- `UpdateIf` in that of each row, and the second part of `With` in that of its record
+-- whether the part at a place of so many stands in a scope of its node: the formulas behind a table
+-- and the change of `UpdateIf` in that of each row, and the second part of `With` in that of its
+-- record
 abbrev pub opens_row_scope : Top → ℕ → ℕ → Bool
 opens_row_scope (top.over f) n i = not (is_first i) && is_formula (takes_at (row_of f) n i)
 opens_row_scope top.within n i = not (is_first i)

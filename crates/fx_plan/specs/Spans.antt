@@ -1,5 +1,6 @@
 -- Where the keys of the values lie that meet some comparisons.
-use Rattle.std.specs.Prelude.{◌≡◌, pos, ℕ, Bool, true, false, ◌&&◌, ◌||◌, if◌then◌else◌, List, [], ◌∷◌, ◌++◌, Option, None, Some}
+use Rattle.std.specs.Prelude.{◌≡◌, pos, ℕ, Bool, true, false, ◌&&◌, ◌||◌, if◌then◌else◌, List, []}
+use Rattle.std.specs.Prelude.{◌∷◌, ◌++◌, Option, None, Some}
 use Rattle.std.specs.Cmp.Lexicographic.{slice_cmp}
 use Rattle.std.specs.Ordering.{is_le, nat_cmp}
 use Rattle.fx_types.specs.declared.comparisons.Cmp.{Cmp}
@@ -55,7 +56,11 @@ abbrev pub both_ranges : KeyRange → KeyRange → KeyRange
 both_ranges a b = record { from = both_from a.from b.from; upto = both_upto a.upto b.upto }
 
 abbrev pub both_spans : Span → Span → Span
-both_spans a b = record { range = both_ranges a.range b.range; blank = a.blank && b.blank; zero = a.zero && b.zero }
+both_spans a b = record {
+  range = both_ranges a.range b.range;
+  blank = a.blank && b.blank;
+  zero = a.zero && b.zero;
+}
 
 abbrev pub joined_spans : Option Span → Option Span → Option Span
 joined_spans None b = b
@@ -68,7 +73,8 @@ pub record IsSpan (n : Bool) (s : Span) (ps : List Comparison) : Type 0 where
   pub blank : s.blank ≡ meets_all ps blank
   pub zero : n ≡ true → s.zero ≡ meets_all ps (number (pos 0))
   pub above : is_le (slice_cmp nat_cmp least s.range.from) ≡ true
-  pub lies : (t : Shape) → is_numbers t ≡ n → AllTaken t ps → (d : Data) → IsScalar d → IsProper d → fits_in d t ≡ true → is_blank d ≡ false →
+  pub lies : (t : Shape) → is_numbers t ≡ n → AllTaken t ps → (d : Data) → IsScalar d → IsProper d
+      → fits_in d t ≡ true → is_blank d ≡ false →
       in_range (key_bytes d) s.range ≡ meets_all ps d
 
 -- the same where there are any

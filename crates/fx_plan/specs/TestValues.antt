@@ -18,15 +18,18 @@ use Rattle.fx_plan.specs.Settings.{EvalSetting, setting_around}
 abbrev pub in_scope : Around → TableShape → Row → Around
 in_scope a t r = inside a (row_record (record_of_row t r))
 
--- the condition has a value in the scope of the row, and the test comes to what that value decides: true meets it,
--- false and blank don't, and an error is the outcome
+-- the condition has a value in the scope of the row, and the test comes to what that value decides:
+-- true meets it, false and blank don't, and an error is the outcome
 abbrev pub TestComesTo : Around → Term → Outcome → Type 0
 TestComesTo a x o = (v : Data) × IsValue a x v × (o ≡ decided_by v)
 
--- THE law: where the constants of a condition have values, in whatever stands in the row's place, the test of the condition's
--- pattern with these constants comes to what the condition's value decides, on each row
+-- THE law: where the constants of a condition have values, in whatever stands in the row's place,
+-- the test of the condition's pattern with these constants comes to what the condition's value
+-- decides, on each row
 abbrev pub TestsAreConditions : Type 0
 TestsAreConditions =
-    (s : EvalSetting) (t : TableShape) (x : Term) (o : Outline) (cs : List Term) (d : Data) (ds : List Data) (r : Row) →
-    IsLawfulTable t → pattern_of t (length s.rows) x [] ≡ Some (o, cs) → AreValues (meanings (all cs)) (inside (setting_around s) d) ds → IsRowOf t r →
+    (s : EvalSetting) (t : TableShape) (x : Term) (o : Outline) (cs : List Term) (d : Data)
+    (ds : List Data) (r : Row) →
+    IsLawfulTable t → pattern_of t (length s.rows) x [] ≡ Some (o, cs)
+    → AreValues (meanings (all cs)) (inside (setting_around s) d) ds → IsRowOf t r →
     TestComesTo (in_scope (setting_around s) t r) x (outcome (values_of r) (filled ds o))

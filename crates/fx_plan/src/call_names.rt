@@ -1,6 +1,7 @@
 //! What calls are named.
 ghost use Rattle.std.specs.Prelude.{◌≡◌, option_map};
-ghost use Rattle.fx_plan.specs.CallNames.{deed_name as deed_name_in, form_name as form_name_in, function_name as function_name_in};
+ghost use Rattle.fx_plan.specs.CallNames.{deed_name as deed_name_in, form_name as form_name_in};
+ghost use Rattle.fx_plan.specs.CallNames.{function_name as function_name_in};
 
 use fx_core::{Deed, Form, Fun};
 

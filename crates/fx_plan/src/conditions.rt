@@ -1,9 +1,24 @@
 //! Conditions that a keeper can test on its rows.
-ghost use Rattle.std.specs.Prelude.{◌≡◌, ◌≤◌, ◌++◌, ◌∷◌, [], Some, List, bytes_eq, length, option_and_then, option_map, position, IfOk, IfSome, ◌<◌};
+ghost use Rattle.std.specs.Prelude.{◌≡◌, ◌≤◌, ◌++◌, ◌∷◌, [], Some, List, bytes_eq, length};
+ghost use Rattle.std.specs.Prelude.{option_and_then, option_map, position, IfOk, IfSome, ◌<◌};
 ghost use Rattle.std.specs.Str.{IsAscii};
 ghost use Rattle.fx_types.specs.TypeView.{shape};
 ghost use Rattle.fx_plan.specs.Outlines.{opposite};
-ghost use Rattle.fx_plan.specs.QueryExpressions.{along, patterns_behind, are_constant as are_constant_in, beside as beside_in, call_pattern as called_in, called_with_one, called_with_two, column_number as column_named_in, column_of as column_of_in, comparison_pattern as compared_in, compared_with as compared_with_in, comparison_by as comparison_of, is_constant as is_constant_in, is_of as is_of_in, is_row as is_row_in, negated as negated_in, pattern_of as pattern_in, patterns_of as patterns_in, plain_column as plain_column_in, flipped as turned_of};
+ghost use Rattle.fx_plan.specs.QueryExpressions.{along, patterns_behind};
+ghost use Rattle.fx_plan.specs.QueryExpressions.{are_constant as are_constant_in};
+ghost use Rattle.fx_plan.specs.QueryExpressions.{beside as beside_in, call_pattern as called_in};
+ghost use Rattle.fx_plan.specs.QueryExpressions.{called_with_one, called_with_two};
+ghost use Rattle.fx_plan.specs.QueryExpressions.{column_number as column_named_in};
+ghost use Rattle.fx_plan.specs.QueryExpressions.{column_of as column_of_in};
+ghost use Rattle.fx_plan.specs.QueryExpressions.{comparison_pattern as compared_in};
+ghost use Rattle.fx_plan.specs.QueryExpressions.{compared_with as compared_with_in};
+ghost use Rattle.fx_plan.specs.QueryExpressions.{comparison_by as comparison_of};
+ghost use Rattle.fx_plan.specs.QueryExpressions.{is_constant as is_constant_in, is_of as is_of_in};
+ghost use Rattle.fx_plan.specs.QueryExpressions.{is_row as is_row_in, negated as negated_in};
+ghost use Rattle.fx_plan.specs.QueryExpressions.{pattern_of as pattern_in};
+ghost use Rattle.fx_plan.specs.QueryExpressions.{patterns_of as patterns_in};
+ghost use Rattle.fx_plan.specs.QueryExpressions.{plain_column as plain_column_in};
+ghost use Rattle.fx_plan.specs.QueryExpressions.{flipped as turned_of};
 ghost use Rattle.fx_plan.specs.Ranges.{column_type};
 ghost use Rattle.fx_core.specs.declared.schema.Column.{Column};
 ghost use Rattle.fx_core.specs.Term.{Term, all, field_terms};
@@ -14,8 +29,8 @@ use fx_core::{Column, Core, CoreArgs, CoreNode, Fun, Scalar, TableShape};
 use fx_types::{Cmp, Ty, Words};
 use std::alloc::Global;
 
-/// The pattern of a condition on the rows of a table, which are the rows of this scope; none where the
-/// condition isn't delegable. Its constants are added to those so far, as they stand in it.
+/// The pattern of a condition on the rows of a table, which are the rows of this scope; none where
+/// the condition isn't delegable. Its constants are added to those so far, as they stand in it.
 #[cycle(pattern_of)]
 pub fn pattern_of(
     alloc: Global,
@@ -25,7 +40,8 @@ pub fn pattern_of(
     constants: &mut CoreArgs,
 ) -> Result<Option<Pattern>, Memory>
     requires { length table.now.columns ≤ 63 }
-    ensures { IfOk result (λ r. along constants.new r ≡ pattern_in table.now scope condition.now constants.old) }
+    ensures { IfOk result (λ r. along constants.new r
+        ≡ pattern_in table.now scope condition.now constants.old) }
 {
     if is_constant(condition, scope) {
         let place = keep(alloc, condition, constants)?;
@@ -98,7 +114,8 @@ fn negation(
     constants: &mut CoreArgs,
 ) -> Result<Option<Pattern>, Memory>
     requires { length table.now.columns ≤ 63 }
-    ensures { IfOk result (λ r. along constants.new r ≡ option_and_then negated_in (patterns_in table.now scope (all parts.now) constants.old)) }
+    ensures { IfOk result (λ r. along constants.new r
+        ≡ option_and_then negated_in (patterns_in table.now scope (all parts.now) constants.old)) }
 {
     match parts {
         [] => Ok(None),
@@ -129,7 +146,8 @@ fn call_pattern(
     constants: &mut CoreArgs,
 ) -> Result<Option<Pattern>, Memory>
     requires { length table.now.columns ≤ 63 }
-    ensures { IfOk result (λ r. along constants.new r ≡ called_in table.now scope fun (all parts.now) constants.old) }
+    ensures { IfOk result (λ r. along constants.new r
+        ≡ called_in table.now scope fun (all parts.now) constants.old) }
 {
     match parts {
         [] => Ok(None),
@@ -161,7 +179,8 @@ fn called_with(
     constants: &mut CoreArgs,
 ) -> Result<Option<Pattern>, Memory>
     requires { length table.now.columns ≤ 63 }
-    ensures { IfOk result (λ r. along constants.new r ≡ called_with_two table.now scope fun left.now right.now constants.old) }
+    ensures { IfOk result (λ r. along constants.new r
+        ≡ called_with_two table.now scope fun left.now right.now constants.old) }
 {
     match fun {
         Fun::StartsWith => match beside(table, Scalar::Text, left, right, scope) {
@@ -205,7 +224,8 @@ fn comparison_pattern(
     constants: &mut CoreArgs,
 ) -> Result<Option<Pattern>, Memory>
     requires { length table.now.columns ≤ 63 }
-    ensures { IfOk result (λ r. along constants.new r ≡ compared_in table.now scope comparison left.now right.now constants.old) }
+    ensures { IfOk result (λ r. along constants.new r
+        ≡ compared_in table.now scope comparison left.now right.now constants.old) }
 {
     let Some((op, ty)) = comparison else {
         return Ok(None);
@@ -228,7 +248,9 @@ fn compared_with(
     constants: &mut CoreArgs,
 ) -> Result<Option<Pattern>, Memory>
     requires { length table.now.columns ≤ 63 }
-    ensures { IfOk result (λ r. along constants.new r ≡ compared_with_in table.now scope comparison.0 comparison.1 left.now right.now constants.old) }
+    ensures { IfOk result (λ r. along constants.new r
+        ≡ compared_with_in table.now scope comparison.0 comparison.1 left.now right.now
+        constants.old) }
 {
     let (op, ty) = comparison;
     match beside(table, ty, left, right, scope) {
@@ -244,7 +266,8 @@ fn compared_with(
 
 // Adds a constant to those so far, and says its place.
 fn keep(alloc: Global, constant: &Core, constants: &mut CoreArgs) -> Result<u32, Memory>
-    ensures { IfOk result (λ place. (place ≡ length constants.old) × (constants.new ≡ constants.old ++ constant.now ∷ [])) }
+    ensures { IfOk result (λ place. (place ≡ length constants.old)
+        × (constants.new ≡ constants.old ++ constant.now ∷ [])) }
 {
     let Ok(place) = u32::try_from(constants.len()) else {
         return Err(Memory);
@@ -396,8 +419,8 @@ fn turn(op: Cmp) -> Cmp
     }
 }
 
-/// Whether a tree is a constant to the conditions on the rows of this scope: it is pure, and doesn't read
-/// the row.
+/// Whether a tree is a constant to the conditions on the rows of this scope: it is pure, and
+/// doesn't read the row.
 #[cycle(is_constant)]
 pub fn is_constant(core: &Core, scope: u32) -> bool
     ensures { result ≡ is_constant_in scope core.now }

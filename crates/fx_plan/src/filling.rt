@@ -1,7 +1,8 @@
 //! Patterns with their constants.
 ghost use Rattle.std.specs.Prelude.{◌≡◌, ◌<◌, length, map, IfOk};
 ghost use Rattle.fx_types.specs.ValueView.{view};
-ghost use Rattle.fx_plan.specs.Outlines.{AreWithin, IsWithin, all_filled as all_filled_of, filled as filled_of, outline_list, constant_at};
+ghost use Rattle.fx_plan.specs.Outlines.{AreWithin, IsWithin, all_filled as all_filled_of};
+ghost use Rattle.fx_plan.specs.Outlines.{filled as filled_of, outline_list, constant_at};
 ghost use Rattle.row_queries.specs.Conditions.{condition_list};
 
 use crate::patterns::{Pattern, PatternNode};
@@ -41,7 +42,8 @@ pub fn fill(alloc: Global, pattern: &Pattern, constants: &[Value]) -> Result<Tes
 #[cycle(fill)]
 fn fill_all(alloc: Global, patterns: &[Pattern], constants: &[Value]) -> Result<Tests, Memory>
     requires { AreWithin (length constants.now) (outline_list patterns.now) }
-    ensures { IfOk result (λ ts. condition_list ts ≡ all_filled_of (map view constants.now) (outline_list patterns.now)) }
+    ensures { IfOk result (λ ts. condition_list ts
+        ≡ all_filled_of (map view constants.now) (outline_list patterns.now)) }
 {
     let mut tests = Tests::new(alloc);
     for pattern in patterns {

@@ -18,8 +18,8 @@ use fx_number::Num;
 use fx_types::{Ty, Value, Words};
 use std::alloc::Global;
 
-/// A cell's tree in which each largest query expression that isn't taken whole gives its first rows, as many
-/// as the limit says.
+/// A cell's tree in which each largest query expression that isn't taken whole gives its first
+/// rows, as many as the limit says.
 pub fn limit_queries(
     alloc: Global,
     schema: &Schema,
@@ -32,8 +32,8 @@ pub fn limit_queries(
     limit_queries_under(alloc, schema, limit, core, 0)
 }
 
-/// The same of a part of a tree, which stands under so many scopes. Where it is a query expression itself, it isn't taken
-/// whole.
+/// The same of a part of a tree, which stands under so many scopes. Where it is a query expression
+/// itself, it isn't taken whole.
 pub fn limit_queries_under(
     alloc: Global,
     schema: &Schema,
@@ -126,7 +126,8 @@ fn limit_dot(
     depth: u32,
 ) -> Result<Core, Memory>
     requires { IsLawfulSchema schema.now }
-    ensures { IfOk result (λ c. c ≡ with_limited_parts schema.now.tables limit depth (of (top.dot name.now) (cons part.now nil))) }
+    ensures { IfOk result (λ c. c ≡ with_limited_parts schema.now.tables limit depth
+        (of (top.dot name.now) (cons part.now nil))) }
 {
     let inner = limit_tree(alloc, schema, limit, part, depth, false)?;
     make_core::dot(alloc, inner, name.copy(alloc)?)
@@ -143,7 +144,8 @@ fn limit_coerced(
     depth: u32,
 ) -> Result<Core, Memory>
     requires { IsLawfulSchema schema.now }
-    ensures { IfOk result (λ c. c ≡ with_limited_parts schema.now.tables limit depth (of (top.coerce (shape ty.now)) (cons part.now nil))) }
+    ensures { IfOk result (λ c. c ≡ with_limited_parts schema.now.tables limit depth
+        (of (top.coerce (shape ty.now)) (cons part.now nil))) }
 {
     let inner = limit_tree(alloc, schema, limit, part, depth, false)?;
     make_core::coerce(alloc, inner, ty.copy(alloc)?)
@@ -160,7 +162,8 @@ fn limit_within(
     depth: u32,
 ) -> Result<Core, Memory>
     requires { IsLawfulSchema schema.now }
-    ensures { IfOk result (λ c. c ≡ with_limited_parts schema.now.tables limit depth (of top.within (cons outer.now (cons formula.now nil)))) }
+    ensures { IfOk result (λ c. c ≡ with_limited_parts schema.now.tables limit depth
+        (of top.within (cons outer.now (cons formula.now nil)))) }
 {
     let scope = limit_tree(alloc, schema, limit, outer, depth, false)?;
     let inside = deepen(depth, true)?;
@@ -181,8 +184,10 @@ fn limit_over(
     depth: u32,
 ) -> Result<Core, Memory>
     requires lawful { IsLawfulSchema schema.now }
-    requires first { takes_first ≡ takes_first_whole schema.now.tables depth (of (top.over fun) (cons table.now (all parts.now))) }
-    ensures { IfOk result (λ c. c ≡ with_limited_parts schema.now.tables limit depth (of (top.over fun) (cons table.now (all parts.now)))) }
+    requires first { takes_first ≡ takes_first_whole schema.now.tables depth
+        (of (top.over fun) (cons table.now (all parts.now))) }
+    ensures { IfOk result (λ c. c ≡ with_limited_parts schema.now.tables limit depth
+        (of (top.over fun) (cons table.now (all parts.now)))) }
 {
     let rows = limit_tree(alloc, schema, limit, table, depth, takes_first)?;
     let scoped = formulas_of(fun, parts.as_slice());
@@ -200,7 +205,8 @@ fn limit_record(
     depth: u32,
 ) -> Result<Core, Memory>
     requires { IsLawfulSchema schema.now }
-    ensures { IfOk result (λ c. c ≡ with_limited_parts schema.now.tables limit depth (of (top.rec (term_field_names fields.now)) (field_terms fields.now))) }
+    ensures { IfOk result (λ c. c ≡ with_limited_parts schema.now.tables limit depth
+        (of (top.rec (term_field_names fields.now)) (field_terms fields.now))) }
 {
     let items = limit_fields(alloc, schema, limit, fields.as_slice(), depth)?;
     Ok(make_core::record_of(items))
@@ -217,7 +223,8 @@ fn limit_act(
     depth: u32,
 ) -> Result<Core, Memory>
     requires { IsLawfulSchema schema.now }
-    ensures { IfOk result (λ c. c ≡ with_limited_parts schema.now.tables limit depth (of (top.act deed.now) (all parts.now))) }
+    ensures { IfOk result (λ c. c ≡ with_limited_parts schema.now.tables limit depth
+        (of (top.act deed.now) (all parts.now))) }
 {
     let scoped = Scoped::Others(is_update(deed));
     let items = limit_all(alloc, schema, limit, parts.as_slice(), scoped, depth)?;
@@ -235,7 +242,8 @@ fn limit_call(
     depth: u32,
 ) -> Result<Core, Memory>
     requires { IsLawfulSchema schema.now }
-    ensures { IfOk result (λ c. c ≡ with_limited_parts schema.now.tables limit depth (of (top.call fun) (all parts.now))) }
+    ensures { IfOk result (λ c. c ≡ with_limited_parts schema.now.tables limit depth
+        (of (top.call fun) (all parts.now))) }
 {
     let items = limit_among(alloc, schema, limit, parts, depth)?;
     Ok(make_core::call(fun, items))
@@ -252,7 +260,8 @@ fn limit_list(
     depth: u32,
 ) -> Result<Core, Memory>
     requires { IsLawfulSchema schema.now }
-    ensures { IfOk result (λ c. c ≡ with_limited_parts schema.now.tables limit depth (of (top.list (shape ty.now)) (all parts.now))) }
+    ensures { IfOk result (λ c. c ≡ with_limited_parts schema.now.tables limit depth
+        (of (top.list (shape ty.now)) (all parts.now))) }
 {
     let items = limit_among(alloc, schema, limit, parts, depth)?;
     Ok(make_core::list(ty.copy(alloc)?, items))
@@ -268,7 +277,8 @@ fn limit_chain(
     depth: u32,
 ) -> Result<Core, Memory>
     requires { IsLawfulSchema schema.now }
-    ensures { IfOk result (λ c. c ≡ with_limited_parts schema.now.tables limit depth (of top.chain (all parts.now))) }
+    ensures { IfOk result (λ c. c ≡ with_limited_parts schema.now.tables limit depth
+        (of top.chain (all parts.now))) }
 {
     let items = limit_among(alloc, schema, limit, parts, depth)?;
     Ok(make_core::chain(items))
@@ -285,7 +295,8 @@ fn limit_form(
     depth: u32,
 ) -> Result<Core, Memory>
     requires { IsLawfulSchema schema.now }
-    ensures { IfOk result (λ c. c ≡ with_limited_parts schema.now.tables limit depth (of (top.form form) (all parts.now))) }
+    ensures { IfOk result (λ c. c ≡ with_limited_parts schema.now.tables limit depth
+        (of (top.form form) (all parts.now))) }
 {
     let items = limit_among(alloc, schema, limit, parts, depth)?;
     Ok(make_core::form(form, items))
@@ -301,7 +312,8 @@ fn limit_among(
     depth: u32,
 ) -> Result<CoreArgs, Memory>
     requires { IsLawfulSchema schema.now }
-    ensures { IfOk result (λ cs. cs ≡ each_limited schema.now.tables limit (depth_at Nothing depth) 0 parts.now) }
+    ensures { IfOk result (λ cs. cs ≡ each_limited schema.now.tables limit (depth_at Nothing depth)
+        0 parts.now) }
 {
     limit_all(
         alloc,
@@ -324,7 +336,8 @@ fn limit_all(
     depth: u32,
 ) -> Result<CoreArgs, Memory>
     requires { IsLawfulSchema schema.now }
-    ensures { IfOk result (λ cs. cs ≡ each_limited schema.now.tables limit (depth_at scoped depth) 0 parts.now) }
+    ensures { IfOk result (λ cs. cs ≡ each_limited schema.now.tables limit (depth_at scoped depth) 0
+        parts.now) }
 {
     let mut items = CoreArgs::new(alloc);
     for (at, part) in parts.iter().enumerate() {

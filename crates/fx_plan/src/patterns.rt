@@ -1,5 +1,6 @@
 //! Row tests without their constants.
-ghost use Rattle.std.specs.Prelude.{◌≡◌, ◌≤◌, ◌++◌, ◌∷◌, [], length, slice_get, Some, OnOk, OnErr, MatchOption};
+ghost use Rattle.std.specs.Prelude.{◌≡◌, ◌≤◌, ◌++◌, ◌∷◌, [], length, slice_get, Some, OnOk, OnErr};
+ghost use Rattle.std.specs.Prelude.{MatchOption};
 
 use fx_base::Memory;
 use fx_types::Cmp;
@@ -12,15 +13,16 @@ pub struct Pattern {
     pub node: PatternNode,
 }
 
-// By hand, so that it is called: what is derived is opened wherever a value may end, which costs proofs seconds each time.
+// By hand, so that it is called: what is derived is opened wherever a value may end, which costs
+// proofs seconds each time.
 impl Drop for Pattern {
     fn drop(self) {
         let Pattern { node: _ } = self;
     }
 }
 
-/// What stands at the top of a pattern. Columns go by number, and `ID` is column 0. The last number of a
-/// variant that has a constant is its place.
+/// What stands at the top of a pattern. Columns go by number, and `ID` is column 0. The last number
+/// of a variant that has a constant is its place.
 #[cycle(pattern)]
 #[derive(Drop)]
 pub enum PatternNode {

@@ -26,8 +26,8 @@ pub struct Sketch {
     pub constants: CoreArgs,
 }
 
-/// The query of a sketch with these values of its constants, which takes at most so many rows. Where a
-/// constant is an error, its ranges are everything.
+/// The query of a sketch with these values of its constants, which takes at most so many rows.
+/// Where a constant is an error, its ranges are everything.
 pub fn plan(
     alloc: Global,
     schema: &Schema,
@@ -36,7 +36,8 @@ pub fn plan(
     take: Option<u32>,
 ) -> Result<Query, Memory>
     requires { CanPlan schema.now.tables sketch.now (map view constants.now) }
-    ensures plan { IfOk result (λ q. IsPlan schema.now.tables sketch.now (map view constants.now) take q) }
+    ensures plan { IfOk result (λ q. IsPlan schema.now.tables sketch.now (map view constants.now)
+        take q) }
     ensures query { IfOk result (λ q. IsQuery schema.now.tables q) }
 {
     let test = fill(alloc, &sketch.test, constants)?;
@@ -63,9 +64,11 @@ fn reach_of(
     test: &Test,
     constants: &[Value],
 ) -> Result<Reach, Memory>
-    requires taken { list_any is_error (map view constants.now) ≡ false → TakesComparisons table.now test.now }
+    requires taken { list_any is_error (map view constants.now) ≡ false
+        → TakesComparisons table.now test.now }
     requires few { length table.now.columns ≤ 63 }
-    ensures ranges { IfOk result (λ r. IsReachBy (list_any is_error (map view constants.now)) table.now test.now r) }
+    ensures ranges { IfOk result (λ r. IsReachBy (list_any is_error (map view constants.now))
+        table.now test.now r) }
     ensures within { IfOk result (λ r. r.column ≤ length table.now.columns) }
     ensures rises { IfOk result (λ r. AreRangesRising r.ranges) }
     ensures reaches { IfOk result (λ r. IsIndexed table.now r.column ⊎ HoldEveryKey r.ranges) }

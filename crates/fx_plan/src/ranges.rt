@@ -1,5 +1,6 @@
 //! Ranges of keys: on the first indexed column that a conjunct of a test compares.
-ghost use Rattle.std.specs.Prelude.{◌≡◌, ◌≢◌, ◌≤◌, ◌∷◌, [], None, true, false, length, pos, IfOk, MatchOption, ◌⊎◌};
+ghost use Rattle.std.specs.Prelude.{◌≡◌, ◌≢◌, ◌≤◌, ◌∷◌, [], None, true, false, length, pos, IfOk};
+ghost use Rattle.std.specs.Prelude.{MatchOption, ◌⊎◌};
 ghost use Rattle.fx_types.specs.declared.comparisons.Cmp.TheVariants.{Ne};
 ghost use Rattle.fx_types.specs.TypeView.{shape};
 ghost use Rattle.fx_types.specs.ValueView.{view};
@@ -7,8 +8,14 @@ ghost use Rattle.fx_types.specs.Values.{number};
 ghost use Rattle.fx_value.specs.Keys.{key_bytes};
 ghost use Rattle.fx_value.specs.Operators.{holds_of};
 ghost use Rattle.fx_value.specs.Order.{IsScalar};
-ghost use Rattle.fx_plan.specs.Ranges.{AllTaken, IsReach, NoRowIsMissed, TakesComparisons, everything as everything_of, all_comparisons, comparisons, is_numbers, is_reached, serves};
-ghost use Rattle.fx_plan.specs.Spans.{AreTakenBy, IsSpan, IsSpanOf, after as after_key, both_from, both_ranges, both_spans, both_upto, joined_spans, least as least_key, no_keys as nothing, range_by as by_constant, range_by_blank as by_blank, range_of as of_constant, span_ranges};
+ghost use Rattle.fx_plan.specs.Ranges.{AllTaken, IsReach, NoRowIsMissed, TakesComparisons};
+ghost use Rattle.fx_plan.specs.Ranges.{everything as everything_of, all_comparisons, comparisons};
+ghost use Rattle.fx_plan.specs.Ranges.{is_numbers, is_reached, serves};
+ghost use Rattle.fx_plan.specs.Spans.{AreTakenBy, IsSpan, IsSpanOf, after as after_key, both_from};
+ghost use Rattle.fx_plan.specs.Spans.{both_ranges, both_spans, both_upto, joined_spans};
+ghost use Rattle.fx_plan.specs.Spans.{least as least_key, no_keys as nothing};
+ghost use Rattle.fx_plan.specs.Spans.{range_by as by_constant, range_by_blank as by_blank};
+ghost use Rattle.fx_plan.specs.Spans.{range_of as of_constant, span_ranges};
 ghost use Rattle.row_queries.specs.Conditions.{condition_list};
 ghost use Rattle.row_queries.specs.Queries.{IsIndexed};
 ghost use Rattle.row_queries.specs.Ranges.{AreRangesRising, HoldEveryKey};
@@ -28,8 +35,8 @@ pub struct Reach {
     pub ranges: RangeList,
 }
 
-// Where the values lie that meet some comparisons: a range of the keys of those other than blank, whether
-// blank meets them, and whether 0 does.
+// Where the values lie that meet some comparisons: a range of the keys of those other than blank,
+// whether blank meets them, and whether 0 does.
 #[derive(Drop)]
 struct Span {
     range: KeyRange,
@@ -37,9 +44,10 @@ struct Span {
     zero: bool,
 }
 
-/// The ranges on the first indexed column that a conjunct of the test compares by `=`, `<`, `<=`, `>` or
-/// `>=`, where each column takes its comparisons: the keys of exactly the values that meet all of these, and
-/// blank's in a column of numbers also where 0 meets them. Where there is no such column, all keys.
+/// The ranges on the first indexed column that a conjunct of the test compares by `=`, `<`, `<=`,
+/// `>` or `>=`, where each column takes its comparisons: the keys of exactly the values that meet
+/// all of these, and blank's in a column of numbers also where 0 meets them. Where there is no such
+/// column, all keys.
 pub fn ranges_of(alloc: Global, table: &TableShape, test: &Test) -> Result<Reach, Memory>
     requires taken { TakesComparisons table.now test.now }
     requires few { length table.now.columns ≤ 63 }
@@ -69,8 +77,10 @@ pub fn no_row_is_missed()
 // Where the values lie that meet the comparisons of an indexed column, if there are any.
 fn span_on(alloc: Global, test: &Test, column: &Column, number: u16) -> Result<Option<Span>, Memory>
     requires { AllTaken (shape column.now.ty) (comparisons number test.now) }
-    ensures { IfOk result (λ found. MatchOption found (is_reached column.now number test.now ≡ false)
-        (λ s. (is_reached column.now number test.now ≡ true) × IsSpan (is_numbers (shape column.now.ty)) s (comparisons number test.now))) }
+    ensures { IfOk result (λ found. MatchOption found
+        (is_reached column.now number test.now ≡ false)
+        (λ s. (is_reached column.now number test.now ≡ true)
+        × IsSpan (is_numbers (shape column.now.ty)) s (comparisons number test.now))) }
 {
     if column.indexed || column.unique {
         span_of(alloc, test, number, is_number(column))
@@ -138,7 +148,8 @@ fn span_of_all(
     numbers: bool,
 ) -> Result<Option<Span>, Memory>
     requires { AreTakenBy numbers (all_comparisons column (condition_list tests.now)) }
-    ensures { IfOk result (λ found. IsSpanOf numbers found (all_comparisons column (condition_list tests.now))) }
+    ensures { IfOk result (λ found. IsSpanOf numbers found
+        (all_comparisons column (condition_list tests.now))) }
 {
     let mut found = None;
     for test in tests {
@@ -148,7 +159,8 @@ fn span_of_all(
     Ok(found)
 }
 
-// The span of comparisons of which one part has this one and the other part that one, if there are any.
+// The span of comparisons of which one part has this one and the other part that one, if there are
+// any.
 fn join(a: Option<Span>, b: Option<Span>) -> Option<Span>
     ensures { result ≡ joined_spans a b }
 {

@@ -2,7 +2,9 @@
 ghost use Rattle.std.specs.Prelude.{◌≡◌, suc, map, IfOk};
 ghost use Rattle.fx_types.specs.ValueView.{view};
 ghost use Rattle.fx_plan.specs.Outlines.{constant_at};
-ghost use Rattle.fx_plan.specs.Settled.{as_value, call_settled, condition_settled, conditions_settled, query_settled as query_settled_in, search_settled, with_first};
+ghost use Rattle.fx_plan.specs.Settled.{as_value, call_settled, condition_settled};
+ghost use Rattle.fx_plan.specs.Settled.{conditions_settled, query_settled as query_settled_in};
+ghost use Rattle.fx_plan.specs.Settled.{search_settled, with_first};
 ghost use Rattle.fx_core.specs.Term.{all};
 
 use crate::conditions::is_constant;
@@ -24,7 +26,8 @@ pub fn settled_query(
     query_from(alloc, query, depth, values, &mut place)
 }
 
-/// A call over a query expression, with the values in the places of the constants of that; the other parts stay.
+/// A call over a query expression, with the values in the places of the constants of that; the
+/// other parts stay.
 pub fn settled_call(
     alloc: Global,
     call: &Core,
@@ -77,7 +80,8 @@ fn query_from(
     place: &mut u32,
 ) -> Result<Core, Memory>
     requires { place.old ≡ 0 }
-    ensures { IfOk result (λ q. (q, place.new) ≡ query_settled_in depth (map view values.now) query.now) }
+    ensures { IfOk result (λ q. (q, place.new)
+        ≡ query_settled_in depth (map view values.now) query.now) }
 {
     match &query.node {
         CoreNode::Over(fun, table, parts) => {
@@ -121,7 +125,8 @@ fn condition(
     values: &[Value],
     place: &mut u32,
 ) -> Result<Core, Memory>
-    ensures { IfOk result (λ c. (c, place.new) ≡ condition_settled depth (map view values.now) part.now place.old) }
+    ensures { IfOk result (λ c. (c, place.new)
+        ≡ condition_settled depth (map view values.now) part.now place.old) }
 {
     if is_constant(part, depth) {
         return next_value(alloc, values, place);
@@ -157,7 +162,8 @@ fn conditions(
     values: &[Value],
     place: &mut u32,
 ) -> Result<CoreArgs, Memory>
-    ensures { IfOk result (λ cs. (all cs, place.new) ≡ conditions_settled depth (map view values.now) (all parts.now) place.old) }
+    ensures { IfOk result (λ cs. (all cs, place.new)
+        ≡ conditions_settled depth (map view values.now) (all parts.now) place.old) }
 {
     let mut settled = CoreArgs::new(alloc);
     for part in parts {
@@ -168,7 +174,8 @@ fn conditions(
 
 // The value at this place as a tree; then the place is the next.
 fn next_value(alloc: Global, values: &[Value], place: &mut u32) -> Result<Core, Memory>
-    ensures { IfOk result (λ c. (c ≡ as_value (constant_at (map view values.now) place.old)) × (place.new ≡ suc place.old)) }
+    ensures { IfOk result (λ c. (c ≡ as_value (constant_at (map view values.now) place.old))
+        × (place.new ≡ suc place.old)) }
 {
     let value = match values.get(*place as usize) {
         Some(value) => value.copy(alloc)?,

@@ -1,8 +1,9 @@
 // Laws of settled query expressions.
-ghost use Rattle.fx_plan.specs.Settled.{SearchesAreWorth, SearchesHaveTypes, SettledAreNoMore, SettledAreWorth, SettledHaveTypes};
+ghost use Rattle.fx_plan.specs.Settled.{SearchesAreWorth, SearchesHaveTypes, SettledAreNoMore};
+ghost use Rattle.fx_plan.specs.Settled.{SettledAreWorth, SettledHaveTypes};
 
-/// A law, and no work: what a query expression or a search is worth in which the values of its constants stand for
-/// them, it is worth itself.
+/// A law, and no work: what a query expression or a search is worth in which the values of its
+/// constants stand for them, it is worth itself.
 pub fn settled_are_worth()
     ensures queries { SettledAreWorth }
     ensures searches { SearchesAreWorth }

@@ -1,7 +1,12 @@
 //! Where a formula takes rows of tables.
 ghost use Rattle.std.specs.Prelude.{◌≡◌, ◌+◌, ◌<◌, ◌^◌, length, option_map, IfOk, OnOk};
-ghost use Rattle.fx_plan.specs.SitePlaces.{is_scoped, scope_opened as opened_in, parts_in, place_position, stand_at, within_call as within_in};
-ghost use Rattle.fx_plan.specs.Sites.{is_filter as is_filter_in, is_formula as is_formula_in, is_query as is_query_in, is_update as is_update_in, listed, own_use, part_at, sites_of, takes_whole as takes_whole_in, totals as totals_in, totals_column as totals_column_in, uses_among, uses_in};
+ghost use Rattle.fx_plan.specs.SitePlaces.{is_scoped, scope_opened as opened_in, parts_in};
+ghost use Rattle.fx_plan.specs.SitePlaces.{place_position, stand_at, within_call as within_in};
+ghost use Rattle.fx_plan.specs.Sites.{is_filter as is_filter_in, is_formula as is_formula_in};
+ghost use Rattle.fx_plan.specs.Sites.{is_query as is_query_in, is_update as is_update_in, listed};
+ghost use Rattle.fx_plan.specs.Sites.{own_use, part_at, sites_of, takes_whole as takes_whole_in};
+ghost use Rattle.fx_plan.specs.Sites.{totals as totals_in, totals_column as totals_column_in};
+ghost use Rattle.fx_plan.specs.Sites.{uses_among, uses_in};
 ghost use Rattle.fx_core.specs.Lawful.{IsLawfulSchema};
 ghost use Rattle.fx_core.specs.Term.{all, field_terms};
 
@@ -61,7 +66,8 @@ pub fn formulas_of(fun: Fun, parts: &[Core]) -> Scoped
 impl Place {
     // Where a part stands in a call of this name, or in what has none.
     fn within(&self, name: Option<&'static str>) -> Place
-        ensures { place_position result ≡ within_in (option_map (λ n. n.now) name.entry) (place_position self.now) }
+        ensures { place_position result ≡ within_in (option_map (λ n. n.now) name.entry)
+            (place_position self.now) }
     {
         Place {
             depth: self.depth,
@@ -111,14 +117,15 @@ fn list(
     sites: &mut Vec<Site>,
 ) -> Result<(), Memory>
     requires { IsLawfulSchema schema.now }
-    ensures { OnOk result (sites.new.items ≡ listed sites.old.items (uses_in schema.now.tables (place_position place.now) core.now)) }
+    ensures { OnOk result (sites.new.items ≡ listed sites.old.items
+        (uses_in schema.now.tables (place_position place.now) core.now)) }
 {
     let is_query = list_own(alloc, schema, core, place, sites)?;
     list_parts(alloc, schema, core, place, is_query, sites)
 }
 
-// Lists the tree itself, if it is a query expression and not the first part of a larger one, and says
-// whether it is a query expression.
+// Lists the tree itself, if it is a query expression and not the first part of a larger one, and
+// says whether it is a query expression.
 fn list_own(
     alloc: Global,
     schema: &Schema,
@@ -127,7 +134,8 @@ fn list_own(
     sites: &mut Vec<Site>,
 ) -> Result<bool, Memory>
     requires { IsLawfulSchema schema.now }
-    ensures sites { OnOk result (sites.new.items ≡ listed sites.old.items (own_use schema.now.tables (place_position place.now) core.now)) }
+    ensures sites { OnOk result (sites.new.items
+        ≡ listed sites.old.items (own_use schema.now.tables (place_position place.now) core.now)) }
     ensures query { IfOk result (λ b. b ≡ is_query_in schema.now.tables place.now.depth core.now) }
 {
     let Some(query) = sketch_under(alloc, schema, core, place.depth)? else {
@@ -160,7 +168,9 @@ fn list_parts(
 ) -> Result<(), Memory>
     requires lawful { IsLawfulSchema schema.now }
     requires query { is_query ≡ is_query_in schema.now.tables place.now.depth core.now }
-    ensures { OnOk result (sites.new.items ≡ listed sites.old.items (uses_among schema.now.tables (part_at schema.now.tables (place_position place.now) core.now) 0 (parts_in core.now))) }
+    ensures { OnOk result (sites.new.items ≡ listed sites.old.items
+        (uses_among schema.now.tables (part_at schema.now.tables (place_position place.now)
+        core.now) 0 (parts_in core.now))) }
 {
     match &core.node {
         CoreNode::Const(_)
@@ -268,7 +278,9 @@ fn list_among(
     sites: &mut Vec<Site>,
 ) -> Result<(), Memory>
     requires { IsLawfulSchema schema.now }
-    ensures { OnOk result (sites.new.items ≡ listed sites.old.items (uses_among schema.now.tables (stand_at scoped (place_position place.now)) 0 (all parts.now))) }
+    ensures { OnOk result (sites.new.items ≡ listed sites.old.items
+        (uses_among schema.now.tables (stand_at scoped (place_position place.now)) 0
+        (all parts.now))) }
 {
     for (at, part) in parts.iter().enumerate() {
         let stand = place.open(scoped.opens(at))?;
@@ -287,7 +299,9 @@ fn list_fields(
     sites: &mut Vec<Site>,
 ) -> Result<(), Memory>
     requires { IsLawfulSchema schema.now }
-    ensures { OnOk result (sites.new.items ≡ listed sites.old.items (uses_among schema.now.tables (stand_at Scoped.Nothing (place_position place.now)) 0 (field_terms fields.now))) }
+    ensures { OnOk result (sites.new.items ≡ listed sites.old.items
+        (uses_among schema.now.tables (stand_at Scoped.Nothing (place_position place.now)) 0
+        (field_terms fields.now))) }
 {
     for (_, part) in fields {
         list(alloc, schema, part, place, sites)?;
@@ -341,7 +355,8 @@ fn is_filter(
     depth: u32,
 ) -> Result<bool, Memory>
     requires { IsLawfulSchema schema.now }
-    ensures { IfOk result (λ b. b ≡ is_filter_in schema.now.tables depth rows.now (all conditions.now)) }
+    ensures { IfOk result (λ b. b ≡ is_filter_in schema.now.tables depth rows.now
+        (all conditions.now)) }
 {
     match sketch_under(alloc, schema, rows, depth)? {
         Some(rows) => Ok(filter_sketch(alloc, schema, rows, conditions, depth)?.is_some()),

@@ -1,6 +1,9 @@
 //! Sketches of query expressions.
 ghost use Rattle.std.specs.Prelude.{◌≡◌, IfOk};
-ghost use Rattle.fx_plan.specs.QueryExpressions.{filter_sketch as filtered_in, is_falling as is_falling_in, sketch_of, sorted as sorted_in, sorted_by as sorted_by_in, table_sketch as whole_table_in};
+ghost use Rattle.fx_plan.specs.QueryExpressions.{filter_sketch as filtered_in};
+ghost use Rattle.fx_plan.specs.QueryExpressions.{is_falling as is_falling_in, sketch_of};
+ghost use Rattle.fx_plan.specs.QueryExpressions.{sorted as sorted_in, sorted_by as sorted_by_in};
+ghost use Rattle.fx_plan.specs.QueryExpressions.{table_sketch as whole_table_in};
 ghost use Rattle.fx_core.specs.Lawful.{IsLawfulSchema};
 ghost use Rattle.fx_core.specs.Term.{all};
 

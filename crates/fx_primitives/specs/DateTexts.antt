@@ -3,7 +3,8 @@ use Rattle.std.specs.Prelude.{ℕ, ℤ, List, ◌∷◌, ◌++◌}
 use Rattle.fx_types.specs.Civil.{civil_of}
 use Rattle.fx_types.specs.DateText.{two_digits, four_digits, date_text}
 use Rattle.fx_types.specs.declared.formats.DateFormat.{DateFormat}
-use Rattle.fx_types.specs.declared.formats.DateFormat.TheVariants.{YearMonthDay, DayMonthYear, MonthDayYear}
+use Rattle.fx_types.specs.declared.formats.DateFormat.TheVariants.{YearMonthDay, DayMonthYear}
+use Rattle.fx_types.specs.declared.formats.DateFormat.TheVariants.{MonthDayYear}
 
 -- two numbers below 100 and one below 10000, with slashes between
 abbrev pub slashed : ℕ → ℕ → ℕ → List ℕ

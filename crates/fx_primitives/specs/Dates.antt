@@ -1,5 +1,6 @@
 -- The functions of dates.
-use Rattle.std.specs.Prelude.{◌≡◌, ℕ, suc, ◌+◌, ◌-◌, ◌*◌, ◌/◌, ℤ, pos, negsuc, ◌+ℤ◌, ◌-ℤ◌, ◌*ℤ◌, unsigned_abs, Result, Ok, Err, nat_lt, if◌then◌else◌, min}
+use Rattle.std.specs.Prelude.{◌≡◌, ℕ, suc, ◌+◌, ◌-◌, ◌*◌, ◌/◌, ℤ, pos, negsuc, ◌+ℤ◌, ◌-ℤ◌, ◌*ℤ◌}
+use Rattle.std.specs.Prelude.{unsigned_abs, Result, Ok, Err, nat_lt, if◌then◌else◌, min}
 use Rattle.std.specs.Int.{int_rem_euclid}
 use Rattle.jiff_core.specs.Calendar.{days_in_month, IsBetween}
 use Rattle.fx_types.specs.Days.{IsDay}
@@ -24,7 +25,8 @@ full_year (negsuc n) = negsuc n
 -- the number of the day with these parts: so many months after the January of its year, and so many
 -- days after the first of that month, each counted from 1
 abbrev pub number_of_parts : ℤ → ℤ → ℤ → ℤ
-number_of_parts year month day = first_day_of_month ((full_year year *ℤ pos 12) +ℤ (month -ℤ pos 1)) +ℤ (day -ℤ pos 1)
+number_of_parts year month day = first_day_of_month ((full_year year *ℤ pos 12) +ℤ (month -ℤ pos 1))
+    +ℤ (day -ℤ pos 1)
 
 -- the day is in the month of this number, and is that month's day of this place, or its last one
 -- where it has fewer
@@ -36,7 +38,8 @@ IsInMonth k place d =
 -- that day, or InvalidArgument where its year is not from 1900 to 9999
 abbrev pub IsInMonthOrInvalid : ℤ → ℕ → Result ℤ Kind → Type 0
 IsInMonthOrInvalid k place (Ok d) = IsDay d × IsInMonth k place d
-IsInMonthOrInvalid k place (Err e) = (e ≡ InvalidArgument) × ¬ IsBetween (pos 1900) (pos 9999) (year_of k)
+IsInMonthOrInvalid k place (Err e) = (e ≡ InvalidArgument)
+    × ¬ IsBetween (pos 1900) (pos 9999) (year_of k)
 
 -- the answer of a day so many months later, which keeps its place in the month
 abbrev pub IsMonthsLater : ℤ → ℤ → Result ℤ Kind → Type 0

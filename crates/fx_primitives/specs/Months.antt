@@ -1,5 +1,6 @@
 -- The months of the calendar, through all years. A month is numbered from January of the year 0.
-use Rattle.std.specs.Prelude.{ℕ, zero, suc, ◌+◌, ◌-◌, ◌*◌, ℤ, pos, negsuc, neg_ℤ, ◌+ℤ◌, ◌-ℤ◌, unsigned_abs}
+use Rattle.std.specs.Prelude.{ℕ, zero, suc, ◌+◌, ◌-◌, ◌*◌, ℤ, pos, negsuc, neg_ℤ, ◌+ℤ◌, ◌-ℤ◌}
+use Rattle.std.specs.Prelude.{unsigned_abs}
 use Rattle.std.specs.Int.{int_div_euclid, int_rem_euclid}
 use Rattle.jiff_core.specs.Calendar.{days_in_year, days_of_months}
 use Rattle.fx_types.specs.declared.civil.CivilDate.{CivilDate}
@@ -31,4 +32,5 @@ year_begin (negsuc n) = neg_ℤ (pos (days_of_earlier_years (suc n)))
 
 -- the number of the first day of a month, where 1970-01-01 has the number 0
 unfoldable pub first_day_of_month : ℤ → ℤ
-first_day_of_month k = year_begin (year_of k) +ℤ pos (days_of_months (year_of k) (month_of k - 1)) -ℤ year_begin (pos 1970)
+first_day_of_month k = year_begin (year_of k) +ℤ pos (days_of_months (year_of k) (month_of k - 1))
+    -ℤ year_begin (pos 1970)

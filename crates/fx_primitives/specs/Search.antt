@@ -1,5 +1,6 @@
 -- Where a part stands in a text. Places are counted from 0, positions from 1.
-use Rattle.std.specs.Prelude.{◌≡◌, ℕ, suc, ℤ, pos, ◌<◌, ◌≤◌, List, length, take, drop, Option, Some, None, Result, Ok, Err}
+use Rattle.std.specs.Prelude.{◌≡◌, ℕ, suc, ℤ, pos, ◌<◌, ◌≤◌, List, length, take, drop, Option, Some}
+use Rattle.std.specs.Prelude.{None, Result, Ok, Err}
 use Rattle.fx_types.specs.declared.faults.Kind.{Kind}
 use Rattle.fx_types.specs.declared.faults.Kind.TheVariants.{InvalidArgument}
 
@@ -32,8 +33,10 @@ position_of (Some place) = Some (suc place)
 abbrev pub IsSearchStart : List ℕ → ℤ → ℕ → Type 0
 IsSearchStart text start place = (start ≡ pos (suc place)) × (place ≤ length text)
 
--- the answer of a search from a position on: the position of the first place at which the part stands,
--- nothing where there is none, and InvalidArgument where the search can't start there
+-- the answer of a search from a position on: the position of the first place at which the part
+-- stands, nothing where there is none, and InvalidArgument where the search can't start there
 abbrev pub IsFound : List ℕ → List ℕ → ℤ → Result (Option ℕ) Kind → Type 0
-IsFound part text start (Ok found) = (from : ℕ) × (place : Option ℕ) × IsSearchStart text start from × IsFoundFrom part text from place × (found ≡ position_of place)
-IsFound part text start (Err kind) = (kind ≡ InvalidArgument) × ((from : ℕ) → ¬ IsSearchStart text start from)
+IsFound part text start (Ok found) = (from : ℕ) × (place : Option ℕ) × IsSearchStart text start from
+    × IsFoundFrom part text from place × (found ≡ position_of place)
+IsFound part text start (Err kind) = (kind ≡ InvalidArgument)
+    × ((from : ℕ) → ¬ IsSearchStart text start from)

@@ -1,5 +1,8 @@
--- The texts that functions make of texts. A text is the list of its scalar values, and a position counts them from 1.
-use Rattle.std.specs.Prelude.{ℕ, suc, ℤ, pos, ◌+◌, ◌-◌, ◌&&◌, not, Bool, false, if◌then◌else◌, nat_le, List, [], ◌∷◌, ◌++◌, length, map, take, drop, Option, Some, None, Result, Ok, Err, encode_utf8_all}
+-- The texts that functions make of texts. A text is the list of its scalar values, and a position
+-- counts them from 1.
+use Rattle.std.specs.Prelude.{ℕ, suc, ℤ, pos, ◌+◌, ◌-◌, ◌&&◌, not, Bool, false, if◌then◌else◌}
+use Rattle.std.specs.Prelude.{nat_le, List, [], ◌∷◌, ◌++◌, length, map, take, drop, Option, Some}
+use Rattle.std.specs.Prelude.{None, Result, Ok, Err, encode_utf8_all}
 use Rattle.std.specs.Char.{to_ascii_lowercase, to_ascii_uppercase}
 use Rattle.std.specs.List.{prefix_len}
 use Rattle.fx_types.specs.declared.faults.Kind.{Kind}
@@ -39,7 +42,8 @@ mid_of cs (pos (suc i)) None = text_or_quota (drop i cs)
 mid_of cs (pos (suc i)) (Some (pos n)) = text_or_quota (take n (drop i cs))
 mid_of cs position count = Err InvalidArgument
 
--- the text with so many scalar values from a place, counted from 0, replaced; past the end there are none
+-- the text with so many scalar values from a place, counted from 0, replaced; past the end there
+-- are none
 abbrev pub spliced : List ℕ → ℕ → ℕ → List ℕ → List ℕ
 spliced cs i n new = take i cs ++ (new ++ drop (i + n) cs)
 
@@ -68,7 +72,8 @@ begins_word (c ∷ cs) = not (is_space c)
 -- of the spaces those alone that another character follows: one of each run, and none at the end
 abbrev pub single_spaced : List ℕ → List ℕ
 single_spaced [] = []
-single_spaced (c ∷ cs) = if is_space c && not (begins_word cs) then single_spaced cs else c ∷ single_spaced cs
+single_spaced (c ∷ cs) = if is_space c && not (begins_word cs) then single_spaced cs else c
+    ∷ single_spaced cs
 
 -- spaces taken off both ends, and each run of inner ones made one
 abbrev pub trimmed : List ℕ → List ℕ

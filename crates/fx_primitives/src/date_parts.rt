@@ -3,16 +3,18 @@ ghost use Rattle.std.specs.Prelude.{◌≡◌, ℤ, ◌/◌, ◌^◌, ◌+ℤ◌
 ghost use Rattle.jiff_core.specs.Calendar.{IsWithin};
 ghost use Rattle.fx_types.specs.Days.{IsDay};
 ghost use Rattle.fx_types.specs.Civil.{civil_of};
-ghost use Rattle.fx_primitives.specs.Dates.{IsDayOrInvalid, number_of_parts, full_year as full_year_of, weekday_of};
+ghost use Rattle.fx_primitives.specs.Dates.{IsDayOrInvalid, number_of_parts};
+ghost use Rattle.fx_primitives.specs.Dates.{full_year as full_year_of, weekday_of};
 
 use crate::months::{day_of_number, first_day};
 use fx_types::{Day, Kind, civil_date, plain_date};
 
 const DAY_SECONDS: u64 = 86_400;
 
-/// The day with these parts, each a whole number of any size: months before 1 and after 12 lie in other
-/// years, and days before 1 and after the month's last in other months. A year from 0 to 1899 has 1900
-/// added first. `InvalidArgument` exactly where the day is not from 1900-01-01 to 9999-12-31.
+/// The day with these parts, each a whole number of any size: months before 1 and after 12 lie in
+/// other years, and days before 1 and after the month's last in other months. A year from 0 to 1899
+/// has 1900 added first. `InvalidArgument` exactly where the day is not from 1900-01-01 to
+/// 9999-12-31.
 pub fn date(year: i64, month: i64, day: i64) -> Result<Day, Kind>
     ensures { IsDayOrInvalid (number_of_parts year month day) result }
 {
@@ -20,7 +22,8 @@ pub fn date(year: i64, month: i64, day: i64) -> Result<Day, Kind>
     day_of_number(day_after(first, day))
 }
 
-/// A law, and no work: the day with the year, the month and the day of the month of a day is that day.
+/// A law, and no work: the day with the year, the month and the day of the month of a day is that
+/// day.
 pub fn parts_give_the_day()
     ensures { (z : ℤ) → IsDay z → let d = civil_of z in
         number_of_parts (pos d.year) (pos d.month) (pos d.day) ≡ z }
@@ -84,8 +87,8 @@ pub fn weekday(day: Day) -> u8
         .unsigned_abs()
 }
 
-/// The day of a moment, in UTC. A moment is seconds since 1970-01-01. `InvalidArgument` exactly past
-/// 9999-12-31.
+/// The day of a moment, in UTC. A moment is seconds since 1970-01-01. `InvalidArgument` exactly
+/// past 9999-12-31.
 pub fn today(moment: u64) -> Result<Day, Kind>
     ensures { IsDayOrInvalid (pos (moment / 86400)) result }
 {

@@ -2,7 +2,8 @@
 ghost use Rattle.std.specs.Prelude.{◌≡◌, ◌↔◌, IfOk, IsTrue};
 ghost use Rattle.caseless.specs.Caseless.{default_case_fold};
 ghost use Rattle.fx_types.specs.Words.{scalars_of};
-ghost use Rattle.fx_primitives.specs.Folding.{BeginsWithoutCase, EndsWithoutCase, HasPartWithoutCase};
+ghost use Rattle.fx_primitives.specs.Folding.{BeginsWithoutCase, EndsWithoutCase};
+ghost use Rattle.fx_primitives.specs.Folding.{HasPartWithoutCase};
 
 use crate::search::find_from;
 use caseless::Caseless;

@@ -1,7 +1,9 @@
 //! What many numbers come to, blank ones left out.
-ghost use Rattle.std.specs.Prelude.{◌≡◌, ◌*◌, ◌<◌, ◌≤◌, ◌++◌, ℤ, List, MatchOption, Some, neg_ℤ, option_to_list, pos, ◌≤ℤ◌};
+ghost use Rattle.std.specs.Prelude.{◌≡◌, ◌*◌, ◌<◌, ◌≤◌, ◌++◌, ℤ, List, MatchOption, Some, neg_ℤ};
+ghost use Rattle.std.specs.Prelude.{option_to_list, pos, ◌≤ℤ◌};
 ghost use Rattle.fx_number.specs.Decimal.{IsInRange, greatest as most, rounded};
-ghost use Rattle.fx_primitives.specs.Folds.{AreSummedUp, IsGreatest, IsLeast, IsSum, average_of, nonblank};
+ghost use Rattle.fx_primitives.specs.Folds.{AreSummedUp, IsGreatest, IsLeast, IsSum, average_of};
+ghost use Rattle.fx_primitives.specs.Folds.{nonblank};
 
 use fx_number::Num;
 use fx_types::Kind;

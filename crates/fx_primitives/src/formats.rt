@@ -1,8 +1,11 @@
 //! Numbers by a format.
-ghost use Rattle.std.specs.Prelude.{◌≡◌, ◌+◌, ◌%◌, ◌++◌, ◌∷◌, [], ◌<◌, ◌^◌, IfOk, IsAscii, OnOk, string_bytes};
+ghost use Rattle.std.specs.Prelude.{◌≡◌, ◌+◌, ◌%◌, ◌++◌, ◌∷◌, [], ◌<◌, ◌^◌, IfOk, IsAscii, OnOk};
+ghost use Rattle.std.specs.Prelude.{string_bytes};
 ghost use Rattle.fx_types.specs.Words.{scalars_of};
 ghost use Rattle.fx_number.specs.Spelling.{point_and};
-ghost use Rattle.fx_primitives.specs.Formats.{comma_before, decimals_of, formatted_number, is_grouped as is_grouped_format, last_digits, units_of, units_text, whole_text, with_commas};
+ghost use Rattle.fx_primitives.specs.Formats.{comma_before, decimals_of, formatted_number};
+ghost use Rattle.fx_primitives.specs.Formats.{is_grouped as is_grouped_format, last_digits};
+ghost use Rattle.fx_primitives.specs.Formats.{units_of, units_text, whole_text, with_commas};
 
 use fx_base::Memory;
 use fx_number::Num;
@@ -69,7 +72,8 @@ fn push_units(
 
 // Writes a whole number, with commas between groups of three digits or without.
 fn push_whole(alloc: Global, text: &mut String, grouped: bool, whole: u64) -> Result<(), Memory>
-    ensures { OnOk result (string_bytes text.new ≡ string_bytes text.old ++ whole_text grouped whole) }
+    ensures { OnOk result (string_bytes text.new
+        ≡ string_bytes text.old ++ whole_text grouped whole) }
 {
     let digits = format!(in alloc; "{whole}")?;
     if grouped {

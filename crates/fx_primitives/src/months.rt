@@ -1,10 +1,12 @@
 // The months of all years, numbered from January of the year 0.
-ghost use Rattle.std.specs.Prelude.{◌≡◌, ◌+ℤ◌, ◌+◌, ◌/◌, ◌%◌, ◌^◌, ◌<◌, ◌≤◌, ◌*ℤ◌, pos, MatchOption};
+ghost use Rattle.std.specs.Prelude.{◌≡◌, ◌+ℤ◌, ◌+◌, ◌/◌, ◌%◌, ◌^◌, ◌<◌, ◌≤◌, ◌*ℤ◌, pos};
+ghost use Rattle.std.specs.Prelude.{MatchOption};
 ghost use Rattle.std.specs.Int.{IsInRange};
 ghost use Rattle.jiff_core.specs.Calendar.{IsBetween, IsEpochDay, IsWithin, days_from_civil};
 ghost use Rattle.fx_types.specs.Civil.{IsCalendarDate};
 ghost use Rattle.fx_primitives.specs.Dates.{IsDayOrInvalid, IsInMonthOrInvalid, IsMonthsLater};
-ghost use Rattle.fx_primitives.specs.Months.{first_day_of_month, month_number as number_of_month, month_of, year_of};
+ghost use Rattle.fx_primitives.specs.Months.{first_day_of_month, month_number as number_of_month};
+ghost use Rattle.fx_primitives.specs.Months.{month_of, year_of};
 
 use fx_types::{CivilDate, Day, Kind, civil_date, day_of_plain};
 use jiff_core::civil::Date;

@@ -2,7 +2,8 @@
 ghost use Rattle.std.specs.Prelude.{◌≡◌, Ok, pos, unsigned_abs};
 ghost use Rattle.fx_number.specs.Decimal.{Checked, IsPower, UnlessZero, remainder_of, rounded_to};
 ghost use Rattle.fx_number.specs.declared.Way.TheVariants.{Down, Floor};
-ghost use Rattle.fx_primitives.specs.Numbers.{AsKind, kind_of_number_error, whole_part_of, with_kind};
+ghost use Rattle.fx_primitives.specs.Numbers.{AsKind, kind_of_number_error, whole_part_of};
+ghost use Rattle.fx_primitives.specs.Numbers.{with_kind};
 
 use fx_number::{Num, NumErr, Way};
 use fx_types::Kind;
@@ -60,16 +61,16 @@ pub fn whole_part(a: Num) -> i64
     a.units() / 10_000
 }
 
-/// A number rounded to `digits` decimals, cut towards zero, which may be negative. `Numeric` exactly
-/// where the rounded number is out of range.
+/// A number rounded to `digits` decimals, cut towards zero, which may be negative. `Numeric`
+/// exactly where the rounded number is out of range.
 pub fn round(a: Num, digits: Num, way: Way) -> Result<Num, Kind>
     ensures { AsKind (Checked (rounded_to a (whole_part_of digits) way)) result }
 {
     with_kind(fx_number::round(a, whole_part(digits), way))
 }
 
-/// What `a` leaves when divided by `b` with a quotient that is rounded down, so that it has the sign
-/// of `b`. `Div0` exactly where `b` is 0; there is no other error.
+/// What `a` leaves when divided by `b` with a quotient that is rounded down, so that it has the
+/// sign of `b`. `Div0` exactly where `b` is 0; there is no other error.
 pub fn modulo(a: Num, b: Num) -> Result<Num, Kind>
     ensures { AsKind (UnlessZero b (λ r. r ≡ Ok (remainder_of a b))) result }
 {

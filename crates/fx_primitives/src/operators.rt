@@ -9,16 +9,16 @@ use fx_types::{Day, Kind};
 // The ten-thousandths in 1.
 const SCALE: i64 = 10_000;
 
-/// The operator `+` of a date and a number of days, in either order. `InvalidArgument` exactly where the
-/// number is not whole or the day is not from 1900-01-01 to 9999-12-31.
+/// The operator `+` of a date and a number of days, in either order. `InvalidArgument` exactly
+/// where the number is not whole or the day is not from 1900-01-01 to 9999-12-31.
 pub fn add_days(day: Day, days: Num) -> Result<Day, Kind>
     ensures { IsShifted day days result }
 {
     shift(day, days.units())
 }
 
-/// The operator `-` of a date and a number of days. `InvalidArgument` exactly where the number is not
-/// whole or the day is not from 1900-01-01 to 9999-12-31.
+/// The operator `-` of a date and a number of days. `InvalidArgument` exactly where the number is
+/// not whole or the day is not from 1900-01-01 to 9999-12-31.
 pub fn sub_days(day: Day, days: Num) -> Result<Day, Kind>
     ensures { IsShifted day (neg_ℤ days) result }
 {

@@ -10,7 +10,8 @@ use fx_types::{Kind, Words};
 use std::alloc::Global;
 
 /// The first position, from a position on, at which a part stands in a text, with case; none where
-/// it stands nowhere. `InvalidArgument` exactly for a position under 1 or more than one past the end.
+/// it stands nowhere. `InvalidArgument` exactly for a position under 1 or more than one past the
+/// end.
 pub fn find(
     alloc: Global,
     part: &Words,

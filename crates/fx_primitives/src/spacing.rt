@@ -1,7 +1,8 @@
 //! Texts without needless spaces.
 ghost use Rattle.std.specs.Prelude.{◌≡◌, IfOk, drop};
 ghost use Rattle.std.specs.List.{prefix_len};
-ghost use Rattle.fx_primitives.specs.Texts.{begins_word as begins_word_of, text_or_quota, single_spaced as single_spaced_of, trimmed};
+ghost use Rattle.fx_primitives.specs.Texts.{begins_word as begins_word_of, text_or_quota};
+ghost use Rattle.fx_primitives.specs.Texts.{single_spaced as single_spaced_of, trimmed};
 ghost use Rattle.fx_number.specs.Reading.{is_space as is_space_at};
 
 use crate::characters::{characters, text_of};

@@ -1,6 +1,7 @@
 //! Texts with an old text in them replaced by a new one.
 ghost use Rattle.std.specs.Prelude.{◌≡◌, ◌+◌, ◌<◌, ◌≤◌, IfOk, MatchOption, None, Some, length};
-ghost use Rattle.fx_primitives.specs.Substitution.{AreAllOccurrences, AreOccurrences, AreSeparate, IsSubstituted, replaced_at, substitute_of};
+ghost use Rattle.fx_primitives.specs.Substitution.{AreAllOccurrences, AreOccurrences, AreSeparate};
+ghost use Rattle.fx_primitives.specs.Substitution.{IsSubstituted, replaced_at, substitute_of};
 ghost use Rattle.fx_primitives.specs.Texts.{longest, text_or_quota};
 
 use crate::characters::{LONGEST, characters, text_of};
@@ -45,8 +46,8 @@ fn all_occurrences(alloc: Global, old: &[char], text: &[char]) -> Result<Vec<usi
     }
 }
 
-// The same of an old text that is not empty. Apart, since the loop ends only where each turn goes past a text that
-// isn't empty.
+// The same of an old text that is not empty. Apart, since the loop ends only where each turn goes
+// past a text that isn't empty.
 fn occurrences(alloc: Global, old: &[char], text: &[char]) -> Result<Vec<usize>, Memory>
     requires { 0 < length old.now }
     ensures value { IfOk result (λ v. AreOccurrences old.now text.now 0 v.items) }

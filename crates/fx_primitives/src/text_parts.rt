@@ -1,6 +1,7 @@
 //! Parts of texts by their length and position.
 ghost use Rattle.std.specs.Prelude.{◌≡◌, IfOk, length as length_of};
-ghost use Rattle.fx_primitives.specs.Texts.{left_of, right_of, mid_of, replace_of, spliced as spliced_of, offset_of as place_at};
+ghost use Rattle.fx_primitives.specs.Texts.{left_of, right_of, mid_of, replace_of};
+ghost use Rattle.fx_primitives.specs.Texts.{spliced as spliced_of, offset_of as place_at};
 
 use crate::characters::{characters, text_of};
 use fx_base::Memory;
@@ -35,8 +36,8 @@ pub fn right(alloc: Global, text: &Words, count: i64) -> Result<Result<Words, Ki
 }
 
 /// The scalar values from a position on, `count` of them or all, as far as there are some.
-/// `InvalidArgument` exactly for a position under 1 or a negative count, and `QuotaExceeded` exactly
-/// where the answer is too long.
+/// `InvalidArgument` exactly for a position under 1 or a negative count, and `QuotaExceeded`
+/// exactly where the answer is too long.
 pub fn mid(
     alloc: Global,
     text: &Words,
@@ -56,9 +57,9 @@ pub fn mid(
     }
 }
 
-/// The text with `count` scalar values from a position on replaced by a new text, or as many as there
-/// are; past the end it is appended. `InvalidArgument` exactly for a position under 1 or a negative
-/// count, and `QuotaExceeded` exactly where the answer is too long.
+/// The text with `count` scalar values from a position on replaced by a new text, or as many as
+/// there are; past the end it is appended. `InvalidArgument` exactly for a position under 1 or a
+/// negative count, and `QuotaExceeded` exactly where the answer is too long.
 pub fn replace(
     alloc: Global,
     text: &Words,

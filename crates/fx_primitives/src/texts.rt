@@ -1,8 +1,10 @@
 // Dates as texts.
-ghost use Rattle.std.specs.Prelude.{◌≡◌, ℕ, ℤ, ◌+◌, ◌<◌, ◌++◌, ◌∷◌, [], ◌↔◌, MatchOption, IfErr, IfOk, OnOk, string_bytes};
+ghost use Rattle.std.specs.Prelude.{◌≡◌, ℕ, ℤ, ◌+◌, ◌<◌, ◌++◌, ◌∷◌, [], ◌↔◌, MatchOption, IfErr};
+ghost use Rattle.std.specs.Prelude.{IfOk, OnOk, string_bytes};
 ghost use Rattle.fx_types.specs.Days.{IsDay};
 ghost use Rattle.fx_types.specs.Civil.{IsCalendarDate};
-ghost use Rattle.fx_types.specs.DateText.{civil_text, date_text as date_text_of, two_digits as two_digits_of};
+ghost use Rattle.fx_types.specs.DateText.{civil_text, date_text as date_text_of};
+ghost use Rattle.fx_types.specs.DateText.{two_digits as two_digits_of};
 ghost use Rattle.fx_types.specs.declared.civil.CivilDate.{CivilDate as CivilDateValue};
 ghost use Rattle.fx_primitives.specs.DateTexts.{slashed as slashed_text, day_text};
 
@@ -22,8 +24,8 @@ pub fn format_day(alloc: Global, day: Day, format: DateFormat) -> Result<String,
     }
 }
 
-/// The day that a text names as `yyyy-mm-dd`. `InvalidArgument` exactly for every other text, also where
-/// the calendar has no such date or it is not from 1900-01-01 to 9999-12-31.
+/// The day that a text names as `yyyy-mm-dd`. `InvalidArgument` exactly for every other text, also
+/// where the calendar has no such date or it is not from 1900-01-01 to 9999-12-31.
 pub fn date_value(text: &str) -> Result<Day, Kind>
     ensures value { (z : ℤ) → (result ≡ Ok z) ↔ (IsDay z × (text.now ≡ date_text_of z)) }
     ensures err { IfErr result (λ k. k ≡ Kind.InvalidArgument) }

@@ -1,14 +1,15 @@
 // Dates so many units later, and how many units lie between dates.
 ghost use Rattle.std.specs.Prelude.{◌≡◌, pos};
 ghost use Rattle.fx_types.specs.Civil.{IsCalendarDate};
-ghost use Rattle.fx_primitives.specs.Dates.{IsDayLater, difference, quarter_number as number_of_quarter};
+ghost use Rattle.fx_primitives.specs.Dates.{IsDayLater, difference};
+ghost use Rattle.fx_primitives.specs.Dates.{quarter_number as number_of_quarter};
 
 use crate::months::{day_of_number, month_number, months_later};
 use fx_types::{CivilDate, Day, Kind, TimeUnit, civil_date};
 
-/// The day so many units later, a quarter being three months and a year twelve. Months, quarters and
-/// years keep the day of the month, or take the month's last day where it is shorter. `InvalidArgument` exactly where the day is not from 1900-01-01
-/// to 9999-12-31.
+/// The day so many units later, a quarter being three months and a year twelve. Months, quarters
+/// and years keep the day of the month, or take the month's last day where it is shorter.
+/// `InvalidArgument` exactly where the day is not from 1900-01-01 to 9999-12-31.
 pub fn date_add(day: Day, count: i64, unit: TimeUnit) -> Result<Day, Kind>
     ensures { IsDayLater unit day count result }
 {
@@ -21,8 +22,8 @@ pub fn date_add(day: Day, count: i64, unit: TimeUnit) -> Result<Day, Kind>
     }
 }
 
-/// The second day less the first: in days, or the difference of the numbers of their months, quarters
-/// or years. A quarter begins with January, April, July or October.
+/// The second day less the first: in days, or the difference of the numbers of their months,
+/// quarters or years. A quarter begins with January, April, July or October.
 pub fn date_diff(from: Day, to: Day, unit: TimeUnit) -> i32
     ensures { result ≡ difference unit from to }
 {

@@ -7,5 +7,7 @@ use Rattle.fx_typing.specs.Meaning.{Scope}
 
 abbrev pub scope_code : Coded Scope
 scope_code =
-    code_by (Shape × (Option (List ℕ) × Bool)) (coded× shape_code (coded× (coded_option (coded_list coded_ℕ)) coded_bool))
-    (λ s. (s.row_type, (s.alias, s.counted))) (λ p. record { row_type = p.0; alias = p.1.0; counted = p.1.1 }) (λ _. refl)
+    code_by (Shape × (Option (List ℕ) × Bool))
+    (coded× shape_code (coded× (coded_option (coded_list coded_ℕ)) coded_bool))
+    (λ s. (s.row_type, (s.alias, s.counted)))
+    (λ p. record { row_type = p.0; alias = p.1.0; counted = p.1.1 }) (λ _. refl)

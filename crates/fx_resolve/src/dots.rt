@@ -1,5 +1,6 @@
 //! What stands behind a dot.
-ghost use Rattle.std.specs.Prelude.{◌≡◌, ◌&&◌, [], IfOk, Some, bytes_eq, encode_utf8_all, if◌then◌else◌, nat_eq, pos};
+ghost use Rattle.std.specs.Prelude.{◌≡◌, ◌&&◌, [], IfOk, Some, bytes_eq, encode_utf8_all};
+ghost use Rattle.std.specs.Prelude.{if◌then◌else◌, nat_eq, pos};
 ghost use Rattle.fx_types.specs.TypeView.{shape};
 ghost use Rattle.fx_types.specs.Types.{column_list};
 ghost use Rattle.fx_types.specs.ValueView.{view};
@@ -116,7 +117,8 @@ fn cell_or_default(
 ) -> Result<Typed, Memory>
     requires { IsLawful names.now }
     ensures { IfOk result (λ t. typed t ≡ sought.written_or kind name.now (shape ty)
-        (first_match (λ (p : Property). nat_eq p.control number && bytes_eq p.name name.now) 0 names.now.properties)) }
+        (first_match (λ (p : Property). nat_eq p.control number && bytes_eq p.name name.now) 0
+        names.now.properties)) }
 {
     if let Some((_, property)) = property_in(names.properties.as_slice(), number, name) {
         let core = make_core::read(Source::Cell(property.cell));
@@ -161,7 +163,8 @@ fn read_input(number: u32, kind: Control) -> Result<Typed, Wrong>
     }
 }
 
-// A property of a control. One of a gallery's template isn't named: its value differs from item to item.
+// A property of a control. One of a gallery's template isn't named: its value differs from item to
+// item.
 fn read_control(
     alloc: Global,
     names: &Names,
@@ -170,7 +173,8 @@ fn read_control(
     name: &Words,
 ) -> Result<Typed, Wrong>
     requires { IsLawful names.now }
-    ensures { IsAnswerOf typed (sought.control_read names.now number control.now control.now.gallery name.now) result }
+    ensures { IsAnswerOf typed (sought.control_read names.now number control.now control.now.gallery
+        name.now) result }
 {
     if control.gallery.is_some() {
         return Err(Wrong::Refused(Rule::WrongType));
@@ -189,7 +193,8 @@ fn read_control(
 
 // A member of an enumeration is the text of its name.
 fn member_of(alloc: Global, enumeration: Enumeration, name: &Words) -> Result<Typed, Wrong>
-    ensures { IsAnswerOf typed (sought.member_of (has_member enumeration (encode_utf8_all name.now)) name.now) result }
+    ensures { IsAnswerOf typed (sought.member_of (has_member enumeration (encode_utf8_all name.now))
+        name.now) result }
 {
     if !enumeration.has(name.as_str()) {
         return Err(Wrong::Refused(Rule::UnknownColumn));
@@ -213,7 +218,8 @@ fn read_field(alloc: Global, before: Typed, name: &Words) -> Result<Typed, Wrong
 
 // A column of a record.
 fn known_field(alloc: Global, core: Core, name: &Words, columns: &Columns) -> Result<Typed, Wrong>
-    ensures { IsAnswerOf typed (sought.known_field core name.now (field_in name.now (column_list columns.now))) result }
+    ensures { IsAnswerOf typed (sought.known_field core name.now
+        (field_in name.now (column_list columns.now))) result }
 {
     match field_in(name, columns) {
         Some(ty) => {
@@ -227,11 +233,12 @@ fn known_field(alloc: Global, core: Core, name: &Words, columns: &Columns) -> Re
     }
 }
 
-/// What stands behind a dot, by what stands before it: a field of a record, a property of a control or a
-/// member of an enumeration.
+/// What stands behind a dot, by what stands before it: a field of a record, a property of a control
+/// or a member of an enumeration.
 pub fn dot(alloc: Global, names: &Names, name: &Words, before: Meaning) -> Result<Typed, Wrong>
     requires { IsLawful names.now }
-    ensures { IsAnswerOf typed (sought.dotted names.now name.now (Some (meaning_view before.entry))) result }
+    ensures { IsAnswerOf typed (sought.dotted names.now name.now (Some (meaning_view before.entry)))
+        result }
 {
     match before {
         Meaning::Valued(value) => read_field(alloc, value, name),

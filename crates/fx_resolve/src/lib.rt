@@ -1,4 +1,5 @@
-//! What the names of a formula mean, where they are sought, and where each part of a formula stands.
+//! What the names of a formula mean, where they are sought, and where each part of a formula
+//! stands.
 #![tactic(auto)]
 
 pub mod dots;

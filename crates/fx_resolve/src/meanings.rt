@@ -37,8 +37,8 @@ pub struct Place<'a> {
     pub screen: Option<u32>,
     /// The number of the gallery whose item it sees.
     pub gallery: Option<u32>,
-    /// Whether the types of variables and collections are settled: until then no value is of a wrong
-    /// type for one.
+    /// Whether the types of variables and collections are settled: until then no value is of a
+    /// wrong type for one.
     pub settled: bool,
 }
 
@@ -114,7 +114,8 @@ fn is_word(name: &Words, word: &str) -> bool
 // The reserved name that this is.
 fn reserved_name(name: &Words) -> Option<Reserved>
     ensures { (p : sought.Place) → (ss : List sought.Scope) → (catches : Bool)
-        → option_map (reserved_meaning p ss catches) result ≡ sought.reserved p ss catches name.now }
+        → option_map (reserved_meaning p ss catches) result
+        ≡ sought.reserved p ss catches name.now }
 {
     if is_word(name, "ThisRecord") {
         Some(Reserved::ThisRecord)
@@ -156,7 +157,8 @@ fn reserved_meaning<'a>(
 // A name among the context variables of the formula's screen.
 fn in_context(alloc: Global, at: &Place, name: &Words) -> Result<Option<Typed>, Memory>
     requires { IsLawful at.now.names.now }
-    ensures { IfOk result (λ t. option_map as_valued t ≡ sought.in_context (place_view at.now) name.now) }
+    ensures { IfOk result (λ t. option_map as_valued t
+        ≡ sought.in_context (place_view at.now) name.now) }
 {
     match screen_variable(at.names, at.screen, name) {
         Some((number, variable)) => {
@@ -213,8 +215,8 @@ pub fn in_globals<'a>(
     Ok(find_screen(names, name).map(|_| Meaning::Screened))
 }
 
-/// What a name means: in the scopes, as a reserved name, among the context variables of the screen, among
-/// the global names.
+/// What a name means: in the scopes, as a reserved name, among the context variables of the screen,
+/// among the global names.
 pub fn meaning_of<'a>(
     alloc: Global,
     at: &Place<'a>,
@@ -239,8 +241,8 @@ pub fn meaning_of<'a>(
     in_globals(alloc, at.names, name)
 }
 
-/// A name as a formula of its own: `UnknownName` where it means nothing or an enumeration, and `WrongType`
-/// where it is a control or a screen.
+/// A name as a formula of its own: `UnknownName` where it means nothing or an enumeration, and
+/// `WrongType` where it is a control or a screen.
 pub fn as_value(meaning: Option<Meaning>) -> Result<Typed, Wrong>
     ensures { IsAnswerOf typed (sought.named (option_map meaning_view meaning.entry)) result }
 {

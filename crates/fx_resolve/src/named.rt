@@ -1,5 +1,6 @@
 //! Things of an app by their names and numbers.
-ghost use Rattle.std.specs.Prelude.{◌≡◌, ◌<◌, ◌^◌, ◌&&◌, ℕ, List, IfSome, bytes_eq, length, nat_eq, option_map};
+ghost use Rattle.std.specs.Prelude.{◌≡◌, ◌<◌, ◌^◌, ◌&&◌, ℕ, List, IfSome, bytes_eq, length, nat_eq};
+ghost use Rattle.std.specs.Prelude.{option_map};
 ghost use Rattle.fx_core.specs.declared.names.Property.{Property};
 ghost use Rattle.fx_core.specs.declared.names.Variable.{Variable};
 ghost use Rattle.fx_typing.specs.Meaning.{is_global, is_on, first_match};
@@ -68,7 +69,8 @@ pub fn thing_in<'a, T: Named>(things: &'a [T], name: &Words) -> Option<(u32, &'a
 pub fn global_in<'a>(variables: &'a [Variable], name: &Words) -> Option<(u32, &'a Variable)>
     requires { length variables.now < 2 ^ 32 }
     ensures { option_map (λ e. (e.0, e.1.now)) result
-        ≡ first_match (λ (v : Variable). is_global v.screen && bytes_eq v.name name.now) 0 variables.now }
+        ≡ first_match (λ (v : Variable). is_global v.screen && bytes_eq v.name name.now) 0
+        variables.now }
 {
     for (number, variable) in variables.iter().enumerate() {
         if variable.screen.is_none() && variable.name.is(name) {
@@ -86,7 +88,8 @@ pub fn context_in<'a>(
 ) -> Option<(u32, &'a Variable)>
     requires { length variables.now < 2 ^ 32 }
     ensures { option_map (λ e. (e.0, e.1.now)) result
-        ≡ first_match (λ (v : Variable). is_on screen v.screen && bytes_eq v.name name.now) 0 variables.now }
+        ≡ first_match (λ (v : Variable). is_on screen v.screen && bytes_eq v.name name.now) 0
+        variables.now }
 {
     for (number, variable) in variables.iter().enumerate() {
         if is_on(screen, variable.screen) && variable.name.is(name) {
@@ -114,7 +117,8 @@ pub fn property_in<'a>(
 ) -> Option<(u32, &'a Property)>
     requires { length properties.now < 2 ^ 32 }
     ensures { option_map (λ e. (e.0, e.1.now)) result
-        ≡ first_match (λ (p : Property). nat_eq p.control control && bytes_eq p.name name.now) 0 properties.now }
+        ≡ first_match (λ (p : Property). nat_eq p.control control && bytes_eq p.name name.now) 0
+        properties.now }
 {
     for (number, property) in properties.iter().enumerate() {
         if property.control == control && property.name.is(name) {

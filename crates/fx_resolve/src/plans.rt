@@ -157,8 +157,8 @@ fn has_rows(first: &Piece) -> bool
     }
 }
 
-/// Under one name: the function of the rows of a table, where the first part is one or has a name for
-/// its rows, and else that of scalars.
+/// Under one name: the function of the rows of a table, where the first part is one or has a name
+/// for its rows, and else that of scalars.
 pub fn pick(scalars: Fun, rows: Fun, parts: &[Part]) -> Fun
     ensures { result ≡ plans.pick scalars rows (map judged_part parts.now) }
 {
@@ -271,7 +271,8 @@ fn call_shape(names: &Names, name: &Words) -> Option<SigShape>
 /// How the part behind the done ones is judged, of a node with so many parts.
 pub fn plan_at(names: &Names, whole: Grant, head: &Expr, count: usize, done: &[Part]) -> Plan
     ensures { plan result
-        ≡ plans.plan_at names.now (grant whole) (tree_head head.now) count (map judged_part done.now) }
+        ≡ plans.plan_at names.now (grant whole) (tree_head head.now) count
+        (map judged_part done.now) }
 {
     let acts = whole.may_act();
     match &head.node {
@@ -304,7 +305,8 @@ fn field_grant(whole: Grant) -> Grant
     }
 }
 
-/// Whether one of the parts of a node, which are so many, stands in the scope of a row of the first.
+/// Whether one of the parts of a node, which are so many, stands in the scope of a row of the
+/// first.
 pub fn opens_rows(names: &Names, whole: Grant, head: &Expr, parts: &[Part]) -> bool
     ensures { result ≡ plans.opens_rows names.now (grant whole) (tree_head head.now)
         (length parts.now) [] (map judged_part parts.now) }

@@ -1,5 +1,6 @@
 //! Where each part of a node stands.
-ghost use Rattle.std.specs.Prelude.{◌≡◌, ◌≤◌, ◌+◌, IfOk, None, OnErr, OnOk, false, length, map, take};
+ghost use Rattle.std.specs.Prelude.{◌≡◌, ◌≤◌, ◌+◌, IfOk, None, OnErr, OnOk, false, length, map};
+ghost use Rattle.std.specs.Prelude.{take};
 ghost use Rattle.fx_types.specs.TypeView.{shape};
 ghost use Rattle.fx_typing.specs.Parts as parts;
 ghost use Rattle.fx_typing.specs.Plans as plans;
@@ -153,9 +154,9 @@ fn open(
     }
 }
 
-/// Adds to the scopes of a node the one that the part behind the done ones stands in, if it has one of
-/// its own, and tells where that part stands. The node has so many parts. Behind the part the scopes are
-/// to be cut to as many as they were.
+/// Adds to the scopes of a node the one that the part behind the done ones stands in, if it has one
+/// of its own, and tells where that part stands. The node has so many parts. Behind the part the
+/// scopes are to be cut to as many as they were.
 pub fn enter(
     alloc: Global,
     names: &Names,
@@ -167,7 +168,8 @@ pub fn enter(
 ) -> Result<Stand, Memory>
     requires { IsLawful names.now }
     ensures ok { IfOk result (λ s. setting scopes.new s
-        ≡ plans.setting_at names.now (setting scopes.old whole) (tree_head head.now) count (map judged_part done.now)) }
+        ≡ plans.setting_at names.now (setting scopes.old whole) (tree_head head.now) count
+        (map judged_part done.now)) }
     ensures outer { OnOk result (take (length scopes.old) scopes.new ≡ scopes.old) }
     ensures one { OnOk result (length scopes.new ≤ length scopes.old + 1) }
     ensures err { OnErr result (scopes.new ≡ scopes.old) }

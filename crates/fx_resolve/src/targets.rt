@@ -49,7 +49,8 @@ pub fn screen_variable<'a>(
 /// The collection of this name, with its number.
 pub fn find_collection<'a>(names: &'a Names, name: &Words) -> Option<(u32, &'a Collection)>
     requires { IsLawful names.now }
-    ensures { option_map (λ e. (e.0, e.1.now)) result ≡ targets.collection_named names.now name.now }
+    ensures { option_map (λ e. (e.0, e.1.now)) result
+        ≡ targets.collection_named names.now name.now }
 {
     thing_in(names.collections.as_slice(), name)
 }
@@ -57,7 +58,8 @@ pub fn find_collection<'a>(names: &'a Names, name: &Words) -> Option<(u32, &'a C
 /// The table of this name, with its number, which is below 32.
 pub fn find_table<'a>(names: &'a Names, name: &Words) -> Option<(u32, &'a TableShape)>
     requires { IsLawful names.now }
-    ensures value { option_map (λ e. (e.0, e.1.now)) result ≡ targets.table_named names.now name.now }
+    ensures value { option_map (λ e. (e.0, e.1.now)) result
+        ≡ targets.table_named names.now name.now }
     ensures below { IfSome result (λ e. e.0 < 32) }
 {
     thing_in(names.schema.tables.as_slice(), name)

@@ -1,5 +1,6 @@
 -- Answers as values. An error that a function makes has no message.
-use Rattle.std.specs.Prelude.{◌≡◌, ℕ, ℤ, pos, ◌*ℤ◌, Bool, List, [], Option, Some, None, Result, Ok, Err}
+use Rattle.std.specs.Prelude.{◌≡◌, ℕ, ℤ, pos, ◌*ℤ◌, Bool, List, [], Option, Some, None, Result, Ok}
+use Rattle.std.specs.Prelude.{Err}
 use Rattle.fx_number.specs.Decimal.{Checked}
 use Rattle.fx_types.specs.declared.faults.Kind.{Kind}
 use Rattle.fx_types.specs.Values.{Data, blank, number, text, boolean, date, fault}
@@ -23,7 +24,8 @@ abbrev pub date_answer : Result ℤ Kind → Data
 date_answer (Ok z) = date z
 date_answer (Err k) = fault k []
 
--- the answer is a number, a number or none, a text, a day or a Boolean of which P holds, or the error of one
+-- the answer is a number, a number or none, a text, a day or a Boolean of which P holds, or the
+-- error of one
 abbrev pub IsNumber : (Result ℤ Kind → Type 0) → Data → Type 0
 IsNumber P r = (q : Result ℤ Kind) × P q × (r ≡ number_answer q)
 

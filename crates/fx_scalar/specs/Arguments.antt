@@ -1,6 +1,7 @@
--- The arguments of scalar functions. They fit the types of the function, or are blank or errors; a value of
--- another type would count as blank.
-use Rattle.std.specs.Prelude.{ℕ, ℤ, pos, Bool, false, List, [], ◌∷◌, map, slice_get, length, nat_lt, if◌then◌else◌, Option, Some, None, unwrap_or}
+-- The arguments of scalar functions. They fit the types of the function, or are blank or errors; a
+-- value of another type would count as blank.
+use Rattle.std.specs.Prelude.{ℕ, ℤ, pos, Bool, false, List, [], ◌∷◌, map, slice_get, length, nat_lt}
+use Rattle.std.specs.Prelude.{if◌then◌else◌, Option, Some, None, unwrap_or}
 use Rattle.fx_types.specs.Values.{Data, blank, number, text, boolean, date, fault}
 use Rattle.fx_types.specs.ValueView.{view}
 use Rattle.fx_types.specs.declared.values.Value.{Value}

@@ -11,21 +11,22 @@ use Rattle.fx_scalar.specs.Arguments.{text_in}
 
 -- an error as a record of its kind's name and its message
 abbrev pub fault_record : Kind → List ℕ → Data
-fault_record k cs = rec (field (codes "Kind") (text (kind_name k)) (field (codes "Message") (text cs) no_fields))
+fault_record k cs = rec (field (codes "Kind") (text (kind_name k))
+    (field (codes "Message") (text cs) no_fields))
 
 -- the kind of an error that a text names, and Custom where it names none
 abbrev pub error_kind_named : List ℕ → Kind
 error_kind_named cs = unwrap_or (error_kind (encode_utf8_all cs)) Custom
 
--- the error of a kind and a message, as texts: the first error of the two, and else the error that they
--- tell
+-- the error of a kind and a message, as texts: the first error of the two, and else the error that
+-- they tell
 abbrev pub error_of : Data → Data → Data
 error_of (fault k cs) m = fault k cs
 error_of k (fault j cs) = fault j cs
 error_of k m = fault (error_kind_named (text_in k)) (text_in m)
 
--- the error that a record tells by its fields Kind and Message, as texts; a missing field is blank, and a
--- blank record tells neither
+-- the error that a record tells by its fields Kind and Message, as texts; a missing field is blank,
+-- and a blank record tells neither
 abbrev pub IsErrorOf : Data → Data → Type 0
 IsErrorOf (rec fs) v =
     (k : Data) × (m : Data)

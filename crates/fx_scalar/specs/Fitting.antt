@@ -20,7 +20,8 @@ fits_place t d = true
 
 -- each argument fits its place
 abbrev pub FitPlaces : Fun → List Data → Type 0
-FitPlaces f a = (i : ℕ) → i < length a → fits_place (takes_at (row_of f) (length a) i) (argument_at a i) ≡ true
+FitPlaces f a = (i : ℕ) → i < length a → fits_place (takes_at (row_of f) (length a) i)
+    (argument_at a i) ≡ true
 
 -- the answer fits its type; a common one is each type that all arguments fit
 abbrev pub FitsAnswer : Answer → List Data → Data → Type 0
@@ -30,8 +31,10 @@ FitsAnswer q a r = Unit {0}
 
 -- a function of values can be applied to arguments that fit its places
 abbrev pub FittingCanApply : Type 0
-FittingCanApply = (f : Fun) (a : List Data) → IsTrue (is_value (row_of f).first) → FitPlaces f a → CanApply f a
+FittingCanApply = (f : Fun) (a : List Data) → IsTrue (is_value (row_of f).first) → FitPlaces f a
+    → CanApply f a
 
 -- what it answers to arguments that fit its places fits its type
 abbrev pub AnswersFit : Type 0
-AnswersFit = (f : Fun) (a : List Data) (r : Data) → FitPlaces f a → IsAnswer f a r → FitsAnswer (row_of f).answer a r
+AnswersFit = (f : Fun) (a : List Data) (r : Data) → FitPlaces f a → IsAnswer f a r
+    → FitsAnswer (row_of f).answer a r

@@ -1,5 +1,5 @@
--- What the forms and functions that evaluate no more parts than they need decide by the values of these.
--- P and Q are what holds of the answer v then.
+-- What the forms and functions that evaluate no more parts than they need decide by the values of
+-- these. P and Q are what holds of the answer v then.
 use Rattle.std.specs.Prelude.{◌≡◌, ℕ, Bool, true, false, List, Result, Ok, Err}
 use Rattle.fx_types.specs.declared.comparisons.Cmp.TheVariants.{Eq}
 use Rattle.fx_types.specs.declared.faults.Fault.{Fault}
@@ -16,7 +16,8 @@ use Rattle.fx_scalar.specs.ScalarFunctions.{is_blank_or_empty}
 
 -- ---- conditions
 
--- what the value of a condition decides: true meets it, false and blank do not, and an error is the answer
+-- what the value of a condition decides: true meets it, false and blank do not, and an error is the
+-- answer
 abbrev pub decision_of : Data → Decision
 decision_of (fault k cs) = Error (record { kind = k; message = cs })
 decision_of (boolean true) = Met
@@ -32,18 +33,18 @@ ByDecision (Error f) P Q v = v ≡ fault f.kind f.message
 abbrev pub ByCondition : Data → Type 0 → Type 0 → Data → Type 0
 ByCondition w P Q v = ByDecision (decision_of w) P Q v
 
--- `And` at the value of a part: where it is true the others decide, and else, also where it is blank, it is
--- false; an error is the answer
+-- `And` at the value of a part: where it is true the others decide, and else, also where it is
+-- blank, it is false; an error is the answer
 abbrev pub AtAll : Data → Type 0 → Data → Type 0
 AtAll w P v = ByCondition w P (v ≡ boolean false) v
 
--- `Or` at the value of a part: where it is true it is true, and else, also where it is blank, the others
--- decide; an error is the answer
+-- `Or` at the value of a part: where it is true it is true, and else, also where it is blank, the
+-- others decide; an error is the answer
 abbrev pub AtAny : Data → Type 0 → Data → Type 0
 AtAny w P v = ByCondition w (v ≡ boolean true) P v
 
--- what a form is worth where no part is left and none has decided: `And` is true, `Or` false, and all else
--- blank, though `IfError` is worth the value before the last fallback
+-- what a form is worth where no part is left and none has decided: `And` is true, `Or` false, and
+-- all else blank, though `IfError` is worth the value before the last fallback
 abbrev pub none_left : Form → Data
 none_left form.All = boolean true
 none_left form.Any = boolean false
@@ -88,7 +89,7 @@ abbrev pub PassedOr : Bool → Type 0 → Type 0 → Type 0
 PassedOr true P Q = P
 PassedOr false P Q = Q
 
--- a value that is blank or an empty text is passed over, so that P holds, and another one, also an error, is
--- the answer
+-- a value that is blank or an empty text is passed over, so that P holds, and another one, also an
+-- error, is the answer
 abbrev pub UnlessBlank : Data → Type 0 → Data → Type 0
 UnlessBlank w P v = PassedOr (is_blank_or_empty w) P (v ≡ w)

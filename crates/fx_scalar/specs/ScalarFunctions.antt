@@ -1,6 +1,9 @@
 -- What each scalar function and operator answers.
-use Rattle.std.specs.Prelude.{◌≡◌, ◌↔◌, ℕ, ℤ, pos, neg_ℤ, ◌/◌, unsigned_abs, ◌+ℤ◌, ◌-ℤ◌, Bool, true, false, not, List, [], ◌∷◌, map, length, IsTrue, Option, Some, None, Result, Ok, if◌then◌else◌, ◌||◌, IfErr, unwrap_or, encode_utf8_all}
-use Rattle.fx_number.specs.Decimal.{Checked, IsPower, UnlessZero, product_of, quotient_of, remainder_of, rounded_to}
+use Rattle.std.specs.Prelude.{◌≡◌, ◌↔◌, ℕ, ℤ, pos, neg_ℤ, ◌/◌, unsigned_abs, ◌+ℤ◌, ◌-ℤ◌, Bool, true}
+use Rattle.std.specs.Prelude.{false, not, List, [], ◌∷◌, map, length, IsTrue, Option, Some, None}
+use Rattle.std.specs.Prelude.{Result, Ok, if◌then◌else◌, ◌||◌, IfErr, unwrap_or, encode_utf8_all}
+use Rattle.fx_number.specs.Decimal.{Checked, IsPower, UnlessZero, product_of, quotient_of}
+use Rattle.fx_number.specs.Decimal.{remainder_of, rounded_to}
 use Rattle.fx_number.specs.declared.NumErr.{NumErr}
 use Rattle.fx_number.specs.declared.Way.TheVariants.{Near, Up, Down, Floor}
 use Rattle.fx_types.specs.Words.{scalars_of}
@@ -18,20 +21,25 @@ use Rattle.fx_core.specs.declared.functions.Fun.TheVariants as fun
 use Rattle.fx_core.specs.declared.rows.Takes.{Takes}
 use Rattle.fx_core.specs.declared.rows.Takes.TheVariants as takes
 use Rattle.fx_core.specs.Rows.{row_of}
-use Rattle.fx_primitives.specs.Texts.{text_or_quota, left_of, right_of, mid_of, replace_of, joined, lower_of, upper_of, trimmed}
+use Rattle.fx_primitives.specs.Texts.{text_or_quota, left_of, right_of, mid_of, replace_of, joined}
+use Rattle.fx_primitives.specs.Texts.{lower_of, upper_of, trimmed}
 use Rattle.fx_primitives.specs.Search.{IsFound}
 use Rattle.fx_primitives.specs.Substitution.{IsSubstituted}
-use Rattle.fx_primitives.specs.Folding.{BeginsWithoutCase, EndsWithoutCase, HasPart, HasPartWithoutCase}
+use Rattle.fx_primitives.specs.Folding.{BeginsWithoutCase, EndsWithoutCase, HasPart}
+use Rattle.fx_primitives.specs.Folding.{HasPartWithoutCase}
 use Rattle.fx_primitives.specs.Numbers.{AsKind}
 use Rattle.fx_primitives.specs.Folds.{nonblank, IsSum, IsLeast, IsGreatest, average_of}
 use Rattle.fx_primitives.specs.Formats.{formatted_number}
 use Rattle.fx_types.specs.Civil.{civil_of}
 use Rattle.fx_types.specs.DateText.{date_text}
-use Rattle.fx_primitives.specs.Dates.{IsDayOrInvalid, IsDayLater, IsShifted, difference, number_of_parts, weekday_of}
+use Rattle.fx_primitives.specs.Dates.{IsDayOrInvalid, IsDayLater, IsShifted, difference}
+use Rattle.fx_primitives.specs.Dates.{number_of_parts, weekday_of}
 use Rattle.fx_primitives.specs.DateTexts.{day_text as date_text_in}
-use Rattle.fx_scalar.specs.Arguments.{argument_at, text_in, number_at, text_at, truth_at, date_at, whole_at, maybe_whole_at, maybe_number, first_fault}
+use Rattle.fx_scalar.specs.Arguments.{argument_at, text_in, number_at, text_at, truth_at, date_at}
+use Rattle.fx_scalar.specs.Arguments.{whole_at, maybe_whole_at, maybe_number, first_fault}
 use Rattle.fx_scalar.specs.Errors.{IsErrorOf}
-use Rattle.fx_scalar.specs.Answers.{IsNumber, IsMaybeNumber, IsText, IsDate, IsPosition, IsTruthAnswer, IsWholeNumber, OfDate, UnlessFault}
+use Rattle.fx_scalar.specs.Answers.{IsNumber, IsMaybeNumber, IsText, IsDate, IsPosition}
+use Rattle.fx_scalar.specs.Answers.{IsTruthAnswer, IsWholeNumber, OfDate, UnlessFault}
 
 -- ---- words of single lines
 
@@ -61,7 +69,8 @@ formatted f (Some z) = text (scalars_of (f z))
 
 -- the day that a text names, or InvalidArgument
 abbrev pub IsDateRead : List ℕ → Result ℤ Kind → Type 0
-IsDateRead bs q = ((z : ℤ) → (q ≡ Ok z) ↔ (IsDay z × (bs ≡ date_text z))) × IfErr q (λ k. k ≡ InvalidArgument)
+IsDateRead bs q = ((z : ℤ) → (q ≡ Ok z) ↔ (IsDay z × (bs ≡ date_text z)))
+    × IfErr q (λ k. k ≡ InvalidArgument)
 
 -- where a search starts: at the first position where no other is given
 abbrev pub start_of : List Data → ℤ
@@ -103,8 +112,10 @@ IsResult fun.Percent a = IsNumber (AsKind (IsQuotient (number_at a 0) (pos 10000
 IsResult fun.Negate a = IsNumber (AsKind (Checked (pos 0 -ℤ number_at a 0)))
 IsResult fun.AddDateNumber a = OfDate (date_at a 0) (λ d. IsDate (IsShifted d (number_at a 1)))
 IsResult fun.AddNumberDate a = OfDate (date_at a 1) (λ d. IsDate (IsShifted d (number_at a 0)))
-IsResult fun.SubDateNumber a = OfDate (date_at a 0) (λ d. IsDate (IsShifted d (neg_ℤ (number_at a 1))))
-IsResult fun.SubDates a = OfDate (date_at a 0) (λ d. OfDate (date_at a 1) (λ e. IsWholeNumber (d -ℤ e)))
+IsResult fun.SubDateNumber a = OfDate (date_at a 0)
+    (λ d. IsDate (IsShifted d (neg_ℤ (number_at a 1))))
+IsResult fun.SubDates a = OfDate (date_at a 0)
+    (λ d. OfDate (date_at a 1) (λ e. IsWholeNumber (d -ℤ e)))
 IsResult fun.Concatenation a = IsText (λ q. q ≡ text_or_quota (joined (map text_in a)))
 IsResult fun.Concatenate a = IsText (λ q. q ≡ text_or_quota (joined (map text_in a)))
 IsResult fun.In a = IsTruthAnswer (λ b. IsTrue b ↔ HasPartWithoutCase (text_at a 1) (text_at a 0))
@@ -115,12 +126,16 @@ IsResult fun.Int a = IsNumber (AsKind (Checked (rounded_to (number_at a 0) (pos 
 IsResult fun.Trunc a = IsNumber (AsKind (Checked (rounded_to (number_at a 0) (pos 0) Down)))
 IsResult fun.Round a = IsNumber (AsKind (Checked (rounded_to (number_at a 0) (whole_at a 1) Near)))
 IsResult fun.RoundUp a = IsNumber (AsKind (Checked (rounded_to (number_at a 0) (whole_at a 1) Up)))
-IsResult fun.RoundDown a = IsNumber (AsKind (Checked (rounded_to (number_at a 0) (whole_at a 1) Down)))
-IsResult fun.Mod a = IsNumber (AsKind (UnlessZero (number_at a 1) (λ q. q ≡ Ok (remainder_of (number_at a 0) (number_at a 1)))))
+IsResult fun.RoundDown a = IsNumber (AsKind (Checked
+    (rounded_to (number_at a 0) (whole_at a 1) Down)))
+IsResult fun.Mod a = IsNumber (AsKind (UnlessZero (number_at a 1)
+    (λ q. q ≡ Ok (remainder_of (number_at a 0) (number_at a 1)))))
 IsResult fun.Power a = IsNumber (AsKind (IsPower (number_at a 0) (number_at a 1)))
 IsResult fun.Sum a = IsMaybeNumber (IsSum (nonblank (map maybe_number a)))
-IsResult fun.Min a = IsMaybeNumber (λ q. (o : Option ℤ) × IsLeast (nonblank (map maybe_number a)) o × (q ≡ Ok o))
-IsResult fun.Max a = IsMaybeNumber (λ q. (o : Option ℤ) × IsGreatest (nonblank (map maybe_number a)) o × (q ≡ Ok o))
+IsResult fun.Min a = IsMaybeNumber (λ q. (o : Option ℤ) × IsLeast (nonblank (map maybe_number a)) o
+    × (q ≡ Ok o))
+IsResult fun.Max a = IsMaybeNumber (λ q. (o : Option ℤ)
+    × IsGreatest (nonblank (map maybe_number a)) o × (q ≡ Ok o))
 IsResult fun.Average a = IsMaybeNumber (λ q. q ≡ Ok (average_of (nonblank (map maybe_number a))))
 IsResult fun.Value a = IsCoerced (text (text_at a 0)) numbers
 IsResult fun.Len a = IsWholeNumber (pos (length (text_at a 0)))
@@ -130,23 +145,32 @@ IsResult fun.Mid a = IsText (λ q. q ≡ mid_of (text_at a 0) (whole_at a 1) (ma
 IsResult fun.Lower a = IsText (λ q. q ≡ lower_of (text_at a 0))
 IsResult fun.Upper a = IsText (λ q. q ≡ upper_of (text_at a 0))
 IsResult fun.Trim a = IsText (λ q. q ≡ text_or_quota (trimmed (text_at a 0)))
-IsResult fun.Find a = λ r. (q : Result (Option ℕ) Kind) × IsFound (text_at a 0) (text_at a 1) (start_of a) q × IsPosition q r
-IsResult fun.Substitute a = IsText (IsSubstituted (text_at a 0) (text_at a 1) (text_at a 2) (maybe_whole_at a 3))
-IsResult fun.Replace a = IsText (λ q. q ≡ replace_of (text_at a 0) (whole_at a 1) (whole_at a 2) (text_at a 3))
-IsResult fun.StartsWith a = IsTruthAnswer (λ b. IsTrue b ↔ BeginsWithoutCase (text_at a 0) (text_at a 1))
-IsResult fun.EndsWith a = IsTruthAnswer (λ b. IsTrue b ↔ EndsWithoutCase (text_at a 0) (text_at a 1))
+IsResult fun.Find a = λ r. (q : Result (Option ℕ) Kind)
+    × IsFound (text_at a 0) (text_at a 1) (start_of a) q × IsPosition q r
+IsResult fun.Substitute a = IsText (IsSubstituted (text_at a 0) (text_at a 1) (text_at a 2)
+    (maybe_whole_at a 3))
+IsResult fun.Replace a = IsText (λ q. q ≡ replace_of (text_at a 0) (whole_at a 1) (whole_at a 2)
+    (text_at a 3))
+IsResult fun.StartsWith a = IsTruthAnswer (λ b. IsTrue b
+    ↔ BeginsWithoutCase (text_at a 0) (text_at a 1))
+IsResult fun.EndsWith a = IsTruthAnswer (λ b. IsTrue b
+    ↔ EndsWithoutCase (text_at a 0) (text_at a 1))
 IsResult fun.Text a = λ r. r ≡ argument_at a 0
-IsResult (fun.FormatNumber f) a = λ r. r ≡ formatted (formatted_number f) (maybe_number (argument_at a 0))
+IsResult (fun.FormatNumber f) a = λ r. r ≡ formatted (formatted_number f)
+    (maybe_number (argument_at a 0))
 IsResult (fun.FormatDate f) a = λ r. r ≡ formatted (date_text_in f) (date_at a 0)
 IsResult fun.Blank a = λ r. r ≡ blank
 IsResult fun.IsBlank a = λ r. r ≡ boolean (is_blank_or_empty (argument_at a 0))
 IsResult fun.Coalesce a = λ r. r ≡ coalesced a
 IsResult fun.IsError a = λ r. r ≡ boolean (is_fault (argument_at a 0))
-IsResult fun.IsBlankOrError a = λ r. r ≡ boolean (is_fault (argument_at a 0) || is_blank_or_empty (argument_at a 0))
+IsResult fun.IsBlankOrError a = λ r. r ≡ boolean
+    (is_fault (argument_at a 0) || is_blank_or_empty (argument_at a 0))
 IsResult fun.Error a = IsErrorOf (argument_at a 0)
-IsResult fun.Date a = IsDate (IsDayOrInvalid (number_of_parts (whole_at a 0) (whole_at a 1) (whole_at a 2)))
+IsResult fun.Date a = IsDate (IsDayOrInvalid (number_of_parts (whole_at a 0) (whole_at a 1)
+    (whole_at a 2)))
 IsResult (fun.DateAdd u) a = OfDate (date_at a 0) (λ d. IsDate (IsDayLater u d (whole_at a 1)))
-IsResult (fun.DateDiff u) a = OfDate (date_at a 0) (λ d. OfDate (date_at a 1) (λ e. IsWholeNumber (difference u d e)))
+IsResult (fun.DateDiff u) a = OfDate (date_at a 0)
+    (λ d. OfDate (date_at a 1) (λ e. IsWholeNumber (difference u d e)))
 IsResult fun.Day a = OfDate (date_at a 0) (λ d. IsWholeNumber (pos (civil_of d).day))
 IsResult fun.Month a = OfDate (date_at a 0) (λ d. IsWholeNumber (pos (civil_of d).month))
 IsResult fun.Year a = OfDate (date_at a 0) (λ d. IsWholeNumber (pos (civil_of d).year))
@@ -162,7 +186,8 @@ is_strict fun.IsError = false
 is_strict fun.IsBlankOrError = false
 is_strict f = true
 
--- the error that a function answers in place of its result: a strict one the first error from the left
+-- the error that a function answers in place of its result: a strict one the first error from the
+-- left
 abbrev pub answered_fault : Fun → List Data → Option Data
 answered_fault f a = if is_strict f then first_fault a else None
 
@@ -181,7 +206,8 @@ abbrev pub CanCompareIf : Option Cmp → List Data → Type 0
 CanCompareIf None a = Unit {0}
 CanCompareIf (Some op) a = CanCompare op (argument_at a 0) (argument_at a 1)
 
--- a function of values can be applied to arguments that it compares, if it does, unless it answers an error
+-- a function of values can be applied to arguments that it compares, if it does, unless it answers
+-- an error
 pub record CanApply (f : Fun) (a : List Data) : Type 0 where
   pub of_values : IsTrue (is_value (row_of f).first)
   pub comparable : answered_fault f a ≡ None → CanCompareIf (comparison_of f) a

@@ -3,7 +3,8 @@ ghost use Rattle.std.specs.Prelude.{◌≡◌, IfOk, pos, ◌*ℤ◌, []};
 ghost use Rattle.fx_number.specs.Decimal.{Checked};
 ghost use Rattle.fx_types.specs.ValueView.{view};
 ghost use Rattle.fx_types.specs.Values.{fault as fault_data};
-ghost use Rattle.fx_scalar.specs.Answers.{IsPosition, IsWholeNumber, date_answer, maybe_answer, number_answer, text_answer};
+ghost use Rattle.fx_scalar.specs.Answers.{IsPosition, IsWholeNumber, date_answer, maybe_answer};
+ghost use Rattle.fx_scalar.specs.Answers.{number_answer, text_answer};
 
 use crate::arguments::no_text;
 use fx_base::Memory;

@@ -3,7 +3,12 @@
 ghost use Rattle.std.specs.Prelude.{◌≡◌, [], IfOk, MatchOption, map, option_map, pos};
 ghost use Rattle.fx_types.specs.ValueView.{view};
 ghost use Rattle.fx_types.specs.Values.{blank, fault};
-ghost use Rattle.fx_scalar.specs.Arguments.{argument_at as at_of, date_at as date_of, first_fault as first_fault_of, maybe_date, maybe_number, maybe_truth, maybe_whole_at as maybe_whole_of, number_at as number_of, text_at as text_of, text_in, truth_at as truth_of, views, whole_at as whole_of};
+ghost use Rattle.fx_scalar.specs.Arguments.{argument_at as at_of, date_at as date_of};
+ghost use Rattle.fx_scalar.specs.Arguments.{first_fault as first_fault_of, maybe_date};
+ghost use Rattle.fx_scalar.specs.Arguments.{maybe_number, maybe_truth};
+ghost use Rattle.fx_scalar.specs.Arguments.{maybe_whole_at as maybe_whole_of};
+ghost use Rattle.fx_scalar.specs.Arguments.{number_at as number_of, text_at as text_of, text_in};
+ghost use Rattle.fx_scalar.specs.Arguments.{truth_at as truth_of, views, whole_at as whole_of};
 
 use fx_base::Memory;
 use fx_number::Num;
@@ -12,7 +17,8 @@ use std::alloc::Global;
 
 /// The first error among arguments, from the left.
 pub(crate) fn first_fault(args: &[Value]) -> Option<&Fault>
-    ensures { option_map (λ f. fault f.now.kind f.now.message) result ≡ first_fault_of (views args.now) }
+    ensures { option_map (λ f. fault f.now.kind f.now.message) result
+        ≡ first_fault_of (views args.now) }
 {
     for arg in args {
         if let Value::Fault(fault) = arg {

@@ -6,7 +6,8 @@ ghost use Rattle.fx_types.specs.Values.{field_list, rec};
 ghost use Rattle.fx_core.specs.declared.functions.Fun.TheVariants as fun;
 ghost use Rattle.fx_value.specs.Coercion.{IsCoerced, field_or_blank};
 ghost use Rattle.fx_scalar.specs.Arguments.{text_in, views};
-ghost use Rattle.fx_scalar.specs.Errors.{IsErrorOf, fault_record, error_of as error_value, error_kind_named};
+ghost use Rattle.fx_scalar.specs.Errors.{IsErrorOf, fault_record, error_of as error_value};
+ghost use Rattle.fx_scalar.specs.Errors.{error_kind_named};
 ghost use Rattle.fx_scalar.specs.ScalarFunctions.{IsResult};
 
 use crate::arguments::{at, text};
@@ -36,7 +37,8 @@ fn error_of_fields(alloc: Global, fields: &Fields) -> Result<Value, Memory>
 
 // A field as a text, which is blank where there is none of this name.
 fn field_text(alloc: Global, fields: &Fields, name: &Words) -> Result<Value, Memory>
-    ensures { IfOk result (λ v. IsCoerced (field_or_blank name.now (field_list fields.now)) texts (view v)) }
+    ensures { IfOk result (λ v. IsCoerced (field_or_blank name.now (field_list fields.now)) texts
+        (view v)) }
 {
     match fields.value(name) {
         Some(value) => as_text(alloc, value),
@@ -54,8 +56,8 @@ fn as_text(alloc: Global, value: &Value) -> Result<Value, Memory>
     }
 }
 
-// The error of a kind and a message, as texts: `Custom` where no kind has that name, and else the error
-// that the kind or the message is.
+// The error of a kind and a message, as texts: `Custom` where no kind has that name, and else the
+// error that the kind or the message is.
 fn error_of(alloc: Global, kind: &Value, message: &Value) -> Result<Value, Memory>
     ensures { IfOk result (λ v. view v ≡ error_value (view kind.now) (view message.now)) }
 {

@@ -1,7 +1,8 @@
 //! What the forms and functions that evaluate no more parts than they need decide by values.
 ghost use Rattle.std.specs.Prelude.{◌≡◌};
 ghost use Rattle.fx_types.specs.ValueView.{view};
-ghost use Rattle.fx_scalar.specs.LazyForms.{CanMatch, IsSplit, decision_of, equality, none_left as none_left_of};
+ghost use Rattle.fx_scalar.specs.LazyForms.{CanMatch, IsSplit, decision_of, equality};
+ghost use Rattle.fx_scalar.specs.LazyForms.{none_left as none_left_of};
 ghost use Rattle.fx_scalar.specs.ScalarFunctions.{is_blank_or_empty as is_blank_value};
 
 use fx_core::Form;
@@ -40,8 +41,8 @@ pub fn decide_match(wanted: &Value, value: Value) -> Decision
     }
 }
 
-/// What a form is worth where no part is left and none has decided: `And` is true, `Or` false, and all
-/// else blank.
+/// What a form is worth where no part is left and none has decided: `And` is true, `Or` false, and
+/// all else blank.
 pub fn exhausted_value(form: Form) -> Value
     ensures { view result ≡ none_left_of form }
 {

@@ -5,7 +5,10 @@ ghost use Rattle.fx_types.specs.Values.{fault};
 ghost use Rattle.fx_core.specs.Rows.{row_of};
 ghost use Rattle.fx_scalar.specs.Arguments.{views};
 ghost use Rattle.fx_scalar.specs.Fitting.{FitPlaces, FitsAnswer};
-ghost use Rattle.fx_scalar.specs.ScalarFunctions.{CanApply, CanCompareIf, IsAnswer, IsResult, answered_fault as answered_fault_of, comparison_of, is_strict as is_strict_function, is_value};
+ghost use Rattle.fx_scalar.specs.ScalarFunctions.{CanApply, CanCompareIf, IsAnswer, IsResult};
+ghost use Rattle.fx_scalar.specs.ScalarFunctions.{answered_fault as answered_fault_of};
+ghost use Rattle.fx_scalar.specs.ScalarFunctions.{comparison_of, is_strict as is_strict_function};
+ghost use Rattle.fx_scalar.specs.ScalarFunctions.{is_value};
 
 use crate::arguments::first_fault;
 use crate::{dates, errors, numbers, texts, truths};
@@ -14,11 +17,11 @@ use fx_core::Fun;
 use fx_types::{Cmp, Fault, Value};
 use std::alloc::Global;
 
-/// What a function of values, or an operator, answers to its arguments. Blank arguments count as 0, as
-/// an empty text or as false; a blank date makes the answer blank. The first error from the left is
-/// answered, but `IsError` and `IsBlankOrError` tell whether there is one, and `Coalesce` passes over
-/// those behind its answer. An error that the function makes has no message, but for that of `Error`. Where
-/// the arguments fit their places, the answer fits its type.
+/// What a function of values, or an operator, answers to its arguments. Blank arguments count as 0,
+/// as an empty text or as false; a blank date makes the answer blank. The first error from the left
+/// is answered, but `IsError` and `IsBlankOrError` tell whether there is one, and `Coalesce` passes
+/// over those behind its answer. An error that the function makes has no message, but for that of
+/// `Error`. Where the arguments fit their places, the answer fits its type.
 pub fn apply(alloc: Global, fun: Fun, args: &[Value]) -> Result<Value, Memory>
     requires { CanApply fun (views args.now) }
     ensures answer { IfOk result (λ v. IsAnswer fun (views args.now) (view v)) }
@@ -33,7 +36,8 @@ pub fn apply(alloc: Global, fun: Fun, args: &[Value]) -> Result<Value, Memory>
 
 // The error that is answered in place of a result.
 fn answered_fault(fun: Fun, args: &[Value]) -> Option<&Fault>
-    ensures { option_map (λ f. fault f.now.kind f.now.message) result ≡ answered_fault_of fun (views args.now) }
+    ensures { option_map (λ f. fault f.now.kind f.now.message) result
+        ≡ answered_fault_of fun (views args.now) }
 {
     if is_strict(fun) {
         first_fault(args)
@@ -125,7 +129,8 @@ fn calculate(alloc: Global, fun: Fun, args: &[Value]) -> Result<Value, Memory>
         Fun::Year => dates::year(alloc, args),
         Fun::Weekday => dates::weekday(alloc, args),
         Fun::DateValue => dates::read_date(alloc, args),
-        // Functions of tables aren't called here. They are listed, so that no new function is taken for one.
+        // Functions of tables aren't called here. They are listed, so that no new function is taken
+        // for one.
         Fun::Filter
         | Fun::LookUp
         | Fun::Sort(_)

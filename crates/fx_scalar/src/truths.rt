@@ -4,7 +4,9 @@ ghost use Rattle.fx_types.specs.ValueView.{view};
 ghost use Rattle.fx_core.specs.declared.functions.Fun.TheVariants as fun;
 ghost use Rattle.fx_value.specs.Operators.{CanCompare};
 ghost use Rattle.fx_scalar.specs.Arguments.{argument_at as at_of, views};
-ghost use Rattle.fx_scalar.specs.ScalarFunctions.{IsCompared, IsResult, coalesced, is_blank_or_empty as is_blank_value, is_fault as is_fault_value};
+ghost use Rattle.fx_scalar.specs.ScalarFunctions.{IsCompared, IsResult, coalesced};
+ghost use Rattle.fx_scalar.specs.ScalarFunctions.{is_blank_or_empty as is_blank_value};
+ghost use Rattle.fx_scalar.specs.ScalarFunctions.{is_fault as is_fault_value};
 
 use crate::arguments::{at, at_or, text_at, truth_at};
 use crate::lazy_forms::is_blank as is_blank_one;

@@ -6,8 +6,8 @@ use Rattle.fx_types.specs.Values.{Data, rec, field_list}
 use Rattle.fx_core.specs.declared.sources.Source.{Source}
 use Rattle.fx_value.specs.Columns.{Row}
 
--- what each source may give, the rows and records of the scopes from the outside, the gallery's item if
--- there is one, and the error that was caught around, if one was
+-- what each source may give, the rows and records of the scopes from the outside, the gallery's
+-- item if there is one, and the error that was caught around, if one was
 pub record Around : Type 1 where
   pub gives : Source → Data → Type 0
   pub rows : List Data

@@ -1,4 +1,5 @@
--- The value of a typed tree, by recursion on the tree: what a node means is made of what its parts mean.
+-- The value of a typed tree, by recursion on the tree: what a node means is made of what its parts
+-- mean.
 use Rattle.std.specs.Prelude.{◌≡◌, ℕ, List, [], ◌∷◌, Some, slice_get}
 use Rattle.fx_types.specs.Types.{tables}
 use Rattle.fx_types.specs.Values.{Data, blank, rec, fault, FieldList, no_fields, field}

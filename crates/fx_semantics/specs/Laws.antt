@@ -12,8 +12,10 @@ use Rattle.fx_typing.specs.WellTyped.{Context, IsTyped}
 
 -- in what is admitted, what acts acts in its place alone
 abbrev pub AdmittedIsPlaced : Type 0
-AdmittedIsPlaced = (p : Place) (b : Bool) (wanted : Option Shape) (e : Tree) (x : Term × Shape) → judge_whole p b wanted e ≡ Ok x → IsPlaced x.0
+AdmittedIsPlaced = (p : Place) (b : Bool) (wanted : Option Shape) (e : Tree) (x : Term × Shape)
+    → judge_whole p b wanted e ≡ Ok x → IsPlaced x.0
 
 -- all types of a tree are lawful where those around are and those that it names
 abbrev pub AllTypingsLawful : Type 0
-AllTypingsLawful = (c : Context) (t : Term) (s : Shape) (w : IsTyped c t s) → IsLawfulContext c → HasLawfulTypes t → IsLawfulTyping c t s w
+AllTypingsLawful = (c : Context) (t : Term) (s : Shape) (w : IsTyped c t s) → IsLawfulContext c
+    → HasLawfulTypes t → IsLawfulTyping c t s w

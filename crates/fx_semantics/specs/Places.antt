@@ -27,8 +27,9 @@ abbrev pub sets_of_screen : Deed → Bool
 sets_of_screen (deed.UpdateContext ks) = are_of_screen ks
 sets_of_screen d = true
 
--- a node that may act, or in which a part may: a change of state, a chain, a branch of `If`, `Switch` or `IfError`, the
--- formula of `With` or `ForAll`, what stands left of `.`, and what is given to a change, which may be coerced or a row
+-- a node that may act, or in which a part may: a change of state, a chain, a branch of `If`,
+-- `Switch` or `IfError`, the formula of `With` or `ForAll`, what stands left of `.`, and what is
+-- given to a change, which may be coerced or a row
 abbrev pub part_may_act : Top → Bool
 part_may_act top.chain = true
 part_may_act (top.act d) = sets_of_screen d

@@ -1,14 +1,18 @@
 -- The functions of tables: from the rows, and from the meanings of the other parts.
-use Rattle.std.specs.Prelude.{◌≡◌, ℕ, Bool, true, false, List, [], ◌∷◌, map, length, Option, Some, None}
-use Rattle.fx_types.specs.Values.{Data, text, rec, tab, FieldList, no_fields, field, RowList, no_rows, row, row_list}
+use Rattle.std.specs.Prelude.{◌≡◌, ℕ, Bool, true, false, List, [], ◌∷◌, map, length, Option, Some}
+use Rattle.std.specs.Prelude.{None}
+use Rattle.fx_types.specs.Values.{Data, text, rec, tab, FieldList, no_fields, field, RowList}
+use Rattle.fx_types.specs.Values.{no_rows, row, row_list}
 use Rattle.fx_core.specs.declared.functions.Fun.{Fun}
 use Rattle.fx_core.specs.declared.functions.Fun.TheVariants as fun
 use Rattle.fx_core.specs.declared.literals.SortOrder.{SortOrder}
 use Rattle.fx_core.specs.declared.literals.SortOrder.TheVariants as order
-use Rattle.fx_tables.specs.AggregateCalls.{IsSumOf, IsLeastOf, IsGreatestOf, averaged, concatenated, concatenated_by}
+use Rattle.fx_tables.specs.AggregateCalls.{IsSumOf, IsLeastOf, IsGreatestOf, averaged, concatenated}
+use Rattle.fx_tables.specs.AggregateCalls.{concatenated_by}
 use Rattle.fx_tables.specs.ColumnCalls.{renamed_columns, with_columns, without_columns}
 use Rattle.fx_tables.specs.Ends.{emptiness_of, first_rows, last_of, last_rows}
-use Rattle.fx_tables.specs.RowCalls.{IsCountIfOf, IsCountValue, IsSortOf, distinct_or, filtered, first_row_record, for_all_of, looked_up, verdict_of}
+use Rattle.fx_tables.specs.RowCalls.{IsCountIfOf, IsCountValue, IsSortOf, distinct_or, filtered}
+use Rattle.fx_tables.specs.RowCalls.{first_row_record, for_all_of, looked_up, verdict_of}
 use Rattle.fx_value.specs.Columns.{Row, fields_only}
 use Rattle.fx_scalar.specs.LazyForms.{ErrorOr}
 use Rattle.fx_semantics.specs.Around.{Around, Meaning, AreEach, AreValues, inside}
@@ -56,7 +60,8 @@ IsOfFound d F a v = v ≡ d
 -- `LookUp`: the first row whose condition holds, or a formula of that row
 abbrev pub IsLookedUp : List Row → List Meaning → Meaning
 IsLookedUp rows (C ∷ []) a v = (ds : List Data) × AreEach C a rows ds × (v ≡ looked_up rows ds)
-IsLookedUp rows (C ∷ F ∷ []) a v = (ds : List Data) × AreEach C a rows ds × IsOfFound (looked_up rows ds) F a v
+IsLookedUp rows (C ∷ F ∷ []) a v = (ds : List Data) × AreEach C a rows ds
+    × IsOfFound (looked_up rows ds) F a v
 IsLookedUp rows Ps a v = ⊥
 
 -- some of the rows: as many as the number says, where one is given
@@ -68,7 +73,8 @@ TakesRows taken Ps a v = ⊥
 -- `Concat`
 abbrev pub IsConcat : List Row → List Meaning → Meaning
 IsConcat rows (F ∷ []) a v = (ds : List Data) × AreEach F a rows ds × (v ≡ concatenated [] ds)
-IsConcat rows (F ∷ S ∷ []) a v = (ds : List Data) × (s : Data) × AreEach F a rows ds × S a s × (v ≡ concatenated_by s ds)
+IsConcat rows (F ∷ S ∷ []) a v = (ds : List Data) × (s : Data) × AreEach F a rows ds × S a s
+    × (v ≡ concatenated_by s ds)
 IsConcat rows Ps a v = ⊥
 
 abbrev pub is_falling : SortOrder → Bool
@@ -82,7 +88,8 @@ AreNames [] a [] = Unit {0}
 AreNames (P ∷ Ps) a (n ∷ ns) = P a (text n) × AreNames Ps a ns
 AreNames Ps a ns = ⊥
 
--- new columns, each a name and its formula's values for the rows as given; errors stay in the fields
+-- new columns, each a name and its formula's values for the rows as given; errors stay in the
+-- fields
 abbrev pub AreNew : List Row → List Meaning → Around → List (List ℕ × List Data) → Type 0
 AreNew rows [] a [] = Unit {0}
 AreNew rows (N ∷ F ∷ Ps) a (c ∷ cs) = N a (text c.0) × AreEach F a rows c.1 × AreNew rows Ps a cs
@@ -114,10 +121,12 @@ IsMade fun.SumRows rows Ps a v = OfEach rows Ps a (λ ds. IsSumOf ds v)
 IsMade fun.MinRows rows Ps a v = OfEach rows Ps a (λ ds. IsLeastOf ds v)
 IsMade fun.MaxRows rows Ps a v = OfEach rows Ps a (λ ds. IsGreatestOf ds v)
 IsMade fun.AverageRows rows Ps a v = OfEach rows Ps a (λ ds. v ≡ averaged ds)
-IsMade fun.AddColumns rows Ps a v = (cs : List (List ℕ × List Data)) × AreNew rows Ps a cs × (v ≡ table_of (with_columns cs rows))
+IsMade fun.AddColumns rows Ps a v = (cs : List (List ℕ × List Data)) × AreNew rows Ps a cs
+    × (v ≡ table_of (with_columns cs rows))
 IsMade fun.DropColumns rows Ps a v = MakesByNames (λ ns. without_columns ns rows) Ps a v
 IsMade fun.ShowColumns rows Ps a v = MakesByNames (λ ns. map (fields_only ns) rows) Ps a v
-IsMade fun.RenameColumns rows Ps a v = (ps : List (List ℕ × List ℕ)) × AreRenamings Ps a ps × (v ≡ table_of (renamed_columns ps rows))
+IsMade fun.RenameColumns rows Ps a v = (ps : List (List ℕ × List ℕ)) × AreRenamings Ps a ps
+    × (v ≡ table_of (renamed_columns ps rows))
 IsMade fun.Distinct rows Ps a v = OfEach rows Ps a (λ ds. v ≡ distinct_or ds)
 IsMade fun.ForAll rows Ps a v = OfEach rows Ps a (λ ds. v ≡ for_all_of ds)
 IsMade fun.Concat rows Ps a v = IsConcat rows Ps a v

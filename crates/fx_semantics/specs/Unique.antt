@@ -10,12 +10,20 @@ use Rattle.fx_semantics.specs.Fresh.{IsValue}
 use Rattle.fx_semantics.specs.Sources.{Gives}
 
 -- where the values of sources are told
-abbrev pub told : (Source → Option Shape) → (Source → Data) → List Data → Option Data → Option Fault → Around
-told types values rows item caught = record { gives = Gives types (Some values); rows = rows; item = item; caught = caught }
+abbrev pub told : (Source → Option Shape) → (Source → Data) → List Data → Option Data → Option Fault
+    → Around
+told types values rows item caught = record {
+  gives = Gives types (Some values);
+  rows = rows;
+  item = item;
+  caught = caught;
+}
 
 -- a tree has one value at most where the values of its sources are told
 abbrev pub OneValue : Type 0
 OneValue =
-    (types : Source → Option Shape) (values : Source → Data) (rows : List Data) (item : Option Data) (caught : Option Fault)
+    (types : Source → Option Shape) (values : Source → Data) (rows : List Data) (item : Option Data)
+    (caught : Option Fault)
     (t : Term) (v w : Data) →
-    IsValue (told types values rows item caught) t v → IsValue (told types values rows item caught) t w → v ≡ w
+    IsValue (told types values rows item caught) t v
+    → IsValue (told types values rows item caught) t w → v ≡ w

@@ -12,8 +12,8 @@ pub fn values_fit()
     ensures { ValuesFit }
 {}
 
-/// A law, and no work: the columns of all types of a typing have rising names, where those of the types
-/// around and of those that the tree names have.
+/// A law, and no work: the columns of all types of a typing have rising names, where those of the
+/// types around and of those that the tree names have.
 pub fn typings_are_lawful()
     ensures { TypingsLawful }
 {}

@@ -8,8 +8,8 @@ pub fn admitted_is_placed()
     ensures { AdmittedIsPlaced }
 {}
 
-/// A law, and no work: the columns of all types of a typing have rising names, where those of the types around and of
-/// those that the tree names have, whether or not the tree acts.
+/// A law, and no work: the columns of all types of a typing have rising names, where those of the
+/// types around and of those that the tree names have, whether or not the tree acts.
 pub fn all_typings_are_lawful()
     ensures { AllTypingsLawful }
 {

@@ -24,31 +24,73 @@ pub record Entry : Type 0 where
 
 -- what an entry of the table in memory is seen as
 abbrev pub entry : Signature → Entry
-entry s = record { name = s.name.now; shape = s.shape; least = s.least; most = s.most; acts = s.acts }
+entry s = record {
+  name = s.name.now;
+  shape = s.shape;
+  least = s.least;
+  most = s.most;
+  acts = s.acts;
+}
 
 -- a function under one name, with as many arguments as its row says
 abbrev pub calls : List ℕ → Fun → Entry
-calls name f = record { name = name; shape = shape.One f; least = (row_of f).least; most = (row_of f).most; acts = false }
+calls name f = record {
+  name = name;
+  shape = shape.One f;
+  least = (row_of f).least;
+  most = (row_of f).most;
+  acts = false;
+}
 
 -- the same with one more argument at most, a literal
 abbrev pub calls_by_literal : List ℕ → Fun → Entry
-calls_by_literal name f = record { name = name; shape = shape.Literal f; least = (row_of f).least; most = suc (row_of f).most; acts = false }
+calls_by_literal name f = record {
+  name = name;
+  shape = shape.Literal f;
+  least = (row_of f).least;
+  most = suc (row_of f).most;
+  acts = false;
+}
 
 -- the function of scalars, and under the same name that of the rows of a table
 abbrev pub calls_either : List ℕ → Fun → Fun → Entry
-calls_either name f g = record { name = name; shape = shape.Either f g; least = (row_of f).least; most = (row_of f).most; acts = false }
+calls_either name f g = record {
+  name = name;
+  shape = shape.Either f g;
+  least = (row_of f).least;
+  most = (row_of f).most;
+  acts = false;
+}
 
 -- a form
 abbrev pub chooses : List ℕ → Form → Entry
-chooses name f = record { name = name; shape = shape.Form f; least = (form_row f).least; most = (form_row f).most; acts = false }
+chooses name f = record {
+  name = name;
+  shape = shape.Form f;
+  least = (form_row f).least;
+  most = (form_row f).most;
+  acts = false;
+}
 
 -- a call that has a rule of its own
 abbrev pub special_entry : List ℕ → SigShape → ℕ → ℕ → Entry
-special_entry name s least most = record { name = name; shape = s; least = least; most = most; acts = false }
+special_entry name s least most = record {
+  name = name;
+  shape = s;
+  least = least;
+  most = most;
+  acts = false;
+}
 
 -- a function that changes state
 abbrev pub acting_entry : List ℕ → Acting → ℕ → ℕ → Entry
-acting_entry name a least most = record { name = name; shape = shape.Act a; least = least; most = most; acts = true }
+acting_entry name a least most = record {
+  name = name;
+  shape = shape.Act a;
+  least = least;
+  most = most;
+  acts = true;
+}
 
 -- all functions, each once
 unfoldable pub entries : List Entry

@@ -1,4 +1,5 @@
-//! The table of functions: each name with the function that it calls and how many arguments it takes.
+//! The table of functions: each name with the function that it calls and how many arguments it
+//! takes.
 #![tactic(auto)]
 
 pub mod table;

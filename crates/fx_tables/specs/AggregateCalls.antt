@@ -1,4 +1,5 @@
--- What a formula's values for each row come to as one value. Blank ones are passed over, but in `Concat`.
+-- What a formula's values for each row come to as one value. Blank ones are passed over, but in
+-- `Concat`.
 use Rattle.std.specs.Prelude.{◌≡◌, ℕ, ℤ, List, [], ◌∷◌, map, Option, Some, None, Result, Ok, Err}
 use Rattle.std.specs.List.{flat_map}
 use Rattle.fx_types.specs.Values.{Data, blank, number, text, fault}
@@ -34,7 +35,8 @@ abbrev pub number_or_blank : Option ℤ → Data
 number_or_blank None = blank
 number_or_blank (Some z) = number z
 
--- `Average`: the first error in row order, else the exact sum divided by how many there are, rounded once
+-- `Average`: the first error in row order, else the exact sum divided by how many there are,
+-- rounded once
 abbrev pub averaged : List Data → Data
 averaged ds = fault_or ds (number_or_blank (average_of (numbers_in ds)))
 
@@ -55,7 +57,8 @@ made_value (Err k) = fault k []
 
 -- `Concat`: the first error in row order, else the texts joined, with a separator between each two
 abbrev pub concatenated : List ℕ → List Data → Data
-concatenated s ds = fault_or ds (made_value (text_or_quota (joined (separated s (map characters_in ds)))))
+concatenated s ds = fault_or ds (made_value (text_or_quota
+    (joined (separated s (map characters_in ds)))))
 
 -- the same with a value in place of the separator: an error there comes after one of the texts
 abbrev pub concatenated_by : Data → List Data → Data

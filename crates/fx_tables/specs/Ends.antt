@@ -1,5 +1,6 @@
 -- The first and the last rows of a table, and how many there are.
-use Rattle.std.specs.Prelude.{ℕ, ◌-◌, ◌==◌, ℤ, pos, List, length, take, drop, reverse, Option, Some, None}
+use Rattle.std.specs.Prelude.{ℕ, ◌-◌, ◌==◌, ℤ, pos, List, length, take, drop, reverse, Option, Some}
+use Rattle.std.specs.Prelude.{None}
 use Rattle.fx_types.specs.Values.{Data, number, boolean, tab, fault, row_list}
 use Rattle.fx_primitives.specs.Numbers.{whole_part_of}
 use Rattle.fx_tables.specs.RowCalls.{first_row_record}

@@ -1,9 +1,11 @@
 -- The calls on rows, as functions of the rows and of what a formula gave for each of them in turn.
-use Rattle.std.specs.Prelude.{◌≡◌, ℕ, pos, ◌*ℤ◌, Bool, true, false, List, [], ◌∷◌, map, length, not, MatchOption, None}
+use Rattle.std.specs.Prelude.{◌≡◌, ℕ, pos, ◌*ℤ◌, Bool, true, false, List, [], ◌∷◌, map, length, not}
+use Rattle.std.specs.Prelude.{MatchOption, None}
 use Rattle.std.specs.List.{filter, find, list_all, zip}
 use Rattle.fx_number.specs.Decimal.{IsInRange}
 use Rattle.fx_types.specs.Types.{Shape, tables}
-use Rattle.fx_types.specs.Values.{Data, blank, number, boolean, rec, tab, fault, RowList, no_rows, row, field_list, row_list}
+use Rattle.fx_types.specs.Values.{Data, blank, number, boolean, rec, tab, fault, RowList, no_rows}
+use Rattle.fx_types.specs.Values.{row, field_list, row_list}
 use Rattle.fx_types.specs.declared.faults.Kind.TheVariants.{Numeric}
 use Rattle.fx_value.specs.Columns.{Row}
 use Rattle.fx_tables.specs.Distinct.{distinct_of, value_row}
@@ -25,7 +27,8 @@ verdict_of cs = fault_or cs (boolean (list_all holds cs))
 
 -- the rows whose condition holds
 abbrev pub kept_rows : List Row → List Data → List Row
-kept_rows rows cs = map (λ (p : Row × Data). p.0) (filter (λ (p : Row × Data). holds p.1) (zip rows cs))
+kept_rows rows cs = map (λ (p : Row × Data). p.0)
+    (filter (λ (p : Row × Data). holds p.1) (zip rows cs))
 
 -- `Filter`: the first error of a condition in row order, else the rows whose condition holds
 abbrev pub filtered : List Row → List Data → Data
@@ -75,7 +78,8 @@ distinct_or ds = fault_or ds (tab (row_list (map value_row (distinct_of ds))))
 
 -- a table of the rows in the order of their keys
 abbrev pub IsTableBy : Bool → List Data → List Row → Data → Type 0
-IsTableBy down keys rows (tab rs) = (ordered : List Row) × (rs ≡ row_list ordered) × IsOrderedBy down keys rows ordered
+IsTableBy down keys rows (tab rs) = (ordered : List Row) × (rs ≡ row_list ordered)
+    × IsOrderedBy down keys rows ordered
 IsTableBy down keys rows _ = ⊥
 
 -- `Sort`: the first error of a key in row order, else the rows in the order of their keys

@@ -2,7 +2,8 @@
 use Rattle.std.specs.Prelude.{◌≡◌, Bool, true, false, List, [], ◌∷◌, map, unwrap_or}
 use Rattle.std.specs.List.{All, find}
 use Rattle.fx_types.specs.Types.{Shape, records, tables, ColumnList, no_columns, column}
-use Rattle.fx_types.specs.Values.{Data, blank, rec, tab, fault, FieldList, no_fields, field, RowList, no_rows, row}
+use Rattle.fx_types.specs.Values.{Data, blank, rec, tab, fault, FieldList, no_fields, field}
+use Rattle.fx_types.specs.Values.{RowList, no_rows, row}
 use Rattle.fx_value.specs.Coercion.{CanWiden, widened_fields}
 use Rattle.fx_value.specs.Fits.{fits_in}
 use Rattle.fx_tables.specs.Distinct.{value_name}
@@ -22,8 +23,8 @@ fields_in blank = no_fields
 fields_in (rec fs) = fs
 fields_in d = field value_name d no_fields
 
--- a value that can be a row of these columns: blank, a record of a type that widens to them, or a scalar
--- of the type of the one column `Value`. An error may stand for a row, too.
+-- a value that can be a row of these columns: blank, a record of a type that widens to them, or a
+-- scalar of the type of the one column `Value`. An error may stand for a row, too.
 abbrev pub CanBeRow : ColumnList → Data → Type 0
 CanBeRow cs (tab rs) = ⊥
 CanBeRow cs blank = Unit {0}

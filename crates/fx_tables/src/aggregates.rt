@@ -3,7 +3,8 @@ ghost use Rattle.std.specs.Prelude.{◌≡◌, IfOk, map, true};
 ghost use Rattle.fx_types.specs.Types.{numbers as number_type};
 ghost use Rattle.fx_types.specs.ValueView.{view};
 ghost use Rattle.fx_primitives.specs.Folds.{nonblank};
-ghost use Rattle.fx_tables.specs.AggregateCalls.{IsGreatestOf, IsLeastOf, IsSumOf, IsSumValue, averaged, number_or_blank};
+ghost use Rattle.fx_tables.specs.AggregateCalls.{IsGreatestOf, IsLeastOf, IsSumOf, IsSumValue};
+ghost use Rattle.fx_tables.specs.AggregateCalls.{averaged, number_or_blank};
 ghost use Rattle.fx_value.specs.Aggregates.{number_if_one, numbers_in};
 ghost use Rattle.fx_value.specs.Fits.{fits_in};
 

@@ -4,10 +4,12 @@ ghost use Rattle.fx_types.specs.Rising.{AreNamesRising};
 ghost use Rattle.fx_types.specs.Types.{ColumnList, Shape, column_list, tables};
 ghost use Rattle.fx_types.specs.ValueView.{view};
 ghost use Rattle.fx_types.specs.Values.{row_list, tab};
-ghost use Rattle.fx_tables.specs.ColumnCalls.{AreOfTypes, CanAddColumns, CanRename, in_turn, renamed_columns, with_columns, without_columns};
+ghost use Rattle.fx_tables.specs.ColumnCalls.{AreOfTypes, CanAddColumns, CanRename, in_turn};
+ghost use Rattle.fx_tables.specs.ColumnCalls.{renamed_columns, with_columns, without_columns};
 ghost use Rattle.fx_tables.specs.NewColumn.{column_seen, renaming_seen};
 ghost use Rattle.fx_value.specs.Columns.{fields_only};
-ghost use Rattle.fx_core.specs.ColumnLists.{columns_only as only_columns, with_new, with_renamed, without_all};
+ghost use Rattle.fx_core.specs.ColumnLists.{columns_only as only_columns, with_new, with_renamed};
+ghost use Rattle.fx_core.specs.ColumnLists.{without_all};
 ghost use Rattle.fx_value.specs.Fits.{fits_in};
 
 use crate::{add_column, drop_column, rename_column};
@@ -50,7 +52,8 @@ pub fn drop_columns(alloc: Global, rows: Rows, names: &[Words]) -> Result<Value,
     ensures value { IfOk result (λ v. view v ≡ tab (row_list (without_columns names.now rows))) }
     ensures fits { (cs : List (List ℕ × Shape)) → AreNamesRising cs
         → fits_in (tab (row_list rows)) (tables (column_list cs)) ≡ true
-        → IfOk result (λ v. fits_in (view v) (tables (without_all names.now (column_list cs))) ≡ true) }
+        → IfOk result (λ v. fits_in (view v) (tables (without_all names.now (column_list cs)))
+        ≡ true) }
 {
     let mut narrower = rows;
     for name in names {
@@ -76,7 +79,8 @@ pub fn rename_columns(alloc: Global, rows: Rows, renamings: &[Renaming]) -> Resu
         ≡ tab (row_list (renamed_columns (map renaming_seen renamings.now) rows))) }
     ensures fits { (cs : List (List ℕ × Shape)) (ds : ColumnList) → AreNamesRising cs
         → fits_in (tab (row_list rows)) (tables (column_list cs)) ≡ true
-        → in_turn (λ p. with_renamed p.0 p.1) (map renaming_seen renamings.now) (column_list cs) ≡ Ok ds
+        → in_turn (λ p. with_renamed p.0 p.1) (map renaming_seen renamings.now) (column_list cs)
+        ≡ Ok ds
         → IfOk result (λ v. fits_in (view v) (tables ds) ≡ true) }
 {
     let mut renamed = rows;

@@ -1,5 +1,6 @@
 // The calls that change the columns of a table.
-ghost use Rattle.std.specs.Prelude.{◌≡◌, ◌≤◌, IfOk, MatchOption, map, length, unwrap_or, None, Some, option_map, slice_get};
+ghost use Rattle.std.specs.Prelude.{◌≡◌, ◌≤◌, IfOk, MatchOption, map, length, unwrap_or, None};
+ghost use Rattle.std.specs.Prelude.{Some, option_map, slice_get};
 ghost use Rattle.std.specs.List.{list_any, position_or_len};
 ghost use Rattle.std.specs.Prelude.{bytes_eq};
 ghost use Rattle.std.specs.Cmp.Lexicographic.{slice_cmp};
@@ -9,7 +10,9 @@ ghost use Rattle.fx_types.specs.Rising.{AreNamesRising};
 ghost use Rattle.fx_types.specs.Values.{blank};
 ghost use Rattle.fx_types.specs.ValueView.{view, fields_view};
 ghost use Rattle.fx_types.specs.Words.{scalars_of};
-ghost use Rattle.fx_value.specs.Columns.{LacksColumn, fields_only as only_of, field_renamed as renamed_of, rows_with_column, with_field as with_field_of, fields_without as without_of};
+ghost use Rattle.fx_value.specs.Columns.{LacksColumn, fields_only as only_of};
+ghost use Rattle.fx_value.specs.Columns.{field_renamed as renamed_of, rows_with_column};
+ghost use Rattle.fx_value.specs.Columns.{with_field as with_field_of, fields_without as without_of};
 
 use fx_base::Memory;
 use fx_types::values::{Fields, Rows, Value};
@@ -20,7 +23,8 @@ use std::alloc::Global;
 pub fn add_column(alloc: Global, rows: Rows, name: &str, values: Vec<Value>) -> Result<Rows, Memory>
     requires new { LacksColumn (scalars_of name.now) rows }
     requires long { length values.items ≡ length rows }
-    ensures { IfOk result (λ r. r ≡ rows_with_column (scalars_of name.now) rows (map view values.items)) }
+    ensures { IfOk result (λ r. r ≡ rows_with_column (scalars_of name.now) rows
+        (map view values.items)) }
 {
     let name = Words::of(alloc, name)?;
     rows_with(alloc, rows, &name, values)
@@ -160,7 +164,8 @@ fn rename_field(row: Fields, from: &Words, to: Words) -> Result<Fields, Memory>
 // The value under a name, which is taken out, or blank where it is missing.
 fn take_value(items: &mut Vec<(Words, Value)>, name: &Words) -> Value
     requires { AreNamesRising (fields_view items.old.items) }
-    ensures value { view result ≡ unwrap_or (item_named name.now (fields_view items.old.items)) blank }
+    ensures value { view result ≡ unwrap_or (item_named name.now (fields_view items.old.items))
+        blank }
     ensures others { fields_view items.new.items
         ≡ without_of name.now (fields_view items.old.items) }
 {

@@ -1,10 +1,12 @@
 // The calls that keep the rows where conditions hold.
-ghost use Rattle.std.specs.Prelude.{◌≡◌, ◌++◌, ◌∷◌, [], IfOk, OnOk, length, map, true, if◌then◌else◌};
+ghost use Rattle.std.specs.Prelude.{◌≡◌, ◌++◌, ◌∷◌, [], IfOk, OnOk, length, map, true};
+ghost use Rattle.std.specs.Prelude.{if◌then◌else◌};
 ghost use Rattle.std.specs.List.{list_all};
 ghost use Rattle.fx_types.specs.Types.{ColumnList, Shape, booleans, records, tables};
 ghost use Rattle.fx_types.specs.ValueView.{view};
 ghost use Rattle.fx_types.specs.Values.{row_list, tab};
-ghost use Rattle.fx_tables.specs.RowCalls.{filtered, holds as holds_in, kept_rows, looked_up, verdict_of};
+ghost use Rattle.fx_tables.specs.RowCalls.{filtered, holds as holds_in, kept_rows, looked_up};
+ghost use Rattle.fx_tables.specs.RowCalls.{verdict_of};
 ghost use Rattle.fx_value.specs.Fits.{fits_in};
 
 use crate::ends::first;
@@ -13,8 +15,8 @@ use fx_base::Memory;
 use fx_types::values::{Fields, Rows, Value};
 use std::alloc::Global;
 
-/// What the conditions of one row come to: the first error from the left, else whether all hold. All
-/// of them have been evaluated.
+/// What the conditions of one row come to: the first error from the left, else whether all hold.
+/// All of them have been evaluated.
 pub fn verdict(conditions: Vec<Value>) -> Value
     ensures value { view result ≡ verdict_of (map view conditions.items) }
     ensures fits { fits_in (view result) booleans ≡ true }
@@ -25,8 +27,8 @@ pub fn verdict(conditions: Vec<Value>) -> Value
     }
 }
 
-/// The table of the rows whose conditions, which stand at their places, hold; a blank condition does
-/// not. Where a condition is an error, the first one is the answer.
+/// The table of the rows whose conditions, which stand at their places, hold; a blank condition
+/// does not. Where a condition is an error, the first one is the answer.
 pub fn filter(alloc: Global, rows: Rows, conditions: Vec<Value>) -> Result<Value, Memory>
     requires { length conditions.items ≡ length rows }
     ensures value { IfOk result (λ v. view v ≡ filtered rows (map view conditions.items)) }
@@ -76,8 +78,8 @@ fn keep_rows(alloc: Global, rows: Rows, conditions: Vec<Value>) -> Result<Rows, 
     Ok(Rows::from_items(held))
 }
 
-// Keeps a row whose condition holds. A function, since the loop would lose what it knows where the ways of an `if`
-// meet.
+// Keeps a row whose condition holds. A function, since the loop would lose what it knows where the
+// ways of an `if` meet.
 fn keep(held: &mut Vec<Fields>, row: Fields, condition: &Value) -> Result<(), Memory>
     ensures { OnOk result (held.new.items
         ≡ held.old.items ++ (if holds_in (view condition.now) then row ∷ [] else [])) }

@@ -1,5 +1,6 @@
 // How many conditions hold, and counts as numbers.
-ghost use Rattle.std.specs.Prelude.{◌≡◌, ◌≤◌, ◌*ℤ◌, IfOk, MatchOption, length, map, pos, true, if◌then◌else◌};
+ghost use Rattle.std.specs.Prelude.{◌≡◌, ◌≤◌, ◌*ℤ◌, IfOk, MatchOption, length, map, pos, true};
+ghost use Rattle.std.specs.Prelude.{if◌then◌else◌};
 ghost use Rattle.std.specs.List.{filter as filter_of};
 ghost use Rattle.fx_types.specs.Types.{numbers};
 ghost use Rattle.fx_types.specs.ValueView.{view};

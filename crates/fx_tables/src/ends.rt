@@ -4,7 +4,8 @@ ghost use Rattle.fx_types.specs.Types.{ColumnList, Shape, booleans, numbers, rec
 ghost use Rattle.fx_types.specs.ValueView.{view};
 ghost use Rattle.fx_types.specs.Values.{row_list, tab};
 ghost use Rattle.fx_primitives.specs.Numbers.{whole_part_of};
-ghost use Rattle.fx_tables.specs.Ends.{count_asked as count_asked_of, emptiness_of, first_rows, last_of, last_rows, natural as natural_of};
+ghost use Rattle.fx_tables.specs.Ends.{count_asked as count_asked_of, emptiness_of, first_rows};
+ghost use Rattle.fx_tables.specs.Ends.{last_of, last_rows, natural as natural_of};
 ghost use Rattle.fx_tables.specs.RowCalls.{IsCountValue, first_row_record};
 ghost use Rattle.fx_value.specs.Fits.{fits_in};
 
@@ -55,8 +56,8 @@ pub fn first_n(rows: Rows, count: Option<Value>) -> Value
 }
 
 /// The last rows in their order, as many as the number says, or all where there are fewer. The
-/// number is cut towards zero; one row where it is left out, and none where it is blank or negative.
-/// Where it is an error, that is the answer.
+/// number is cut towards zero; one row where it is left out, and none where it is blank or
+/// negative. Where it is an error, that is the answer.
 pub fn last_n(rows: Rows, count: Option<Value>) -> Value
     ensures value { view result ≡ last_rows rows (option_map view count) }
     ensures fits { (t : Shape) → fits_in (tab (row_list rows)) t ≡ true

@@ -1,5 +1,6 @@
 // The first error of values.
-ghost use Rattle.std.specs.Prelude.{◌≡◌, ◌<◌, [], IfOk, MatchOption, MatchResult, length, map, None, Some, slice_index_or};
+ghost use Rattle.std.specs.Prelude.{◌≡◌, ◌<◌, [], IfOk, MatchOption, MatchResult, length, map};
+ghost use Rattle.std.specs.Prelude.{None, Some, slice_index_or};
 ghost use Rattle.std.specs.List.{find};
 ghost use Rattle.fx_types.specs.Values.{fault};
 ghost use Rattle.fx_types.specs.ValueView.{view};

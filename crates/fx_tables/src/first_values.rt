@@ -16,8 +16,8 @@ use fx_value::{key_of, keys_order, value_is_proper};
 use std::alloc::Global;
 use std::collections::BTreeSet;
 
-/// The values as rows with the one column `Value`, each value once, in the order in which they first
-/// appear. They are scalars of one type, or blank.
+/// The values as rows with the one column `Value`, each value once, in the order in which they
+/// first appear. They are scalars of one type, or blank.
 pub fn distinct(alloc: Global, values: &[Value]) -> Result<Rows, Memory>
     requires { AreKeys (map view values.now) }
     ensures { IfOk result (λ r. r ≡ map value_row_of (distinct_of (map view values.now))) }

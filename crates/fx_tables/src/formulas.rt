@@ -5,7 +5,9 @@ ghost use Rattle.fx_types.specs.Types.{Shape, tables};
 ghost use Rattle.fx_types.specs.ValueView.{view};
 ghost use Rattle.fx_types.specs.Values.{field_list, row_list, tab};
 ghost use Rattle.fx_value.specs.Fits.{fits_in};
-ghost use Rattle.fx_tables.specs.RowCalls.{AreKeysOrErrors, CanBeRowType, IsSortOf, distinct_or, for_all_of, is_blank as is_blank_in, rows_by_values as rows_of};
+ghost use Rattle.fx_tables.specs.RowCalls.{AreKeysOrErrors, CanBeRowType, IsSortOf, distinct_or};
+ghost use Rattle.fx_tables.specs.RowCalls.{for_all_of, is_blank as is_blank_in};
+ghost use Rattle.fx_tables.specs.RowCalls.{rows_by_values as rows_of};
 ghost use Rattle.fx_tables.specs.Distinct.{value_row as value_row_of};
 ghost use Rattle.fx_tables.specs.Unions.{fields_in};
 ghost use Rattle.fx_core.specs.ColumnLists.{row_columns, value_column};
@@ -21,7 +23,8 @@ use std::alloc::Global;
 /// is an error among them, the first one is the answer.
 pub fn for_all(alloc: Global, values: Vec<Value>) -> Result<Value, Memory>
     ensures value { IfOk result (λ v. view v ≡ for_all_of (map view values.items)) }
-    ensures fits { (t : Shape) → CanBeRowType t → All (λ d. fits_in d t ≡ true) (map view values.items)
+    ensures fits { (t : Shape) → CanBeRowType t
+        → All (λ d. fits_in d t ≡ true) (map view values.items)
         → IfOk result (λ v. fits_in (view v) (tables (row_columns t)) ≡ true) }
 {
     match without_errors(values) {
@@ -45,8 +48,8 @@ pub fn sort(alloc: Global, rows: Rows, keys: Vec<Value>, down: bool) -> Result<V
     }
 }
 
-/// The values as rows with the one column `Value`, each value once, in the order in which they first
-/// appear. Where there is an error among them, the first one is the answer.
+/// The values as rows with the one column `Value`, each value once, in the order in which they
+/// first appear. Where there is an error among them, the first one is the answer.
 pub fn distinct_values(alloc: Global, values: Vec<Value>) -> Result<Value, Memory>
     requires { AreKeysOrErrors (map view values.items) }
     ensures value { IfOk result (λ v. view v ≡ distinct_or (map view values.items)) }

@@ -1,5 +1,6 @@
 // Laws, and no work: an answer that is told by what holds of it is the only one.
-ghost use Rattle.fx_tables.specs.Laws.{CountIfOnce, CountOnce, GreatestOnce, LeastOnce, SortOnce, SumOnce};
+ghost use Rattle.fx_tables.specs.Laws.{CountIfOnce, CountOnce, GreatestOnce, LeastOnce, SortOnce};
+ghost use Rattle.fx_tables.specs.Laws.{SumOnce};
 
 use crate::ordered_once;
 

@@ -1,5 +1,6 @@
 // What is summed up of many numbers.
-ghost use Rattle.std.specs.Prelude.{◌≡◌, ◌++◌, ◌∷◌, [], ◌+◌, ◌-◌, ◌^◌, ◌<◌, ◌≤◌, ◌+ℤ◌, IsSomeAnd, List, map};
+ghost use Rattle.std.specs.Prelude.{◌≡◌, ◌++◌, ◌∷◌, [], ◌+◌, ◌-◌, ◌^◌, ◌<◌, ◌≤◌, ◌+ℤ◌, IsSomeAnd};
+ghost use Rattle.std.specs.Prelude.{List, map};
 ghost use Rattle.fx_types.specs.Values.{Data};
 ghost use Rattle.fx_types.specs.ValueView.{view};
 ghost use Rattle.fx_value.specs.Aggregates.{IsGreater, IsLesser, IsBoundedSum, SumsUp, numbers_in};

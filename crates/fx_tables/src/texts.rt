@@ -2,7 +2,8 @@
 ghost use Rattle.std.specs.Prelude.{◌≡◌, ◌++◌, ◌∷◌, [], IfOk, List, OnOk, map, true, ℕ};
 ghost use Rattle.fx_types.specs.Types.{texts as text_type};
 ghost use Rattle.fx_types.specs.ValueView.{view};
-ghost use Rattle.fx_tables.specs.AggregateCalls.{characters_in, concatenated_by, made_value, separated};
+ghost use Rattle.fx_tables.specs.AggregateCalls.{characters_in, concatenated_by, made_value};
+ghost use Rattle.fx_tables.specs.AggregateCalls.{separated};
 ghost use Rattle.fx_primitives.specs.Texts.{text_or_quota as made_of, joined};
 ghost use Rattle.fx_value.specs.Fits.{fits_in};
 
@@ -14,8 +15,8 @@ use fx_types::words::Words;
 use std::alloc::Global;
 
 /// The texts joined in row order, with the separator between each two; a blank text or separator is
-/// empty. Where there is an error among the values, the first one is the answer, else one in place of
-/// the separator, and `QuotaExceeded` exactly where the joined text has more than 65,536 bytes.
+/// empty. Where there is an error among the values, the first one is the answer, else one in place
+/// of the separator, and `QuotaExceeded` exactly where the joined text has more than 65,536 bytes.
 pub fn concat(alloc: Global, values: Vec<Value>, separator: Value) -> Result<Value, Memory>
     ensures value { IfOk result (λ v. view v
         ≡ concatenated_by (view separator) (map view values.items)) }

@@ -8,7 +8,8 @@ ghost use Rattle.fx_types.specs.Values.{field_list, rec, tab};
 ghost use Rattle.fx_value.specs.Coercion.{CanWiden, widened};
 ghost use Rattle.fx_value.specs.Fits.{fits_in};
 ghost use Rattle.fx_tables.specs.Distinct.{value_row as value_row_of};
-ghost use Rattle.fx_tables.specs.Unions.{CanBeRow, CanBeRows, fault_or, fields_in, values_as_rows, union_of};
+ghost use Rattle.fx_tables.specs.Unions.{CanBeRow, CanBeRows, fault_or, fields_in, values_as_rows};
+ghost use Rattle.fx_tables.specs.Unions.{union_of};
 
 use fx_base::Memory;
 use fx_types::types::{Columns, Ty};

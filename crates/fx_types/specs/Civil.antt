@@ -6,12 +6,14 @@ use Rattle.fx_types.specs.declared.civil.CivilDate.{CivilDate}
 
 -- the calendar has this date, and its year is from 1900 to 9999
 abbrev pub IsCalendarDate : CivilDate → Type 0
-IsCalendarDate d = IsInRange 1900 9999 d.year × IsInRange 1 12 d.month × IsInRange 1 (days_in_month (pos d.year) d.month) d.day
+IsCalendarDate d = IsInRange 1900 9999 d.year × IsInRange 1 12 d.month
+    × IsInRange 1 (days_in_month (pos d.year) d.month) d.day
 
 -- the next day of the calendar
 abbrev pub day_after : CivilDate → CivilDate
 day_after d =
-    if nat_lt d.day (days_in_month (pos d.year) d.month) then record { year = d.year; month = d.month; day = d.day + 1 }
+    if nat_lt d.day (days_in_month (pos d.year) d.month) then
+    record { year = d.year; month = d.month; day = d.day + 1 }
     else (if nat_lt d.month 12 then record { year = d.year; month = d.month + 1; day = 1 }
     else record { year = d.year + 1; month = 1; day = 1 })
 

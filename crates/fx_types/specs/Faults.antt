@@ -1,7 +1,10 @@
 -- The kinds of errors by their names.
 use Rattle.std.specs.Prelude.{ℕ, List, codes}
 use Rattle.fx_types.specs.declared.faults.Kind.{Kind}
-use Rattle.fx_types.specs.declared.faults.Kind.TheVariants.{Div0, Numeric, InvalidArgument, NotFound, MissingRequired, ConstraintViolated, QuotaExceeded, Validation, Custom}
+use Rattle.fx_types.specs.declared.faults.Kind.TheVariants.{Div0, Numeric, InvalidArgument}
+use Rattle.fx_types.specs.declared.faults.Kind.TheVariants.{NotFound, MissingRequired}
+use Rattle.fx_types.specs.declared.faults.Kind.TheVariants.{ConstraintViolated, QuotaExceeded}
+use Rattle.fx_types.specs.declared.faults.Kind.TheVariants.{Validation, Custom}
 
 -- the name of a kind
 abbrev pub kind_name : Kind → List ℕ

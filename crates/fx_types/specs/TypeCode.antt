@@ -4,7 +4,8 @@ use Rattle.std.proofs.Common.{ap}
 use Rattle.std.specs.Coded.{Coded, code_by, coded_list, coded×, coded_ℕ}
 use base.Stored.{Gv, gnil, gnum, gcons}
 use denote.Struct.Codes.{itself}
-use Rattle.fx_types.specs.Types.{Shape, blanks, numbers, texts, booleans, dates, records, tables, ColumnList, no_columns, column}
+use Rattle.fx_types.specs.Types.{Shape, blanks, numbers, texts, booleans, dates, records, tables}
+use Rattle.fx_types.specs.Types.{ColumnList, no_columns, column}
 use Rattle.fx_types.specs.ValueCode.{of_text, to_text, text_back}
 
 abbrev mutual

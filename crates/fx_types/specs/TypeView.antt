@@ -1,8 +1,10 @@
 -- What a type is seen as.
 use Rattle.std.specs.Prelude.{ℕ, List, map}
-use Rattle.fx_types.specs.Types.{Shape, blanks, numbers, texts, booleans, dates, records, tables, column_list}
+use Rattle.fx_types.specs.Types.{Shape, blanks, numbers, texts, booleans, dates, records, tables}
+use Rattle.fx_types.specs.Types.{column_list}
 use Rattle.fx_types.specs.declared.types.Ty.{Ty}
-use Rattle.fx_types.specs.declared.types.Ty.TheVariants.{Blank, Number, Text, Boolean, Date, Rec, Tab}
+use Rattle.fx_types.specs.declared.types.Ty.TheVariants.{Blank, Number, Text, Boolean, Date, Rec}
+use Rattle.fx_types.specs.declared.types.Ty.TheVariants.{Tab}
 
 abbrev pub shape : Ty → Shape
 shape Blank = blanks

@@ -1,12 +1,17 @@
 -- A code of the values, by which proofs tell them apart.
-use Rattle.std.specs.Prelude.{◌≡◌, refl, ℕ, zero, suc, ℤ, pos, negsuc, Bool, true, false, List, [], ◌∷◌}
+use Rattle.std.specs.Prelude.{◌≡◌, refl, ℕ, zero, suc, ℤ, pos, negsuc, Bool, true, false, List, []}
+use Rattle.std.specs.Prelude.{◌∷◌}
 use Rattle.std.proofs.Common.{ap}
 use Rattle.std.specs.Coded.{Coded, code_by, coded_list, coded×, coded_ℕ}
 use base.Stored.{Gv, gnil, gnum, gcons}
 use denote.Struct.Codes.{itself}
-use Rattle.fx_types.specs.Values.{Data, blank, number, text, boolean, date, rec, tab, fault, FieldList, no_fields, field, RowList, no_rows, row}
+use Rattle.fx_types.specs.Values.{Data, blank, number, text, boolean, date, rec, tab, fault}
+use Rattle.fx_types.specs.Values.{FieldList, no_fields, field, RowList, no_rows, row}
 use Rattle.fx_types.specs.declared.faults.Kind.{Kind}
-use Rattle.fx_types.specs.declared.faults.Kind.TheVariants.{Div0, Numeric, InvalidArgument, NotFound, MissingRequired, ConstraintViolated, QuotaExceeded, Validation, Custom}
+use Rattle.fx_types.specs.declared.faults.Kind.TheVariants.{Div0, Numeric, InvalidArgument}
+use Rattle.fx_types.specs.declared.faults.Kind.TheVariants.{NotFound, MissingRequired}
+use Rattle.fx_types.specs.declared.faults.Kind.TheVariants.{ConstraintViolated, QuotaExceeded}
+use Rattle.fx_types.specs.declared.faults.Kind.TheVariants.{Validation, Custom}
 
 abbrev pub of_kind : Kind → ℕ
 of_kind Div0 = 0

@@ -1,8 +1,10 @@
 -- What a value is seen as.
 use Rattle.std.specs.Prelude.{ℕ, List, map}
-use Rattle.fx_types.specs.Values.{Data, blank, number, text, boolean, date, rec, tab, fault, field_list, row_list}
+use Rattle.fx_types.specs.Values.{Data, blank, number, text, boolean, date, rec, tab, fault}
+use Rattle.fx_types.specs.Values.{field_list, row_list}
 use Rattle.fx_types.specs.declared.values.Value.{Value}
-use Rattle.fx_types.specs.declared.values.Value.TheVariants.{Blank, Number, Text, Boolean, Date, Rec, Tab, Fault}
+use Rattle.fx_types.specs.declared.values.Value.TheVariants.{Blank, Number, Text, Boolean, Date}
+use Rattle.fx_types.specs.declared.values.Value.TheVariants.{Rec, Tab, Fault}
 
 abbrev pub view : Value → Data
 view Blank = blank

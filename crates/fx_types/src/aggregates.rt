@@ -2,7 +2,8 @@
 
 use fx_number::Num;
 
-/// How many numbers there are, their sum in ten-thousandths, and the least and the greatest of them.
+/// How many numbers there are, their sum in ten-thousandths, and the least and the greatest of
+/// them.
 #[derive(Clone, Copy)]
 pub struct Totals {
     pub count: u64,

@@ -54,7 +54,8 @@ pub fn is_date(date: CivilDate) -> bool
         && date.day <= days_in_month(date.year as i16, date.month)
 }
 
-/// The day of a date, and none where the calendar has no such date or its year is not from 1900 to 9999.
+/// The day of a date, and none where the calendar has no such date or its year is not from 1900 to
+/// 9999.
 pub fn day_of_date(date: CivilDate) -> Option<Day>
     ensures { MatchOption result (¬ IsCalendarDate date) (λ d. IsDay d × (civil_of d ≡ date)) }
 {

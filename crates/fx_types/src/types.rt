@@ -1,5 +1,6 @@
 // The types of values.
-ghost use Rattle.std.specs.Prelude.{◌≡◌, ◌≤◌, ◌++◌, ◌∷◌, [], length, slice_get, Some, IfOk, option_map, OnOk, OnErr, MatchOption};
+ghost use Rattle.std.specs.Prelude.{◌≡◌, ◌≤◌, ◌++◌, ◌∷◌, [], length, slice_get, Some, IfOk};
+ghost use Rattle.std.specs.Prelude.{option_map, OnOk, OnErr, MatchOption};
 ghost use Rattle.fx_types.specs.Lookup.{item_named};
 ghost use Rattle.fx_types.specs.Rising.{AreNamesRising};
 ghost use Rattle.fx_types.specs.TypeView.{shape, columns_view};
@@ -26,8 +27,8 @@ pub enum Ty {
 }
 
 /// The columns of a record or a table, by rising names.
-// No `InOrder`: what holds itself needs a size that falls, so that calls down a type end, and these have rising names
-// as well.
+// No `InOrder`: what holds itself needs a size that falls, so that calls down a type end, and these
+// have rising names as well.
 #[cycle(ty)]
 #[derive(Drop)]
 pub struct Columns {

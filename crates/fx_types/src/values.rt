@@ -1,5 +1,6 @@
 // The values of formulas.
-ghost use Rattle.std.specs.Prelude.{◌≡◌, ◌≤◌, ◌++◌, ◌∷◌, [], length, slice_get, Some, IfOk, option_map, OnOk, OnErr, MatchOption};
+ghost use Rattle.std.specs.Prelude.{◌≡◌, ◌≤◌, ◌++◌, ◌∷◌, [], length, slice_get, Some, IfOk};
+ghost use Rattle.std.specs.Prelude.{option_map, OnOk, OnErr, MatchOption};
 ghost use Rattle.fx_types.specs.Lookup.{item_named};
 ghost use Rattle.fx_types.specs.Rising.{AreNamesRising};
 ghost use Rattle.fx_types.specs.ValueView.{fields_view, view};

@@ -1,13 +1,15 @@
 //! Texts in their order, so that they can be keys.
 ghost use Rattle.std.specs.Prelude.{Some, bytes_eq, refl};
 ghost use Rattle.std.specs.Cmp.{partial_equiv_from_equiv};
-ghost use Rattle.std.specs.Cmp.Lexicographic.{slice_cmp, nat_list_eq_equiv, nat_list_cmp_total, texts_ties, texts_po};
+ghost use Rattle.std.specs.Cmp.Lexicographic.{slice_cmp, nat_list_eq_equiv, nat_list_cmp_total};
+ghost use Rattle.std.specs.Cmp.Lexicographic.{texts_ties, texts_po};
 ghost use Rattle.std.specs.Ordering.{nat_cmp};
 
 use crate::words::Words;
 use std::cmp::Ordering;
 
-// By hand, since a derived comparison needs that what is seen of a text determines it, and its capacity isn't seen.
+// By hand, since a derived comparison needs that what is seen of a text determines it, and its
+// capacity isn't seen.
 impl PartialEq for Words {
     ghost eq = { bytes_eq };
 

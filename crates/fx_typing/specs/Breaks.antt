@@ -1,7 +1,10 @@
 -- Rules that the parts of a call break, of which another rule may be met first.
-use Rattle.std.specs.Prelude.{ℕ, List, [], ◌∷◌, ◌++◌, Bool, true, false, ◌&&◌, not, map, length, codes, bytes_eq, Option, Some, None, is_some, option_and_then, if◌then◌else◌}
+use Rattle.std.specs.Prelude.{ℕ, List, [], ◌∷◌, ◌++◌, Bool, true, false, ◌&&◌, not, map, length}
+use Rattle.std.specs.Prelude.{codes, bytes_eq, Option, Some, None, is_some, option_and_then}
+use Rattle.std.specs.Prelude.{if◌then◌else◌}
 use Rattle.fx_types.specs.TypeView.{shape}
-use Rattle.fx_types.specs.Types.{Shape, blanks, booleans, records, tables, ColumnList, no_columns, column}
+use Rattle.fx_types.specs.Types.{Shape, blanks, booleans, records, tables, ColumnList, no_columns}
+use Rattle.fx_types.specs.Types.{column}
 use Rattle.fx_core.specs.declared.functions.Acting.{Acting}
 use Rattle.fx_core.specs.declared.functions.Acting.TheVariants as acts
 use Rattle.fx_core.specs.declared.functions.Fun.{Fun}
@@ -49,11 +52,13 @@ names_renamed (Some x) (Some y) ns = map (λ n. if bytes_eq n x then y else n) n
 names_renamed x y ns = ns
 
 abbrev pub taken_added : List JudgedPart → List (List ℕ) → Option (List ℕ)
-taken_added (q ∷ r ∷ qs) ns = name_taken_or (part_name q) ns (taken_added qs (with_name (part_name q) ns))
+taken_added (q ∷ r ∷ qs) ns = name_taken_or (part_name q) ns
+    (taken_added qs (with_name (part_name q) ns))
 taken_added qs ns = None
 
 abbrev pub taken_renamed : List JudgedPart → List (List ℕ) → Option (List ℕ)
-taken_renamed (q ∷ r ∷ qs) ns = name_taken_or (part_name r) ns (taken_renamed qs (names_renamed (part_name q) (part_name r) ns))
+taken_renamed (q ∷ r ∷ qs) ns = name_taken_or (part_name r) ns
+    (taken_renamed qs (names_renamed (part_name q) (part_name r) ns))
 taken_renamed qs ns = None
 
 abbrev pub taken_by : Answer → List JudgedPart → Option (List ℕ)
@@ -67,7 +72,8 @@ taken_at f qs = if takes_count (row_of f) (length qs) then taken_by (row_of f).a
 
 -- ---- rule 6: an error with a Message that is no text, whatever its Kind
 abbrev pub mistells : Fun → List JudgedPart → Bool
-mistells fun.Error (piece (value a c (records cs)) ∷ []) = not (is_told_or_missing (field_in (codes "Message") cs))
+mistells fun.Error (piece (value a c (records cs)) ∷ [])
+    = not (is_told_or_missing (field_in (codes "Message") cs))
 mistells f qs = false
 
 -- ---- rule 6: what is no row, no change or no condition, whatever an acting call changes
@@ -112,7 +118,8 @@ large_collection c = option_and_then (λ (c : ℕ × Collection). too_large (sha
 
 abbrev pub large_on_screen : Names → Option ℕ → List (List ℕ) → Option Shape
 large_on_screen n s [] = None
-large_on_screen n s (x ∷ xs) = or_else (large_variable (screen_variable n s x)) (large_on_screen n s xs)
+large_on_screen n s (x ∷ xs) = or_else (large_variable (screen_variable n s x))
+    (large_on_screen n s xs)
 
 -- the first such type
 abbrev pub large_given : Names → Option ℕ → Acting → List JudgedPart → Option Shape

@@ -1,5 +1,6 @@
 -- What records, lists and scopes of records are admitted, and the limits of types.
-use Rattle.std.specs.Prelude.{ℕ, suc, max, List, [], ◌∷◌, Bool, true, ◌&&◌, not, nat_le, Option, Some, None, Result, Ok, Err, if◌then◌else◌}
+use Rattle.std.specs.Prelude.{ℕ, suc, max, List, [], ◌∷◌, Bool, true, ◌&&◌, not, nat_le, Option}
+use Rattle.std.specs.Prelude.{Some, None, Result, Ok, Err, if◌then◌else◌}
 use Rattle.std.specs.Ordering.{nat_cmp, match_ordering}
 use Rattle.std.specs.Cmp.Lexicographic.{slice_cmp}
 use Rattle.fx_types.specs.Types.{Shape, blanks, records, tables, ColumnList, no_columns, column}
@@ -50,9 +51,11 @@ abbrev pub bounded : Result (Term × Shape) ℕ → Result (Term × Shape) ℕ
 bounded r = and_then r bounded_by
 
 -- a field at its place among rising ones
-abbrev pub put_field : List ℕ → Term × Shape → List (List ℕ × (Term × Shape)) → List (List ℕ × (Term × Shape))
+abbrev pub put_field : List ℕ → Term × Shape → List (List ℕ × (Term × Shape))
+    → List (List ℕ × (Term × Shape))
 put_field n x [] = (n, x) ∷ []
-put_field n x (f ∷ fs) = match_ordering (slice_cmp nat_cmp n f.0) ((n, x) ∷ f ∷ fs) ((n, x) ∷ fs) (f ∷ put_field n x fs)
+put_field n x (f ∷ fs) = match_ordering (slice_cmp nat_cmp n f.0) ((n, x) ∷ f ∷ fs) ((n, x) ∷ fs)
+    (f ∷ put_field n x fs)
 
 abbrev pub put_fields : List (List ℕ) → List (Term × Shape) → List (List ℕ × (Term × Shape))
 put_fields (n ∷ ns) (x ∷ xs) = put_field n x (put_fields ns xs)
@@ -77,11 +80,14 @@ are_names_distinct (n ∷ ns) = not (is_one_of n ns) && are_names_distinct ns
 
 -- a record: its fields by rising names, each once
 abbrev pub record_by : List (List ℕ × (Term × Shape)) → Term × Shape
-record_by fs =
-    (of (term.rec (field_names fs)) (all (firsts (field_parts fs))), records (columns_by (field_names fs) (types_of (field_parts fs))))
+record_by fs = (
+  of (term.rec (field_names fs)) (all (firsts (field_parts fs))),
+  records (columns_by (field_names fs) (types_of (field_parts fs))),
+)
 
 abbrev pub typed_record : List (List ℕ) → List (Term × Shape) → Result (Term × Shape) ℕ
-typed_record ns xs = if are_names_distinct ns then bounded (Ok (record_by (put_fields ns xs))) else Err rules.name_twice
+typed_record ns xs = if are_names_distinct ns then bounded (Ok (record_by (put_fields ns xs))) else
+    Err rules.name_twice
 
 -- all rows come to one type
 abbrev pub rows_to : Shape → List (Term × Shape) → Result (List (Term × Shape)) ℕ
@@ -102,7 +108,8 @@ abbrev pub typed_list : List (Term × Shape) → Result (Term × Shape) ℕ
 typed_list [] = bounded (list_as (Some (records no_columns)) [])
 typed_list (x ∷ xs) = bounded (list_as (join_all (Some blanks) (x ∷ xs)) (x ∷ xs))
 
--- `Table`: records, where one of type Blank is one without columns. As of every call, its limits are its caller's.
+-- `Table`: records, where one of type Blank is one without columns. As of every call, its limits
+-- are its caller's.
 abbrev pub typed_table : List (Term × Shape) → Result (Term × Shape) ℕ
 typed_table xs = list_as (join_all (Some (records no_columns)) xs) xs
 

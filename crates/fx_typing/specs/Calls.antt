@@ -1,5 +1,7 @@
 -- Which calls are admitted.
-use Rattle.std.specs.Prelude.{ℕ, List, [], ◌∷◌, ◌&&◌, not, nat_le, nat_eq, suc, length, take, drop, Option, Some, None, is_some, Result, Ok, Err, encode_utf8_all, if◌then◌else◌}
+use Rattle.std.specs.Prelude.{ℕ, List, [], ◌∷◌, ◌&&◌, not, nat_le, nat_eq, suc, length, take, drop}
+use Rattle.std.specs.Prelude.{Option, Some, None, is_some, Result, Ok, Err, encode_utf8_all}
+use Rattle.std.specs.Prelude.{if◌then◌else◌}
 use Rattle.fx_types.specs.Types.{Shape, dates}
 use Rattle.fx_core.specs.declared.functions.Acting.{Acting}
 use Rattle.fx_core.specs.declared.functions.Fun.{Fun}
@@ -42,24 +44,29 @@ abbrev pub made_literal : Fun → List Piece → Result (Term × Shape) ℕ
 made_literal f ps =
     if nat_le (length ps) (row_of f).most then node_made f ps
     else (if nat_eq (length ps) (suc (row_of f).most)
-    then made_if (function_by f (literal_in (drop (row_of f).most ps))) (take (row_of f).most ps) else Err rules.wrong_count)
+    then made_if (function_by f (literal_in (drop (row_of f).most ps)))
+    (take (row_of f).most ps) else Err rules.wrong_count)
 
 -- a function of these parts, or the lowest rule that they break
 abbrev pub made_or_lowest : Fun → List JudgedPart → Result (Term × Shape) ℕ
-made_or_lowest f qs = unless_rule (is_some (taken_at f qs)) rules.name_twice (unless_rule (mistells f qs) rules.wrong_type (node_made f (pieces qs)))
+made_or_lowest f qs = unless_rule (is_some (taken_at f qs)) rules.name_twice
+    (unless_rule (mistells f qs) rules.wrong_type (node_made f (pieces qs)))
 
 -- an acting call that gives values to variables of its screen alone
 abbrev pub acted_on_screen : Place → Acting → List JudgedPart → Result (Term × Shape) ℕ
-acted_on_screen p a qs = unless_rule (not (gives_variables p.names p.screen a qs)) rules.not_a_variable (until_settled p.settled (acted p.names p.screen a qs))
+acted_on_screen p a qs = unless_rule (not (gives_variables p.names p.screen a qs))
+    rules.not_a_variable (until_settled p.settled (acted p.names p.screen a qs))
 
--- an acting call at its place. While types aren't settled no value is of a wrong type for a variable, and no
--- type passes the limits; but what is no variable is none.
+-- an acting call at its place. While types aren't settled no value is of a wrong type for a
+-- variable, and no type passes the limits; but what is no variable is none.
 abbrev pub acted_by : Place → Acting → List JudgedPart → Result (Term × Shape) ℕ
-acted_by p a qs = unless_rule (is_some (large_given p.names p.screen a qs) && p.settled) rules.limit_passed (acted_on_screen p a qs)
+acted_by p a qs = unless_rule (is_some (large_given p.names p.screen a qs) && p.settled)
+    rules.limit_passed (acted_on_screen p a qs)
 
 -- an acting call that could be one of its parts, and that stands where its place lets it act
 abbrev pub acted_or_lowest : Place → Setting → Acting → List JudgedPart → Result (Term × Shape) ℕ
-acted_or_lowest p s a qs = unless_rule (not (may_act s.grant)) rules.behaviour_in_pure (unless_rule (not (could_act a qs)) rules.wrong_type (acted_by p a qs))
+acted_or_lowest p s a qs = unless_rule (not (may_act s.grant)) rules.behaviour_in_pure
+    (unless_rule (not (could_act a qs)) rules.wrong_type (acted_by p a qs))
 
 abbrev pub defaults_of : Names → List ℕ → List JudgedPart → Result (Term × Shape) ℕ
 defaults_of n x qs = by_rows (rows_named n x) (λ r. Ok (blank_record r.1))
@@ -76,8 +83,10 @@ called_by p s sig.Defaults qs = by_first_name qs (defaults_of p.names)
 called_by p s (sig.Act a) qs = acted_or_lowest p s a qs
 
 -- a function of the table, with as many parts as it takes
-abbrev pub called_with : Place → Setting → Option Signature → List JudgedPart → Result (Term × Shape) ℕ
-called_with p s (Some f) qs = if is_arity f.least f.most (length qs) then bounded (called_by p s f.shape qs) else Err rules.wrong_count
+abbrev pub called_with : Place → Setting → Option Signature → List JudgedPart
+    → Result (Term × Shape) ℕ
+called_with p s (Some f) qs = if is_arity f.least f.most (length qs) then bounded
+    (called_by p s f.shape qs) else Err rules.wrong_count
 called_with p s None qs = Err rules.no_function
 
 abbrev pub called : Place → Setting → List ℕ → List JudgedPart → Result (Term × Shape) ℕ

@@ -1,8 +1,11 @@
 -- What is said besides the rule that a node breaks.
-use Rattle.std.specs.Prelude.{◌≡◌, ◌⊎◌, ◌==◌, ℕ, suc, List, [], ◌∷◌, ◌++◌, Bool, true, false, nat_le, max, codes, length, Option, Some, None, is_some, unwrap_or, Result, Ok, Err, if◌then◌else◌}
+use Rattle.std.specs.Prelude.{◌≡◌, ◌⊎◌, ◌==◌, ℕ, suc, List, [], ◌∷◌, ◌++◌, Bool, true, false}
+use Rattle.std.specs.Prelude.{nat_le, max, codes, length, Option, Some, None, is_some, unwrap_or}
+use Rattle.std.specs.Prelude.{Result, Ok, Err, if◌then◌else◌}
 use Rattle.std.specs.Fmt.{decimal}
 use Rattle.fx_types.specs.TypeView.{shape}
-use Rattle.fx_types.specs.Types.{Shape, blanks, numbers, texts, booleans, dates, records, tables, ColumnList, no_columns, column}
+use Rattle.fx_types.specs.Types.{Shape, blanks, numbers, texts, booleans, dates, records, tables}
+use Rattle.fx_types.specs.Types.{ColumnList, no_columns, column}
 use Rattle.fx_core.specs.declared.deeds.Target.{Target}
 use Rattle.fx_core.specs.declared.deeds.Target.TheVariants as rows
 use Rattle.fx_core.specs.declared.functions.Acting.{Acting}
@@ -29,10 +32,12 @@ use Rattle.fx_typing.specs.Breaks.{taken_at, large_given}
 use Rattle.fx_typing.specs.Builds.{type_depth, columns_count, record_by, put_fields}
 use Rattle.fx_typing.specs.Calls.{called_by}
 use Rattle.fx_typing.specs.Deeds.{joins_to, rows_collected, settable}
-use Rattle.fx_typing.specs.Parts.{JudgedPart, piece, meant, target, assigned, Setting, values, part_count}
+use Rattle.fx_typing.specs.Parts.{JudgedPart, piece, meant, target, assigned, Setting, values}
+use Rattle.fx_typing.specs.Parts.{part_count}
 use Rattle.fx_typing.specs.Plans.{called_as, pick, depth_of, setting_at}
 use Rattle.fx_typing.specs.Targets.{global_variable, screen_variable, collection_named, rows_named}
-use Rattle.fx_typing.specs.Typing.{judge, judge_parts, admit, is_too_deep, outermost_setting, whole_argument, position}
+use Rattle.fx_typing.specs.Typing.{judge, judge_parts, admit, is_too_deep, outermost_setting}
+use Rattle.fx_typing.specs.Typing.{whole_argument, position}
 
 -- ---- texts
 -- a type's name
@@ -72,7 +77,8 @@ abbrev pub some_name : Option (Target × Shape) → List (List ℕ)
 some_name (Some r) = type_name r.1 ∷ []
 some_name None = []
 
--- what is no value counts as a record; what changes has a type where it has rows; a column's name has none
+-- what is no value counts as a record; what changes has a type where it has rows; a column's name
+-- has none
 abbrev pub part_names : Names → JudgedPart → List (List ℕ)
 part_names n (piece (value a c t)) = type_name t ∷ []
 part_names n (piece (label x)) = []
@@ -120,7 +126,8 @@ abbrev pub call_names : Names → Bool → List JudgedPart → List (List ℕ)
 call_names n true (q ∷ qs) = if stands_as_table n q then all_names n (q ∷ qs) else part_names n q
 call_names n b qs = all_names n qs
 
--- a name by itself that is no value counts as a record, and so does a name for rows where none belongs
+-- a name by itself that is no value counts as a record, and so does a name for rows where none
+-- belongs
 abbrev pub wrong_types : Names → Head → List JudgedPart → List (List ℕ)
 wrong_types n (tree.name x) qs = codes "Record" ∷ []
 wrong_types n (tree.global x) qs = codes "Record" ∷ []
@@ -138,8 +145,8 @@ abbrev pub or_stuck : Result ColumnList ℕ → List ℕ → (ColumnList → Lis
 or_stuck (Ok cs) x go = go cs
 or_stuck (Err e) x go = x
 
--- the first name that is no column's, of those that are left out or shown; and the name at which columns
--- can't be named anew, in turn
+-- the first name that is no column's, of those that are left out or shown; and the name at which
+-- columns can't be named anew, in turn
 abbrev pub unless_there : Option Shape → List ℕ → List ℕ → List ℕ
 unless_there (Some t) x later = later
 unless_there None x later = x
@@ -167,9 +174,11 @@ abbrev pub first_more : ColumnList → ColumnList → Option (List ℕ)
 first_more cs no_columns = None
 first_more cs (column n t ds) = if is_some (field_in n cs) then first_more cs ds else Some n
 
--- the column by which a row isn't named: of a table its ID, which it lacks; of a collection one more
+-- the column by which a row isn't named: of a table its ID, which it lacks; of a collection one
+-- more
 abbrev pub unnamed_at : Target → ColumnList → Shape → Option (List ℕ)
-unnamed_at (rows.Table k) cs (records ds) = if is_some (field_in (codes "ID") ds) then None else Some (codes "ID")
+unnamed_at (rows.Table k) cs (records ds) = if is_some (field_in (codes "ID") ds) then None else
+    Some (codes "ID")
 unnamed_at (rows.Gathered k) cs (records ds) = first_more cs ds
 unnamed_at t cs u = None
 
@@ -185,7 +194,8 @@ first_detail f (x ∷ xs) = or_else (f x.1) (first_detail f xs)
 
 -- the column of an acting call on these rows, of its arguments from the left
 abbrev pub acted_at : Acting → Target → ColumnList → List (Term × Shape) → Option (List ℕ)
-acted_at acts.Patch t cs (base ∷ changes) = or_else (unnamed_at t cs base.1) (first_detail (unsettable_column t cs) changes)
+acted_at acts.Patch t cs (base ∷ changes) = or_else (unnamed_at t cs base.1)
+    (first_detail (unsettable_column t cs) changes)
 acted_at acts.Remove t cs xs = first_detail (unnamed_at t cs) xs
 acted_at a t cs xs = first_detail (unsettable_column t cs) xs
 
@@ -203,7 +213,8 @@ misgiven x t (y ∷ ys) = if joins_to t y.1 then misgiven x t ys else variable_d
 
 abbrev pub misgiven_rows : List ℕ → Shape → List (Term × Shape) → List ℕ
 misgiven_rows x t [] = []
-misgiven_rows x t (y ∷ ys) = if joins_to t (rows_collected y).1 then misgiven_rows x t ys else variable_detail x t (rows_collected y).1
+misgiven_rows x t (y ∷ ys) = if joins_to t (rows_collected y).1 then misgiven_rows x t ys else
+    variable_detail x t (rows_collected y).1
 
 abbrev pub misgiven_to : List ℕ → Option (ℕ × Variable) → List (Term × Shape) → List ℕ
 misgiven_to x (Some v) ys = misgiven x (shape v.1.ty) ys
@@ -219,7 +230,8 @@ fits_variable None t = true
 
 abbrev pub misassigned : Names → Option ℕ → List (List ℕ) → List (Term × Shape) → List ℕ
 misassigned n s (x ∷ xs) (y ∷ ys) =
-    if fits_variable (screen_variable n s x) y.1 then misassigned n s xs ys else misgiven_to x (screen_variable n s x) (y ∷ [])
+    if fits_variable (screen_variable n s x) y.1 then misassigned n s xs ys else misgiven_to x
+    (screen_variable n s x) (y ∷ [])
 misassigned n s xs ys = []
 
 -- ---- by the rules
@@ -249,7 +261,8 @@ named_twice n h qs = []
 
 -- rule 12: a field, a property or a member behind a dot; a column of a call
 abbrev pub column_in : Names → Option SigShape → List JudgedPart → List ℕ
-column_in n (Some (sig.Act a)) (target b x ∷ qs) = unwrap_or (acting_detail (rows_named n x) a (or_none (values qs))) []
+column_in n (Some (sig.Act a)) (target b x ∷ qs)
+    = unwrap_or (acting_detail (rows_named n x) a (or_none (values qs))) []
 column_in n s qs = stuck_in s qs
 
 abbrev pub unknown_column_detail : Names → Head → List JudgedPart → List ℕ
@@ -259,9 +272,12 @@ unknown_column_detail n h qs = []
 
 -- rule 11
 abbrev pub unjoined : Place → Option SigShape → List JudgedPart → List ℕ
-unjoined p (Some (sig.Act acts.Set)) (target a x ∷ qs) = misgiven_to x (global_variable p.names x) (or_none (values qs))
-unjoined p (Some (sig.Act acts.UpdateContext)) (assigned ns xs ∷ qs) = misassigned p.names p.screen ns xs
-unjoined p (Some (sig.Act a)) (target b x ∷ qs) = misgiven_to_rows x (collection_named p.names x) (or_none (values qs))
+unjoined p (Some (sig.Act acts.Set)) (target a x ∷ qs)
+    = misgiven_to x (global_variable p.names x) (or_none (values qs))
+unjoined p (Some (sig.Act acts.UpdateContext)) (assigned ns xs ∷ qs)
+    = misassigned p.names p.screen ns xs
+unjoined p (Some (sig.Act a)) (target b x ∷ qs)
+    = misgiven_to_rows x (collection_named p.names x) (or_none (values qs))
 unjoined p s qs = []
 
 abbrev pub misjoined : Place → Head → List JudgedPart → List ℕ
@@ -273,7 +289,8 @@ abbrev pub no_variable : List ℕ → List JudgedPart → List ℕ
 no_variable x (target a y ∷ qs) = y
 no_variable x qs = x
 
--- rule 13: scopes of table calls, one more than are around; else how deep the type is, or its most fields
+-- rule 13: scopes of table calls, one more than are around; else how deep the type is, or its most
+-- fields
 abbrev mutual
   pub most_fields : Shape → ℕ
   most_fields (records cs) = max (columns_count cs) (most_in cs)
@@ -285,7 +302,8 @@ abbrev mutual
   most_in (column n t cs) = max (most_fields t) (most_in cs)
 
 abbrev pub type_limit : Shape → List ℕ
-type_limit t = if nat_le (type_depth t) 8 then word_with_number (codes "fields") (most_fields t) else word_with_number (codes "type") (type_depth t)
+type_limit t = if nat_le (type_depth t) 8 then word_with_number (codes "fields")
+    (most_fields t) else word_with_number (codes "type") (type_depth t)
 
 abbrev pub limit_of : Result (Term × Shape) ℕ → List ℕ
 limit_of (Ok x) = type_limit x.1
@@ -310,8 +328,10 @@ list_limit None = []
 
 abbrev pub limit_detail : Place → Setting → Head → List JudgedPart → List ℕ
 limit_detail p s (tree.call x) qs =
-    if is_too_deep p s (tree.call x) qs then word_with_number (codes "nested") (suc (depth_of s.scopes)) else call_limit p s (called_as p.names x) qs
-limit_detail p s (tree.rec ns ps) qs = type_limit (record_by (put_fields ns (or_none (values qs)))).1
+    if is_too_deep p s (tree.call x) qs then word_with_number (codes "nested")
+    (suc (depth_of s.scopes)) else call_limit p s (called_as p.names x) qs
+limit_detail p s (tree.rec ns ps) qs = type_limit
+    (record_by (put_fields ns (or_none (values qs)))).1
 limit_detail p s h qs = list_limit (join_all (Some blanks) (or_none (values qs)))
 
 -- what is said of a node of these parts that breaks a rule
@@ -331,23 +351,27 @@ abbrev pub wanted_detail : Names → JudgedPart → List ℕ
 wanted_detail n q = comma_separated (part_names n q)
 
 abbrev mutual
-  -- a node, here or among the parts, whose parts are all admitted and that no rule admits: where it begins,
-  -- the rule that it breaks, and what is said besides
+  -- a node, here or among the parts, whose parts are all admitted and that no rule admits: where it
+  -- begins, the rule that it breaks, and what is said besides
   pub IsToldBroken : Place → Setting → Tree → ℕ → ℕ → List ℕ → Type 0
   IsToldBroken p s (node at h ts) w rule said =
-      ((w ≡ at) × (qs : List JudgedPart) × (judge_parts p s h (part_count ts) [] ts ≡ Ok qs) × (admit p s h qs ≡ Err rule)
+      ((w ≡ at) × (qs : List JudgedPart) × (judge_parts p s h (part_count ts) [] ts ≡ Ok qs)
+      × (admit p s h qs ≡ Err rule)
       × (said ≡ detail_of p s h qs rule))
       ⊎ HasToldBroken p s h (part_count ts) [] ts w rule said
 
-  pub HasToldBroken : Place → Setting → Head → ℕ → List JudgedPart → Forest → ℕ → ℕ → List ℕ → Type 0
+  pub HasToldBroken : Place → Setting → Head → ℕ → List JudgedPart → Forest → ℕ → ℕ → List ℕ
+      → Type 0
   HasToldBroken p s h n done none w rule said = ⊥
   HasToldBroken p s h n done (more k ks) w rule said =
       IsToldBroken p (setting_at p.names s h n done) k w rule said
-      ⊎ ((q : JudgedPart) × (judge p (setting_at p.names s h n done) k ≡ Ok q) × HasToldBroken p s h n (done ++ q ∷ []) ks w rule said)
+      ⊎ ((q : JudgedPart) × (judge p (setting_at p.names s h n done) k ≡ Ok q)
+      × HasToldBroken p s h n (done ++ q ∷ []) ks w rule said)
 
 -- a whole formula is broken at a node of it, or at its top by what is wanted of it
 abbrev pub IsToldBrokenWhole : Place → Bool → Option Shape → Tree → ℕ → ℕ → List ℕ → Type 0
 IsToldBrokenWhole p acts wanted e w rule said =
     IsToldBroken p (outermost_setting acts) e w rule said
-    ⊎ ((w ≡ position e) × (q : JudgedPart) × (judge p (outermost_setting acts) e ≡ Ok q) × (whole_argument wanted q ≡ Err rule)
+    ⊎ ((w ≡ position e) × (q : JudgedPart) × (judge p (outermost_setting acts) e ≡ Ok q)
+    × (whole_argument wanted q ≡ Err rule)
     × (said ≡ wanted_detail p.names q))

@@ -1,5 +1,6 @@
 -- The one rule of all functions, operators and forms, over their parts as they were judged.
-use Rattle.std.specs.Prelude.{ℕ, suc, codes, List, [], ◌∷◌, Bool, true, false, ◌||◌, ◌&&◌, length, Option, Some, None, Result, Ok, Err, if◌then◌else◌}
+use Rattle.std.specs.Prelude.{ℕ, suc, codes, List, [], ◌∷◌, Bool, true, false, ◌||◌, ◌&&◌, length}
+use Rattle.std.specs.Prelude.{Option, Some, None, Result, Ok, Err, if◌then◌else◌}
 use Rattle.fx_types.specs.Types.{Shape, blanks, texts, records, tables, no_columns}
 use Rattle.fx_types.specs.Values.{text}
 use Rattle.fx_value.specs.Join.{join_of}
@@ -14,11 +15,12 @@ use Rattle.fx_core.specs.Rules as rules
 use Rattle.fx_typing.specs.Acts.{acts}
 use Rattle.fx_typing.specs.Columns.{tells_error}
 use Rattle.fx_core.specs.ColumnLists.{and_then, field_in}
-use Rattle.fx_typing.specs.Ways.{Way, same, changed, refused, way, same_shape, is_scalar, is_comparable}
+use Rattle.fx_typing.specs.Ways.{Way, same, changed, refused, way, same_shape, is_scalar}
+use Rattle.fx_typing.specs.Ways.{is_comparable}
 use Rattle.fx_typing.specs.WellTyped.{answered_type, head_of}
 
--- a part as it was judged: the name of its rows if it has one, its tree and its type; or the name of a
--- column
+-- a part as it was judged: the name of its rows if it has one, its tree and its type; or the name
+-- of a column
 pub data Piece : Type 0 where
   value : Option (List ℕ) → Term → Shape → Piece
   label : List ℕ → Piece
@@ -68,23 +70,28 @@ stand (takes.Formula s) first common (value a c t) = by_way (way t (shape_of s))
 stand (takes.Exact s) first common (value a c t) = by_way (exact_way t (shape_of s)) c (shape_of s)
 stand takes.Any first common (value a c t) = Ok (c, t)
 stand takes.AnyFormula first common (value a c t) = Ok (c, t)
-stand takes.ErrorRecord first common (value a c (records cs)) = part_or_rule (tells_error cs) (without_kind (field_in (codes "Kind") cs)) c (records cs)
+stand takes.ErrorRecord first common (value a c (records cs))
+    = part_or_rule (tells_error cs) (without_kind (field_in (codes "Kind") cs)) c (records cs)
 stand takes.Table first common (value a c (tables cs)) = Ok (c, tables cs)
-stand takes.Table first common (value a c blanks) = Ok (coerced c (tables no_columns), tables no_columns)
-stand takes.ScalarFormula first common (value a c t) = part_or_rule (is_scalar t) rules.wrong_type c t
+stand takes.Table first common (value a c blanks)
+    = Ok (coerced c (tables no_columns), tables no_columns)
+stand takes.ScalarFormula first common (value a c t)
+    = part_or_rule (is_scalar t) rules.wrong_type c t
 stand takes.RowFormula first common (value a c (tables cs)) = Err rules.wrong_type
 stand takes.RowFormula first common (value a c t) = Ok (c, t)
 stand takes.Choice first common (value a c t) = by_way (branch_way t common) c common
 stand takes.Branch first common (value a c t) = by_way (branch_way t common) c common
 stand takes.Fallback first common (value a c t) = by_way (branch_way t common) c common
 stand takes.Compared first common (value a c t) = part_or_rule (is_scalar t) rules.wrong_type c t
-stand takes.Match first common (value a c t) = part_or_rule (is_comparable first t) rules.wrong_type c t
+stand takes.Match first common (value a c t) = part_or_rule (is_comparable first t) rules.wrong_type
+    c t
 stand takes.Column first common (label x) = Ok (of (const (text x)) nil, texts)
 stand takes.NewColumn first common (label x) = Ok (of (const (text x)) nil, texts)
 stand k first common p = Err rules.wrong_type
 
 -- the first rule that breaks, else all
-abbrev pub put_first : Term × Shape → Result (List (Term × Shape)) ℕ → Result (List (Term × Shape)) ℕ
+abbrev pub put_first : Term × Shape → Result (List (Term × Shape)) ℕ
+    → Result (List (Term × Shape)) ℕ
 put_first x (Ok xs) = Ok (x ∷ xs)
 put_first x (Err e) = Err e
 
@@ -92,7 +99,8 @@ put_first x (Err e) = Err e
 abbrev pub stand_rest : Row → ℕ → ℕ → Shape → Shape → List Piece → Result (List (Term × Shape)) ℕ
 stand_rest r n i first common [] = Ok []
 stand_rest r n i first common (p ∷ ps) =
-    and_then (stand (takes_at r n i) first common p) (λ x. put_first x (stand_rest r n (suc i) first common ps))
+    and_then (stand (takes_at r n i) first common p)
+    (λ x. put_first x (stand_rest r n (suc i) first common ps))
 
 -- all parts: the first one's type, as it stands, is known to the others
 abbrev pub stand_all : Row → Shape → List Piece → Result (List (Term × Shape)) ℕ
@@ -156,7 +164,8 @@ firsts (x ∷ xs) = x.0 ∷ firsts xs
 
 -- the tree of a head and its parts as they stand, with the type that it answers
 abbrev pub answer_by : Row → Top → Shape → List (Term × Shape) → Result (Term × Shape) ℕ
-answer_by r h common xs = and_then (answered_type r.answer common xs) (λ t. Ok (of h (all (firsts xs)), t))
+answer_by r h common xs = and_then (answered_type r.answer common xs)
+    (λ t. Ok (of h (all (firsts xs)), t))
 
 abbrev pub made_as : Row → Top → List Piece → Option Shape → Result (Term × Shape) ℕ
 made_as r h ps (Some common) = and_then (stand_all r common ps) (answer_by r h common)
@@ -164,7 +173,8 @@ made_as r h ps None = Err rules.wrong_type
 
 -- THE rule: a head with this row, of these parts, or the rule that is broken
 abbrev pub made_by : Row → Top → List Piece → Result (Term × Shape) ℕ
-made_by r h ps = if takes_count r (length ps) then made_as r h ps (common_of (branches r (length ps) 0 ps)) else Err rules.wrong_count
+made_by r h ps = if takes_count r (length ps) then made_as r h ps
+    (common_of (branches r (length ps) 0 ps)) else Err rules.wrong_count
 
 -- a function or operator
 abbrev pub node_made : Fun → List Piece → Result (Term × Shape) ℕ

@@ -1,5 +1,7 @@
 -- What the names of a formula mean.
-use Rattle.std.specs.Prelude.{ℕ, suc, pos, List, [], ◌∷◌, Bool, true, false, ◌&&◌, nat_eq, Option, Some, None, option_map, Result, Ok, Err, bytes_eq, codes, encode_utf8_all, if◌then◌else◌, slice_get}
+use Rattle.std.specs.Prelude.{ℕ, suc, pos, List, [], ◌∷◌, Bool, true, false, ◌&&◌, nat_eq, Option}
+use Rattle.std.specs.Prelude.{Some, None, option_map, Result, Ok, Err, bytes_eq, codes}
+use Rattle.std.specs.Prelude.{encode_utf8_all, if◌then◌else◌, slice_get}
 use Rattle.fx_types.specs.TypeView.{shape}
 use Rattle.fx_types.specs.Types.{Shape, texts, records, tables, no_columns}
 use Rattle.fx_types.specs.Values.{Data, blank, number, text, boolean, tab, no_rows}
@@ -22,15 +24,16 @@ use Rattle.fx_core.specs.Rules as rules
 use Rattle.fx_typing.specs.Columns.{field_shape, fault_type}
 use Rattle.fx_core.specs.ColumnLists.{field_in}
 
--- a scope of rows or of a record: its type, its alias if it has one, and whether it is a table call's,
--- whose depth is limited
+-- a scope of rows or of a record: its type, its alias if it has one, and whether it is a table
+-- call's, whose depth is limited
 pub record Scope : Type 0 where
   pub row_type : Shape
   pub alias : Option (List ℕ)
   pub counted : Bool
 
--- where a formula stands: its app's names, its screen, the gallery whose item it sees, and whether the
--- types of variables and collections are settled: until then no value is of a wrong type for one
+-- where a formula stands: its app's names, its screen, the gallery whose item it sees, and whether
+-- the types of variables and collections are settled: until then no value is of a wrong type for
+-- one
 pub record Place : Type 0 where
   pub names : Names
   pub screen : Option ℕ
@@ -73,7 +76,8 @@ this_record k (s ∷ ss) = or_else (this_record (suc k) ss) (whole_by s.alias k 
 
 -- ThisItem: the item of the gallery that the formula sees
 abbrev pub this_item : Names → Option ℕ → Option NameMeaning
-this_item n (Some g) = option_map (λ (c : ControlName). valued (of item nil) (item_type c)) (slice_get n.controls g)
+this_item n (Some g) = option_map (λ (c : ControlName). valued (of item nil) (item_type c))
+    (slice_get n.controls g)
 this_item n None = None
 
 -- FirstError: where an error is caught around
@@ -106,18 +110,23 @@ is_global (Some s) = false
 abbrev pub in_context : Place → List ℕ → Option NameMeaning
 in_context p x =
     option_map (λ (v : ℕ × Variable). valued (of (read (source.Context v.0)) nil) (shape v.1.ty))
-    (first_match (λ (v : Variable). is_on p.screen v.screen && bytes_eq v.name x) 0 p.names.variables)
+    (first_match (λ (v : Variable). is_on p.screen v.screen && bytes_eq v.name x) 0
+    p.names.variables)
 
 -- the global names, which are distinct
 abbrev pub in_globals : Names → List ℕ → Option NameMeaning
 in_globals n x =
-    or_else (option_map (λ (v : ℕ × Variable). valued (of (read (source.Global v.0)) nil) (shape v.1.ty))
+    or_else (option_map (λ (v : ℕ × Variable). valued (of (read (source.Global v.0)) nil)
+    (shape v.1.ty))
     (first_match (λ (v : Variable). is_global v.screen && bytes_eq v.name x) 0 n.variables))
-    (or_else (option_map (λ (c : ℕ × Collection). valued (of (read (source.Gathered c.0)) nil) (shape c.1.ty))
+    (or_else (option_map (λ (c : ℕ × Collection). valued (of (read (source.Gathered c.0)) nil)
+    (shape c.1.ty))
     (first_match (λ (c : Collection). bytes_eq c.name x) 0 n.collections))
-    (or_else (option_map (λ (f : ℕ × FormulaName). valued (of (read (source.Cell f.1.cell)) nil) (shape f.1.ty))
+    (or_else (option_map (λ (f : ℕ × FormulaName). valued (of (read (source.Cell f.1.cell)) nil)
+    (shape f.1.ty))
     (first_match (λ (f : FormulaName). bytes_eq f.name x) 0 n.formulas))
-    (or_else (option_map (λ (t : ℕ × TableShape). valued (of (read (source.Table t.0)) nil) (tables (columns_of t.1)))
+    (or_else (option_map (λ (t : ℕ × TableShape). valued (of (read (source.Table t.0)) nil)
+    (tables (columns_of t.1)))
     (first_match (λ (t : TableShape). bytes_eq t.name x) 0 n.schema.tables))
     (or_else (option_map (λ (c : ℕ × ControlName). controlled c.0 c.1)
     (first_match (λ (c : ControlName). bytes_eq c.name x) 0 n.controls))
@@ -131,10 +140,11 @@ behind_scopes p x None = or_else (in_context p x) (in_globals p.names x)
 -- what a name means: in the scopes, as a reserved name, among the screen's context variables, among
 -- the global names
 abbrev pub meaning_of : Place → List Scope → Bool → List ℕ → Option NameMeaning
-meaning_of p scopes catches x = or_else (in_scopes 0 x scopes) (behind_scopes p x (reserved p scopes catches x))
+meaning_of p scopes catches x = or_else (in_scopes 0 x scopes)
+    (behind_scopes p x (reserved p scopes catches x))
 
--- a name as a formula of its own: rule 4 where it means nothing or an enumeration, and rule 6 where it
--- is a control or a screen
+-- a name as a formula of its own: rule 4 where it means nothing or an enumeration, and rule 6 where
+-- it is a control or a screen
 abbrev pub named : Option NameMeaning → Result (Term × Shape) ℕ
 named (Some (valued c t)) = Ok (c, t)
 named (Some (controlled k c)) = Err rules.wrong_type
@@ -146,7 +156,8 @@ abbrev pub own_default : Control → List ℕ → Data
 own_default control.Label n = text []
 own_default control.Button n = text []
 own_default control.TextInput n = blank
-own_default control.Slider n = if bytes_eq n (codes "Max") then number (pos 1000000) else number (pos 0)
+own_default control.Slider n = if bytes_eq n (codes "Max") then number (pos 1000000) else number
+    (pos 0)
 own_default control.Checkbox n = if bytes_eq n (codes "Text") then text [] else boolean false
 own_default control.DatePicker n = blank
 own_default control.Gallery n = tab no_rows
@@ -173,11 +184,16 @@ default_type c n t = if is_items c n then tables no_columns else t
 -- a written property is its cell, and another one its default
 abbrev pub written_or : Control → List ℕ → Shape → Option (ℕ × Property) → Term × Shape
 written_or c x t (Some p) = (of (read (source.Cell p.1.cell)) nil, t)
-written_or c x t None = (of (const (default_of c (encode_utf8_all x))) nil, default_type c (encode_utf8_all x) t)
+written_or c x t None = (
+  of (const (default_of c (encode_utf8_all x))) nil,
+  default_type c
+      (encode_utf8_all x) t,
+)
 
 abbrev pub property_read : Names → ℕ → ControlName → List ℕ → Option Shape → Result (Term × Shape) ℕ
 property_read n k c x (Some t) =
-    Ok (written_or c.kind x t (first_match (λ (p : Property). nat_eq p.control k && bytes_eq p.name x) 0 n.properties))
+    Ok (written_or c.kind x t (first_match (λ (p : Property). nat_eq p.control k
+    && bytes_eq p.name x) 0 n.properties))
 property_read n k c x None = Err rules.unknown_column
 
 abbrev pub input_read : ℕ → Option Shape → Result (Term × Shape) ℕ

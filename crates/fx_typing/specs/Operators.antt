@@ -6,8 +6,8 @@ use Rattle.fx_core.specs.declared.expr.Op.TheVariants as op
 use Rattle.fx_core.specs.declared.functions.Fun.{Fun}
 use Rattle.fx_core.specs.declared.functions.Fun.TheVariants as fun
 
--- the type that `=` and `<>` compare two operands by: their own, that of the one that isn't Blank, and
--- Number where both are
+-- the type that `=` and `<>` compare two operands by: their own, that of the one that isn't Blank,
+-- and Number where both are
 pub data Compared : Type 0 where
   as_numbers : Compared
   as_texts : Compared

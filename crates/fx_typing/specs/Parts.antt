@@ -1,5 +1,6 @@
 -- The parts of a node as they were judged, and where a node stands.
-use Rattle.std.specs.Prelude.{ℕ, suc, min, List, [], ◌∷◌, Bool, true, false, ◌&&◌, nat_lt, Option, None, Result, Ok, Err, if◌then◌else◌}
+use Rattle.std.specs.Prelude.{ℕ, suc, min, List, [], ◌∷◌, Bool, true, false, ◌&&◌, nat_lt, Option}
+use Rattle.std.specs.Prelude.{None, Result, Ok, Err, if◌then◌else◌}
 use Rattle.fx_types.specs.Types.{Shape}
 use Rattle.fx_core.specs.Tree.{Forest, none, more}
 use Rattle.fx_core.specs.Term.{Term}
@@ -8,8 +9,9 @@ use Rattle.fx_typing.specs.Local.{Piece, value, label}
 use Rattle.fx_typing.specs.Meaning.{Scope, NameMeaning}
 
 -- what a place allows: a value alone, or one that acts; the name of the rows by `As`, the name of a
--- column, or the name of what changes, alone or with a name for its rows by `As`; left of a dot a name that
--- is no value, and a value that acts where the whole acts; the variables of a screen with their values
+-- column, or the name of what changes, alone or with a name for its rows by `As`; left of a dot a
+-- name that is no value, and a value that acts where the whole acts; the variables of a screen with
+-- their values
 pub data Grant : Type 0 where
   nothing : Grant
   acting : Grant
@@ -20,16 +22,16 @@ pub data Grant : Type 0 where
   a_meaning : Bool → Grant
   on_screen : Bool → Grant
 
--- a part as it was judged: a value or the name of a column; left of a dot a name that is no value; the
--- name of what changes, with the name of its rows if it has one; variables with their values
+-- a part as it was judged: a value or the name of a column; left of a dot a name that is no value;
+-- the name of what changes, with the name of its rows if it has one; variables with their values
 pub data JudgedPart : Type 0 where
   piece : Piece → JudgedPart
   meant : NameMeaning → JudgedPart
   target : Option (List ℕ) → List ℕ → JudgedPart
   assigned : List (List ℕ) → List (Term × Shape) → JudgedPart
 
--- where a node stands: the scopes around it from the outside, whether an error is caught around it, and
--- what its place allows
+-- where a node stands: the scopes around it from the outside, whether an error is caught around it,
+-- and what its place allows
 pub record Setting : Type 0 where
   pub scopes : List Scope
   pub catches : Bool
@@ -61,7 +63,8 @@ pieces [] = []
 pieces (q ∷ qs) = piece_of q ∷ pieces qs
 
 -- goes on with values; another part is of the wrong type
-abbrev pub put_value : Term × Shape → Result (List (Term × Shape)) ℕ → Result (List (Term × Shape)) ℕ
+abbrev pub put_value : Term × Shape → Result (List (Term × Shape)) ℕ
+    → Result (List (Term × Shape)) ℕ
 put_value x (Ok xs) = Ok (x ∷ xs)
 put_value x (Err e) = Err e
 

@@ -1,5 +1,6 @@
 -- How each part of a node is judged, from the parts before it.
-use Rattle.std.specs.Prelude.{ℕ, zero, suc, List, [], ◌∷◌, ◌++◌, Bool, true, false, ◌||◌, nat_lt, length, Option, Some, None, encode_utf8_all, if◌then◌else◌}
+use Rattle.std.specs.Prelude.{ℕ, zero, suc, List, [], ◌∷◌, ◌++◌, Bool, true, false, ◌||◌, nat_lt}
+use Rattle.std.specs.Prelude.{length, Option, Some, None, encode_utf8_all, if◌then◌else◌}
 use Rattle.fx_types.specs.Types.{Shape, records, tables, no_columns}
 use Rattle.fx_core.specs.declared.functions.Acting.{Acting}
 use Rattle.fx_core.specs.declared.functions.Acting.TheVariants as acts
@@ -17,8 +18,11 @@ use Rattle.fx_core.specs.Tree.{Head}
 use Rattle.fx_core.specs.Tree as tree
 use Rattle.fx_typing.specs.Local.{value}
 use Rattle.fx_typing.specs.Meaning.{Scope}
-use Rattle.fx_typing.specs.WellTyped.{PartScope, plain, inside, bound, catching, standing_of, row_type}
-use Rattle.fx_typing.specs.Parts.{Grant, nothing, acting, an_alias, a_column, a_target, aliased_target, a_meaning, on_screen, JudgedPart, piece, target, Setting, may_act}
+use Rattle.fx_typing.specs.WellTyped.{PartScope, plain, inside, bound, catching, standing_of}
+use Rattle.fx_typing.specs.WellTyped.{row_type}
+use Rattle.fx_typing.specs.Parts.{Grant, nothing, acting, an_alias, a_column, a_target}
+use Rattle.fx_typing.specs.Parts.{aliased_target, a_meaning, on_screen, JudgedPart, piece, target}
+use Rattle.fx_typing.specs.Parts.{Setting, may_act}
 use Rattle.fx_typing.specs.Targets.{target_columns}
 
 -- how a part is judged: what it stands in, and what its place allows
@@ -50,8 +54,8 @@ plan_of b k = argument_rule (standing_of k) (grant_of b k)
 abbrev pub plan_by_row : Bool → Row → ℕ → ℕ → ArgumentRule
 plan_by_row b r n i = plan_of b (takes_at r n i)
 
--- under one name: the function of the rows of a table, where the first part is one or has a name for its
--- rows; else that of scalars
+-- under one name: the function of the rows of a table, where the first part is one or has a name
+-- for its rows; else that of scalars
 abbrev pub pick : Fun → Fun → List JudgedPart → Fun
 pick f g (piece (value (Some a) c t) ∷ qs) = g
 pick f g (piece (value None c (tables cs)) ∷ qs) = g
@@ -64,7 +68,8 @@ plan_either b f g n (q ∷ qs) = plan_by_row b (row_of (pick f g (q ∷ qs))) n 
 
 -- a literal stands behind all other arguments
 abbrev pub plan_literal : Bool → Fun → ℕ → ℕ → ArgumentRule
-plan_literal b f n i = if nat_lt i (row_of f).most then plan_by_row b (row_of f) n i else argument_rule plain nothing
+plan_literal b f n i = if nat_lt i (row_of f).most then plan_by_row b (row_of f) n i else
+    argument_rule plain nothing
 
 -- `With`: the second part stands in the record's scope
 abbrev pub plan_with : Bool → ℕ → ArgumentRule
@@ -156,7 +161,11 @@ is_catching s = false
 -- where a part stands
 abbrev pub setting_by : Names → Setting → ArgumentRule → List JudgedPart → Setting
 setting_by n s p done =
-    record { scopes = scopes_for n p.standing s.scopes done; catches = s.catches || is_catching p.standing; grant = p.grant }
+    record {
+      scopes = scopes_for n p.standing s.scopes done;
+      catches = s.catches || is_catching p.standing;
+      grant = p.grant;
+    }
 
 abbrev pub setting_at : Names → Setting → Head → ℕ → List JudgedPart → Setting
 setting_at m s h n done = setting_by m s (plan_at m s.grant h n done) done
@@ -173,4 +182,5 @@ is_inside s = false
 -- whether one of the parts stands in the scope of a row of the first
 abbrev pub opens_rows : Names → Grant → Head → ℕ → List JudgedPart → List JudgedPart → Bool
 opens_rows m g h n done [] = false
-opens_rows m g h n done (q ∷ qs) = is_inside (plan_at m g h n done).standing || opens_rows m g h n (done ++ q ∷ []) qs
+opens_rows m g h n done (q ∷ qs) = is_inside (plan_at m g h n done).standing
+    || opens_rows m g h n (done ++ q ∷ []) qs

@@ -1,5 +1,6 @@
 -- Values, records, lists, and what stands behind a dot.
-use Rattle.std.specs.Prelude.{◌≡◌, ℕ, List, [], ◌∷◌, true, false, ◌&&◌, nat_eq, bytes_eq, encode_utf8_all, Option, Some, None}
+use Rattle.std.specs.Prelude.{◌≡◌, ℕ, List, [], ◌∷◌, true, false, ◌&&◌, nat_eq, bytes_eq}
+use Rattle.std.specs.Prelude.{encode_utf8_all, Option, Some, None}
 use Rattle.fx_types.specs.Types.{Shape, blanks, texts, records, ColumnList, no_columns}
 use Rattle.fx_types.specs.Values.{text}
 use Rattle.fx_core.specs.declared.literals.Enumeration.{Enumeration}
@@ -13,7 +14,8 @@ use Rattle.fx_core.specs.SourceTypes.{item_type, property_of}
 use Rattle.fx_core.specs.Term.{Term, of, nil, cons, const, read, dot}
 use Rattle.fx_core.specs.ColumnLists.{field_in}
 use Rattle.fx_typing.specs.Local.{value, coerced, join_all}
-use Rattle.fx_typing.specs.Meaning.{NameMeaning, valued, controlled, enumerated, first_match, is_chosen, is_input, default_of, default_type}
+use Rattle.fx_typing.specs.Meaning.{NameMeaning, valued, controlled, enumerated, first_match}
+use Rattle.fx_typing.specs.Meaning.{is_chosen, is_input, default_of, default_type}
 use Rattle.fx_typing.specs.Ways.{way}
 use Rattle.fx_typing.specs.Builds.{list_by}
 use Rattle.fx_typing.specs.Parts.{JudgedPart, piece, meant, plainly}
@@ -22,7 +24,8 @@ use Rattle.fx_typing.specs.Functions.{Becomes, IsNoTableType}
 -- parts that are all values
 pub data AreValueParts : List JudgedPart → List (Term × Shape) → Type 0 where
   no_values : AreValueParts [] []
-  one_value : {a : Option (List ℕ)} {c : Term} {t : Shape} {qs : List JudgedPart} {xs : List (Term × Shape)} →
+  one_value : {a : Option (List ℕ)} {c : Term} {t : Shape} {qs : List JudgedPart}
+      {xs : List (Term × Shape)} →
       AreValueParts qs xs → AreValueParts (piece (value a c t) ∷ qs) ((c, t) ∷ xs)
 
 -- a name left of a dot: its value, or what it names that is no value
@@ -38,23 +41,37 @@ left_meaning q = None
 
 -- the written property of a control with this number
 abbrev pub written_property : Names → ℕ → List ℕ → Option (ℕ × Property)
-written_property n k x = first_match (λ (p : Property). nat_eq p.control k && bytes_eq p.name x) 0 n.properties
+written_property n k x = first_match (λ (p : Property). nat_eq p.control k && bytes_eq p.name x) 0
+    n.properties
 
--- what a name behind a dot is: a field of a record; the chosen item of a gallery, what the user gave a
--- control, a written property, or one's default, of a control that stands in no gallery; a member
+-- what a name behind a dot is: a field of a record; the chosen item of a gallery, what the user
+-- gave a control, a written property, or one's default, of a control that stands in no gallery; a
+-- member
 pub data Behind (n : Names) (x : List ℕ) : NameMeaning → Term × Shape → Type 0 where
-  field : {c : Term} {t : Shape} {cs : ColumnList} → field_in x cs ≡ Some t → Behind n x (valued c (records cs)) (of (dot x) (cons c nil), t)
-  chosen : {k : ℕ} {c : ControlName} → c.gallery ≡ None → is_chosen c.kind (encode_utf8_all x) ≡ true →
+  field : {c : Term} {t : Shape} {cs : ColumnList} → field_in x cs ≡ Some t
+      → Behind n x (valued c (records cs)) (of (dot x) (cons c nil), t)
+  chosen : {k : ℕ} {c : ControlName} → c.gallery ≡ None
+      → is_chosen c.kind (encode_utf8_all x) ≡ true →
       Behind n x (controlled k c) (of (read (source.Chosen k)) nil, item_type c)
-  input : {k : ℕ} {c : ControlName} {t : Shape} → c.gallery ≡ None → is_chosen c.kind (encode_utf8_all x) ≡ false →
-      is_input c.kind (encode_utf8_all x) ≡ true → input_type c.kind ≡ Some t → Behind n x (controlled k c) (of (read (source.Input k)) nil, t)
-  property : {k i : ℕ} {c : ControlName} {t : Shape} {r : Property} → c.gallery ≡ None → is_chosen c.kind (encode_utf8_all x) ≡ false →
-      is_input c.kind (encode_utf8_all x) ≡ false → property_of x c ≡ Some t → written_property n k x ≡ Some (i, r) →
+  input : {k : ℕ} {c : ControlName} {t : Shape} → c.gallery ≡ None
+      → is_chosen c.kind (encode_utf8_all x) ≡ false →
+      is_input c.kind (encode_utf8_all x) ≡ true → input_type c.kind ≡ Some t
+      → Behind n x (controlled k c) (of (read (source.Input k)) nil, t)
+  property : {k i : ℕ} {c : ControlName} {t : Shape} {r : Property} → c.gallery ≡ None
+      → is_chosen c.kind (encode_utf8_all x) ≡ false →
+      is_input c.kind (encode_utf8_all x) ≡ false → property_of x c ≡ Some t
+      → written_property n k x ≡ Some (i, r) →
       Behind n x (controlled k c) (of (read (source.Cell r.cell)) nil, t)
-  unwritten : {k : ℕ} {c : ControlName} {t : Shape} → c.gallery ≡ None → is_chosen c.kind (encode_utf8_all x) ≡ false →
-      is_input c.kind (encode_utf8_all x) ≡ false → property_of x c ≡ Some t → written_property n k x ≡ None →
-      Behind n x (controlled k c) (of (const (default_of c.kind (encode_utf8_all x))) nil, default_type c.kind (encode_utf8_all x) t)
-  member : {e : Enumeration} → has_member e (encode_utf8_all x) ≡ true → Behind n x (enumerated e) (of (const (text x)) nil, texts)
+  unwritten : {k : ℕ} {c : ControlName} {t : Shape} → c.gallery ≡ None
+      → is_chosen c.kind (encode_utf8_all x) ≡ false →
+      is_input c.kind (encode_utf8_all x) ≡ false → property_of x c ≡ Some t
+      → written_property n k x ≡ None →
+      Behind n x (controlled k c) (
+        of (const (default_of c.kind (encode_utf8_all x))) nil,
+        default_type c.kind (encode_utf8_all x) t,
+      )
+  member : {e : Enumeration} → has_member e (encode_utf8_all x) ≡ true
+      → Behind n x (enumerated e) (of (const (text x)) nil, texts)
 
 -- rows that all come to one type
 pub data RowsBecome (t : Shape) : List (Term × Shape) → List (Term × Shape) → Type 0 where
@@ -64,9 +81,11 @@ pub data RowsBecome (t : Shape) : List (Term × Shape) → List (Term × Shape) 
 
 -- rows of the join of their types, which is no table, as a table
 pub data Rows (joined : Option Shape) (xs : List (Term × Shape)) : Term × Shape → Type 0 where
-  of_rows : {t : Shape} {ys : List (Term × Shape)} → joined ≡ Some t → IsNoTableType t → RowsBecome t xs ys → Rows joined xs (list_by t ys)
+  of_rows : {t : Shape} {ys : List (Term × Shape)} → joined ≡ Some t → IsNoTableType t
+      → RowsBecome t xs ys → Rows joined xs (list_by t ys)
 
--- the join of the types of `[..]`, where values of type Blank alone are of a scalar; without rows there are no columns
+-- the join of the types of `[..]`, where values of type Blank alone are of a scalar; without rows
+-- there are no columns
 abbrev pub list_join : List (Term × Shape) → Option Shape
 list_join [] = Some (records no_columns)
 list_join (x ∷ xs) = join_all (Some blanks) (x ∷ xs)

@@ -1,5 +1,7 @@
 -- The types of variables, collections and formulas, by rounds.
-use Rattle.std.specs.Prelude.{◌≡◌, ◌≢◌, ◌<◌, ℕ, zero, suc, List, [], ◌∷◌, ◌++◌, Bool, true, false, ◌&&◌, nat_eq, map, length, replicate, codes, Option, Some, None, option_map, Result, Ok, Err, bytes_eq, slice_get}
+use Rattle.std.specs.Prelude.{◌≡◌, ◌≢◌, ◌<◌, ℕ, zero, suc, List, [], ◌∷◌, ◌++◌, Bool, true, false}
+use Rattle.std.specs.Prelude.{◌&&◌, nat_eq, map, length, replicate, codes, Option, Some, None}
+use Rattle.std.specs.Prelude.{option_map, Result, Ok, Err, bytes_eq, slice_get}
 use Rattle.fx_types.specs.TypeView.{shape}
 use Rattle.fx_types.specs.Types.{Shape, blanks}
 use Rattle.fx_value.specs.Join.{join_of}
@@ -22,8 +24,8 @@ use Rattle.fx_typing.specs.Typing.{judge, judge_whole, outermost_setting}
 use Rattle.fx_typing.specs.Parts.{Grant, on_screen, JudgedPart, piece, target, Setting, part_count}
 use Rattle.fx_typing.specs.Plans.{called_as, setting_at}
 
--- a formula of an app: its screen, the gallery whose item it sees, whether it acts, the type that is
--- wanted of it, and its tree
+-- a formula of an app: its screen, the gallery whose item it sees, whether it acts, the type that
+-- is wanted of it, and its tree
 pub record Cell : Type 0 where
   pub screen : Option ℕ
   pub gallery : Option ℕ
@@ -63,7 +65,8 @@ value_given go q = given_by_node go (option_map (λ (x : Term × Shape). x.1) (p
 
 abbrev pub rows_given_to : (Shape → GivenType) → List JudgedPart → List GivenType
 rows_given_to go [] = []
-rows_given_to go (q ∷ qs) = given_by_node go (option_map (λ (x : Term × Shape). (rows_collected x).1) (part_type q)) ++ rows_given_to go qs
+rows_given_to go (q ∷ qs) = given_by_node go (option_map
+    (λ (x : Term × Shape). (rows_collected x).1) (part_type q)) ++ rows_given_to go qs
 
 abbrev pub fields_given : Option ℕ → List (List ℕ) → List JudgedPart → List GivenType
 fields_given s (n ∷ ns) (q ∷ qs) = value_given (to_screen s n) q ++ fields_given s ns qs
@@ -93,17 +96,20 @@ seen_parts p s h n done (more k ks) =
 abbrev mutual
   -- what a tree gives, in the order of its text
   pub given_in : Place → Setting → Tree → List GivenType
-  given_in p s (node at h ts) = node_gives p s h (seen_parts p s h (part_count ts) [] ts) ++ given_in_parts p s h (part_count ts) [] ts
+  given_in p s (node at h ts) = node_gives p s h (seen_parts p s h (part_count ts) [] ts)
+      ++ given_in_parts p s h (part_count ts) [] ts
 
   pub given_in_parts : Place → Setting → Head → ℕ → List JudgedPart → Forest → List GivenType
   given_in_parts p s h n done none = []
   given_in_parts p s h n done (more k ks) =
       given_in p (setting_at p.names s h n done) k
-      ++ given_in_parts p s h n (done ++ or_unknown (judge p (setting_at p.names s h n done) k) ∷ []) ks
+      ++ given_in_parts p s h n (done ++ or_unknown (judge p (setting_at p.names s h n done) k)
+      ∷ []) ks
 
 abbrev pub all_given : Names → List Cell → List GivenType
 all_given n [] = []
-all_given n (c ∷ cs) = given_in (placed_in_round n c) (outermost_setting c.acts) c.formula ++ all_given n cs
+all_given n (c ∷ cs) = given_in (placed_in_round n c) (outermost_setting c.acts) c.formula
+    ++ all_given n cs
 
 -- the join of what is given, from the left; a type that doesn't join is passed over
 abbrev pub or_same : Shape → Option Shape → Shape
@@ -122,16 +128,20 @@ is_same_screen s r = false
 
 abbrev pub variable_join : Variable → Shape → List GivenType → Shape
 variable_join v t [] = t
-variable_join v t (to_global x u ∷ gs) = variable_join v (join_if (is_same_screen None v.screen && bytes_eq v.name x) t u) gs
-variable_join v t (to_screen (Some s) x u ∷ gs) = variable_join v (join_if (is_same_screen (Some s) v.screen && bytes_eq v.name x) t u) gs
+variable_join v t (to_global x u ∷ gs) = variable_join v
+    (join_if (is_same_screen None v.screen && bytes_eq v.name x) t u) gs
+variable_join v t (to_screen (Some s) x u ∷ gs)
+    = variable_join v (join_if (is_same_screen (Some s) v.screen && bytes_eq v.name x) t u) gs
 variable_join v t (g ∷ gs) = variable_join v t gs
 
 abbrev pub collection_join : Collection → Shape → List GivenType → Shape
 collection_join c t [] = t
-collection_join c t (to_collection x u ∷ gs) = collection_join c (join_if (bytes_eq c.name x) t u) gs
+collection_join c t (to_collection x u ∷ gs) = collection_join c (join_if (bytes_eq c.name x) t u)
+    gs
 collection_join c t (g ∷ gs) = collection_join c t gs
 
--- the type of a formula itself, before it comes to what is wanted of it, and Blank where it has none
+-- the type of a formula itself, before it comes to what is wanted of it, and Blank where it has
+-- none
 abbrev pub type_or_blank : Result (Term × Shape) (ℕ × ℕ) → Shape
 type_or_blank (Ok x) = x.1
 type_or_blank (Err w) = blanks
@@ -149,7 +159,9 @@ items_formula cs (Some p) = slice_get cs p.1.cell
 items_formula cs None = None
 
 abbrev pub items_type : Names → List Cell → ℕ → Shape
-items_type n cs k = cell_type n (items_formula cs (first_match (λ (p : Property). nat_eq p.control k && bytes_eq p.name (codes "Items")) 0 n.properties))
+items_type n cs k = cell_type n (items_formula cs
+    (first_match (λ (p : Property). nat_eq p.control k && bytes_eq p.name (codes "Items")) 0
+    n.properties))
 
 abbrev pub items_types : Names → List Cell → ℕ → List ControlName → List Shape
 items_types n cs k [] = []
@@ -196,7 +208,8 @@ abbrev pub SameCollection : Collection → Collection → Type 0
 SameCollection c d = c.name ≡ d.name
 
 abbrev pub SameControl : ControlName → ControlName → Type 0
-SameControl c d = (c.name ≡ d.name) × (c.kind ≡ d.kind) × (c.screen ≡ d.screen) × (c.gallery ≡ d.gallery)
+SameControl c d = (c.name ≡ d.name) × (c.kind ≡ d.kind) × (c.screen ≡ d.screen)
+    × (c.gallery ≡ d.gallery)
 
 abbrev pub AllSame : {A : Type 0} → (A → A → Type 0) → List A → List A → Type 0
 AllSame R [] [] = Unit {0}
@@ -216,7 +229,8 @@ pub record SameNames (n : Names) (m : Names) : Type 0 where
 -- the names with their types after so many rounds
 abbrev pub AfterRounds : List Cell → Names → ℕ → Names → Type 0
 AfterRounds cs n zero m = SameNames n m × (types_in m ≡ first_types n)
-AfterRounds cs n (suc k) m = SameNames n m × (before : Names) × AfterRounds cs n k before × (types_in m ≡ next_types cs before)
+AfterRounds cs n (suc k) m = SameNames n m × (before : Names) × AfterRounds cs n k before
+    × (types_in m ≡ next_types cs before)
 
 -- the final types: those after fewer than 256 rounds that a further round keeps
 abbrev pub AreFinalTypes : List Cell → Names → Names → Type 0
@@ -224,4 +238,5 @@ AreFinalTypes cs n m = (k : ℕ) × (k < 256) × AfterRounds cs n k m × (next_t
 
 -- each of 256 rounds changes a type
 abbrev pub StillChanges : List Cell → Names → Type 0
-StillChanges cs n = (k : ℕ) → k < 256 → (m : Names) × AfterRounds cs n k m × (next_types cs m ≢ types_in m)
+StillChanges cs n = (k : ℕ) → k < 256 → (m : Names) × AfterRounds cs n k m
+    × (next_types cs m ≢ types_in m)

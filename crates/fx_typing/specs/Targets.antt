@@ -14,10 +14,12 @@ use Rattle.fx_typing.specs.Meaning.{first_match, or_else, is_on, is_global}
 
 -- a global variable, and one of a screen
 abbrev pub global_variable : Names → List ℕ → Option (ℕ × Variable)
-global_variable n x = first_match (λ (v : Variable). is_global v.screen && bytes_eq v.name x) 0 n.variables
+global_variable n x = first_match (λ (v : Variable). is_global v.screen && bytes_eq v.name x) 0
+    n.variables
 
 abbrev pub screen_variable : Names → Option ℕ → List ℕ → Option (ℕ × Variable)
-screen_variable n s x = first_match (λ (v : Variable). is_on s v.screen && bytes_eq v.name x) 0 n.variables
+screen_variable n s x = first_match (λ (v : Variable). is_on s v.screen && bytes_eq v.name x) 0
+    n.variables
 
 abbrev pub collection_named : Names → List ℕ → Option (ℕ × Collection)
 collection_named n x = first_match (λ (c : Collection). bytes_eq c.name x) 0 n.collections
@@ -34,7 +36,8 @@ control_named n x = first_match (λ (c : ControlName). bytes_eq c.name x) 0 n.co
 -- rows that change, with their type: a table's or a collection's
 abbrev pub rows_named : Names → List ℕ → Option (Target × Shape)
 rows_named n x =
-    or_else (option_map (λ (t : ℕ × TableShape). (rows.Table t.0, tables (columns_of t.1))) (table_named n x))
+    or_else (option_map (λ (t : ℕ × TableShape). (rows.Table t.0, tables (columns_of t.1)))
+    (table_named n x))
     (option_map (λ (c : ℕ × Collection). (rows.Gathered c.0, shape c.1.ty)) (collection_named n x))
 
 abbrev pub columns_or_none : Option (Target × Shape) → ColumnList

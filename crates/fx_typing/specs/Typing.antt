@@ -1,5 +1,7 @@
 -- Which formulas are admitted, as which typed tree, and where others are broken.
-use Rattle.std.specs.Prelude.{ℕ, List, [], ◌∷◌, ◌++◌, Bool, true, false, ◌&&◌, not, nat_lt, length, map, option_map, slice_get, Option, Some, None, Result, Ok, Err, if◌then◌else◌}
+use Rattle.std.specs.Prelude.{ℕ, List, [], ◌∷◌, ◌++◌, Bool, true, false, ◌&&◌, not, nat_lt, length}
+use Rattle.std.specs.Prelude.{map, option_map, slice_get, Option, Some, None, Result, Ok, Err}
+use Rattle.std.specs.Prelude.{if◌then◌else◌}
 use Rattle.fx_types.specs.Types.{Shape, numbers, texts, booleans, tables, no_columns}
 use Rattle.fx_types.specs.Values.{Data, number, text, boolean}
 use Rattle.fx_core.specs.declared.functions.Form.TheVariants as form
@@ -13,13 +15,17 @@ use Rattle.fx_core.specs.Term.{Term, of, nil, all, const, chain}
 use Rattle.fx_core.specs.Rules as rules
 use Rattle.fx_core.specs.ColumnLists.{and_then}
 use Rattle.fx_typing.specs.Local.{Piece, value, label, by_way, firsts, node_made, formed}
-use Rattle.fx_typing.specs.Meaning.{Place, Scope, NameMeaning, valued, in_globals, meaning_of, named, dotted}
+use Rattle.fx_typing.specs.Meaning.{Place, Scope, NameMeaning, valued, in_globals, meaning_of}
+use Rattle.fx_typing.specs.Meaning.{named, dotted}
 use Rattle.fx_typing.specs.Operators.{function_of}
 use Rattle.fx_typing.specs.WellTyped.{Context, last_type}
 use Rattle.fx_typing.specs.Ways.{way}
 use Rattle.fx_typing.specs.Builds.{types_of, typed_record, typed_list, are_names_distinct}
 use Rattle.fx_typing.specs.Calls.{called, made_if}
-use Rattle.fx_typing.specs.Parts.{Grant, nothing, acting, an_alias, a_column, a_target, aliased_target, a_meaning, on_screen, JudgedPart, piece, meant, target, assigned, Setting, may_act, plainly, as_part, pieces, values, unless_rule, part_count}
+use Rattle.fx_typing.specs.Parts.{Grant, nothing, acting, an_alias, a_column, a_target}
+use Rattle.fx_typing.specs.Parts.{aliased_target, a_meaning, on_screen, JudgedPart, piece, meant}
+use Rattle.fx_typing.specs.Parts.{target, assigned, Setting, may_act, plainly, as_part, pieces}
+use Rattle.fx_typing.specs.Parts.{values, unless_rule, part_count}
 use Rattle.fx_typing.specs.Plans.{setting_at, opens_rows, depth_of}
 
 -- a constant
@@ -87,7 +93,8 @@ chain_by xs = chain_as xs (last_type (types_of xs))
 
 -- a fourth scope of a table call isn't admitted
 abbrev pub is_too_deep : Place → Setting → Head → List JudgedPart → Bool
-is_too_deep p s h qs = opens_rows p.names s.grant h (length qs) [] qs && nat_lt 2 (depth_of s.scopes)
+is_too_deep p s h qs = opens_rows p.names s.grant h (length qs) [] qs
+    && nat_lt 2 (depth_of s.scopes)
 
 -- THE local rule: a head of these parts, where it stands, or a rule that it breaks
 abbrev pub admit : Place → Setting → Head → List JudgedPart → Result JudgedPart ℕ
@@ -97,7 +104,8 @@ admit p s (tree.truth b) [] = constant (boolean b) booleans
 admit p s (tree.name x) [] = name_by s.grant x (meaning_of p s.scopes s.catches x)
 admit p s (tree.global x) [] = global_by s.grant x (in_globals p.names x)
 admit p s (tree.dot x) qs = as_part (dot_by p x qs)
-admit p s (tree.call x) qs = as_part (unless_rule (is_too_deep p s (tree.call x) qs) rules.limit_passed (called p s x qs))
+admit p s (tree.call x) qs = as_part (unless_rule (is_too_deep p s (tree.call x) qs)
+    rules.limit_passed (called p s x qs))
 admit p s tree.neg qs = as_part (node_made fun.Negate (pieces qs))
 admit p s tree.opposite qs = as_part (node_made fun.Not (pieces qs))
 admit p s tree.percent qs = as_part (node_made fun.Percent (pieces qs))
@@ -105,7 +113,8 @@ admit p s (tree.pair o) qs = as_part (and_then (values qs) (λ xs. paired_by o x
 admit p s tree.joined qs = as_part (node_made fun.Concatenation (pieces qs))
 admit p s tree.all qs = as_part (formed form.All (pieces qs))
 admit p s tree.any qs = as_part (formed form.Any (pieces qs))
-admit p s tree.chain qs = as_part (unless_rule (not (may_act s.grant)) rules.behaviour_in_pure (and_then (values qs) chain_by))
+admit p s tree.chain qs = as_part (unless_rule (not (may_act s.grant)) rules.behaviour_in_pure
+    (and_then (values qs) chain_by))
 admit p s (tree.alias x) qs = alias_by s.grant x qs
 admit p s (tree.rec ns ps) qs = and_then (values qs) (record_as s.grant ns)
 admit p s tree.list qs = as_part (and_then (values qs) typed_list)
@@ -122,15 +131,19 @@ at_node at (Ok a) = Ok a
 at_node at (Err e) = Err (at, e)
 
 abbrev mutual
-  -- a node: its parts from the left, each where the ones before put it, and then the rule of its head
+  -- a node: its parts from the left, each where the ones before put it, and then the rule of its
+  -- head
   pub judge : Place → Setting → Tree → Result JudgedPart (ℕ × ℕ)
-  judge p s (node at h ts) = onward (judge_parts p s h (part_count ts) [] ts) (λ qs. at_node at (admit p s h qs))
+  judge p s (node at h ts) = onward (judge_parts p s h (part_count ts) [] ts)
+      (λ qs. at_node at (admit p s h qs))
 
   -- the parts behind the done ones, of which there are so many in all
-  pub judge_parts : Place → Setting → Head → ℕ → List JudgedPart → Forest → Result (List JudgedPart) (ℕ × ℕ)
+  pub judge_parts : Place → Setting → Head → ℕ → List JudgedPart → Forest
+      → Result (List JudgedPart) (ℕ × ℕ)
   judge_parts p s h n done none = Ok done
   judge_parts p s h n done (more k ks) =
-      onward (judge p (setting_at p.names s h n done) k) (λ q. judge_parts p s h n (done ++ q ∷ []) ks)
+      onward (judge p (setting_at p.names s h n done) k)
+      (λ q. judge_parts p s h n (done ++ q ∷ []) ks)
 
 -- a whole formula stands in no scope
 abbrev pub outermost_setting : Bool → Setting
@@ -166,4 +179,5 @@ position (node at h ts) = at
 
 -- a formula as its typed tree and type, coerced to what is wanted of it
 abbrev pub judge_whole : Place → Bool → Option Shape → Tree → Result (Term × Shape) (ℕ × ℕ)
-judge_whole p acts w e = onward (judge p (outermost_setting acts) e) (λ q. at_node (position e) (whole_argument w q))
+judge_whole p acts w e = onward (judge p (outermost_setting acts) e)
+    (λ q. at_node (position e) (whole_argument w q))

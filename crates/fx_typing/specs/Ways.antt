@@ -1,6 +1,7 @@
 -- How a type comes to another.
 use Rattle.std.specs.Prelude.{Bool, true, false, ◌&&◌, Option, Some, None, bytes_eq, if◌then◌else◌}
-use Rattle.fx_types.specs.Types.{Shape, blanks, numbers, texts, booleans, dates, records, tables, ColumnList, no_columns, column}
+use Rattle.fx_types.specs.Types.{Shape, blanks, numbers, texts, booleans, dates, records, tables}
+use Rattle.fx_types.specs.Types.{ColumnList, no_columns, column}
 use Rattle.fx_value.specs.Join.{join_of}
 
 -- whether two types are one
@@ -17,7 +18,8 @@ abbrev mutual
 
   pub same_columns : ColumnList → ColumnList → Bool
   same_columns no_columns no_columns = true
-  same_columns (column n t cs) (column m u ds) = bytes_eq n m && (same_shape t u && same_columns cs ds)
+  same_columns (column n t cs) (column m u ds)
+      = bytes_eq n m && (same_shape t u && same_columns cs ds)
   same_columns _ _ = false
 
 -- a value stands as it is, it is coerced, or there is no way

@@ -1,7 +1,9 @@
 -- Which typed trees are well typed: one rule for each head, over the types of its parts.
-use Rattle.std.specs.Prelude.{◌≡◌, ℕ, zero, suc, ◌<◌, ◌++◌, List, [], ◌∷◌, ◌⊎◌, Bool, true, map, length, Option, Some, None, Result, Ok, Err, slice_get, codes, IsSome}
+use Rattle.std.specs.Prelude.{◌≡◌, ℕ, zero, suc, ◌<◌, ◌++◌, List, [], ◌∷◌, ◌⊎◌, Bool, true, map}
+use Rattle.std.specs.Prelude.{length, Option, Some, None, Result, Ok, Err, slice_get, codes, IsSome}
 use Rattle.fx_types.specs.Rising.{IsBelow}
-use Rattle.fx_types.specs.Types.{Shape, blanks, numbers, texts, booleans, records, tables, ColumnList, no_columns, column}
+use Rattle.fx_types.specs.Types.{Shape, blanks, numbers, texts, booleans, records, tables}
+use Rattle.fx_types.specs.Types.{ColumnList, no_columns, column}
 use Rattle.fx_value.specs.Fits.{fits_in}
 use Rattle.fx_value.specs.Join.{join_of}
 use Rattle.fx_core.specs.declared.deeds.Deed.{Deed}
@@ -18,15 +20,18 @@ use Rattle.fx_core.specs.declared.rows.Takes.TheVariants as takes
 use Rattle.fx_core.specs.declared.sources.Source.{Source}
 use Rattle.fx_core.specs.declared.sources.Source.TheVariants as source
 use Rattle.fx_core.specs.Rows.{shape_of, row_of, form_row, takes_at, takes_count}
-use Rattle.fx_core.specs.Term.{Term, Terms, of, nil, cons, Top, const, read, row, item, caught, dot, call, over, form, within, rec, list, coerce, chain, act}
+use Rattle.fx_core.specs.Term.{Term, Terms, of, nil, cons, Top, const, read, row, item, caught, dot}
+use Rattle.fx_core.specs.Term.{call, over, form, within, rec, list, coerce, chain, act}
 use Rattle.fx_core.specs.Rules as rules
 use Rattle.fx_typing.specs.Ways.{way, changed, is_scalar, is_comparable}
 use Rattle.fx_typing.specs.LawfulTypes.{IsLawfulType}
-use Rattle.fx_typing.specs.Columns.{field_shape, added, dropped, columns_shown, columns_renamed, fault_type, tells_error}
+use Rattle.fx_typing.specs.Columns.{field_shape, added, dropped, columns_shown, columns_renamed}
+use Rattle.fx_typing.specs.Columns.{fault_type, tells_error}
 use Rattle.fx_core.specs.ColumnLists.{field_in, value_column, row_columns}
 
--- what a tree stands in: the types of the sources, how many screens there are, the types of the scopes
--- from the outside, that of the gallery's item if there is one, and whether an error is caught around
+-- what a tree stands in: the types of the sources, how many screens there are, the types of the
+-- scopes from the outside, that of the gallery's item if there is one, and whether an error is
+-- caught around
 pub record Context : Type 0 where
   pub sources : Source → Option Shape
   pub screens : ℕ
@@ -94,7 +99,8 @@ Stands (takes.Exact s) first common t = t ≡ shape_of s
 Stands (takes.Formula s) first common t = t ≡ shape_of s
 Stands takes.Any first common t = Unit {0}
 Stands takes.AnyFormula first common t = Unit {0}
-Stands takes.ErrorRecord first common t = (cs : ColumnList) × (t ≡ records cs) × (tells_error cs ≡ true)
+Stands takes.ErrorRecord first common t = (cs : ColumnList) × (t ≡ records cs)
+    × (tells_error cs ≡ true)
 Stands takes.Table first common t = (cs : ColumnList) × (t ≡ tables cs)
 Stands takes.ScalarFormula first common t = is_scalar t ≡ true
 Stands takes.RowFormula first common (tables cs) = ⊥
@@ -110,7 +116,8 @@ Stands takes.NewColumn first common t = t ≡ texts
 -- the types from a place on stand there
 abbrev pub AllStand : Row → ℕ → ℕ → Shape → Shape → List Shape → Type 0
 AllStand r n i first common [] = Unit {0}
-AllStand r n i first common (t ∷ ts) = Stands (takes_at r n i) first common t × AllStand r n (suc i) first common ts
+AllStand r n i first common (t ∷ ts) = Stands (takes_at r n i) first common t
+    × AllStand r n (suc i) first common ts
 
 -- trees with their types
 abbrev pub typed_pairs : Terms → List Shape → List (Term × Shape)
@@ -138,11 +145,13 @@ answered_type answer.Values common (x ∷ y ∷ xs) = Ok (tables (value_column y
 answered_type answer.Each common (x ∷ y ∷ xs) = Ok (tables (row_columns y.1))
 answered_type a common xs = Err rules.wrong_type
 
--- a call with this row, of parts of these types, has the type, whatever common type its branches have
+-- a call with this row, of parts of these types, has the type, whatever common type its branches
+-- have
 abbrev pub IsByRow : Row → Terms → List Shape → Shape → Type 0
 IsByRow r cs us t =
     (takes_count r (length us) ≡ true)
-    × (common : Shape) × AllStand r (length us) 0 (first_type us) common us × (answered_type r.answer common (typed_pairs cs us) ≡ Ok t)
+    × (common : Shape) × AllStand r (length us) 0 (first_type us) common us
+    × (answered_type r.answer common (typed_pairs cs us) ≡ Ok t)
 
 -- names that rise, so each stands once
 abbrev pub IsBelowNames : List ℕ → List (List ℕ) → Type 0
@@ -189,7 +198,8 @@ abbrev pub AreNamedRows : Target → ColumnList → List Shape → Type 0
 AreNamedRows t cs [] = Unit {0}
 AreNamedRows t cs (u ∷ us) = IsNamedRow t cs u × AreNamedRows t cs us
 
--- a change stands as a table of one row, whose columns are some of the target's, ID aside on a table
+-- a change stands as a table of one row, whose columns are some of the target's, ID aside on a
+-- table
 abbrev pub LeavesId : Target → ColumnList → Type 0
 LeavesId (target.Table k) ds = field_in (codes "ID") ds ≡ None
 LeavesId (target.Gathered k) ds = Unit {0}
@@ -204,7 +214,8 @@ AreChanges t cs (u ∷ us) = IsChange t cs u × AreChanges t cs us
 
 -- the rows that are filtered for a change are the target's
 abbrev pub IsFilterOf : Target → Term → Type 0
-IsFilterOf t (of (over f) (cons (of (read s) nil) conditions)) = (f ≡ fun.Filter) × (s ≡ target_source t)
+IsFilterOf t (of (over f) (cons (of (read s) nil) conditions))
+    = (f ≡ fun.Filter) × (s ≡ target_source t)
 IsFilterOf t c = ⊥
 
 abbrev pub HasColumns : Context → Target → ColumnList → Type 0
@@ -214,12 +225,17 @@ HasColumns c t cs = c.sources (target_source t) ≡ Some (tables cs)
 abbrev pub DeedHasType : Context → Deed → Terms → List Shape → Shape → Type 0
 DeedHasType c (deed.Set k) cs (u ∷ []) t = (c.sources (source.Global k) ≡ Some u) × (t ≡ booleans)
 DeedHasType c (deed.UpdateContext ss) cs us t = (map c.sources ss ≡ map Some us) × (t ≡ booleans)
-DeedHasType c (deed.Collect k) cs us t = (ds : ColumnList) × HasColumns c (target.Gathered k) ds × AreAllOfShape (tables ds) us × (t ≡ booleans)
-DeedHasType c (deed.Clear k) cs [] t = (ds : ColumnList) × HasColumns c (target.Gathered k) ds × (t ≡ booleans)
-DeedHasType c (deed.ClearCollect k) cs us t = (ds : ColumnList) × HasColumns c (target.Gathered k) ds × AreAllOfShape (tables ds) us × (t ≡ booleans)
+DeedHasType c (deed.Collect k) cs us t = (ds : ColumnList) × HasColumns c (target.Gathered k) ds
+    × AreAllOfShape (tables ds) us × (t ≡ booleans)
+DeedHasType c (deed.Clear k) cs [] t = (ds : ColumnList) × HasColumns c (target.Gathered k) ds
+    × (t ≡ booleans)
+DeedHasType c (deed.ClearCollect k) cs us t = (ds : ColumnList)
+    × HasColumns c (target.Gathered k) ds × AreAllOfShape (tables ds) us × (t ≡ booleans)
 DeedHasType c (deed.Patch p) cs (base ∷ us) t =
-    (ds : ColumnList) × HasColumns c p ds × IsNamedRow p ds base × AreChanges p ds us × (t ≡ records ds)
-DeedHasType c (deed.Remove p) cs us t = (ds : ColumnList) × HasColumns c p ds × AreNamedRows p ds us × (t ≡ booleans)
+    (ds : ColumnList) × HasColumns c p ds × IsNamedRow p ds base × AreChanges p ds us
+    × (t ≡ records ds)
+DeedHasType c (deed.Remove p) cs us t = (ds : ColumnList) × HasColumns c p ds × AreNamedRows p ds us
+    × (t ≡ booleans)
 DeedHasType c (deed.RemoveIf p) (cons f nil) us t = IsFilterOf p f × (t ≡ booleans)
 DeedHasType c (deed.UpdateIf p) (cons f (cons change nil)) (w ∷ u ∷ []) t =
     (ds : ColumnList) × IsFilterOf p f × HasColumns c p ds × IsChange p ds u × (t ≡ booleans)
@@ -230,7 +246,8 @@ DeedHasType c d cs us t = ⊥
 
 -- a type of constants: a lawful one, or that of a row of a table or a collection
 abbrev pub IsConstantType : Context → Shape → Type 0
-IsConstantType c t = IsLawfulType t ⊎ ((k : Target) × (cs : ColumnList) × HasColumns c k cs × (t ≡ records cs))
+IsConstantType c t = IsLawfulType t ⊎ ((k : Target) × (cs : ColumnList) × HasColumns c k cs
+    × (t ≡ records cs))
 
 -- the rule of a head, over its parts and their types
 abbrev pub IsRuled : Context → Top → Terms → List Shape → Shape → Type 0
@@ -244,7 +261,8 @@ IsRuled c (call f) cs us t = (head_of f ≡ call f) × IsByRow (row_of f) cs us 
 IsRuled c (over f) cs us t = (head_of f ≡ over f) × IsByRow (row_of f) cs us t
 IsRuled c (form f) cs us t = IsByRow (form_row f) cs us t
 IsRuled c within cs (records ds ∷ u ∷ []) t = t ≡ u
-IsRuled c (rec ns) cs us t = (length ns ≡ length us) × NamesRise ns × (t ≡ records (columns_by ns us))
+IsRuled c (rec ns) cs us t = (length ns ≡ length us) × NamesRise ns
+    × (t ≡ records (columns_by ns us))
 IsRuled c (list (tables ds)) cs us t = ⊥
 IsRuled c (list r) cs us t = AreAllOfShape r us × (t ≡ tables (row_columns r))
 IsRuled c (coerce blanks) cs (u ∷ []) t = t ≡ blanks
@@ -261,9 +279,11 @@ parts_count (cons c cs) = suc (parts_count cs)
 abbrev mutual
   -- the tree has the type where it stands
   pub IsTyped : Context → Term → Shape → Type 0
-  IsTyped c (of h ts) t = (us : List Shape) × AreTyped c h (parts_count ts) [] ts us × IsRuled c h ts us t
+  IsTyped c (of h ts) t = (us : List Shape) × AreTyped c h (parts_count ts) [] ts us
+      × IsRuled c h ts us t
 
-  -- the parts of a head, of which there are so many, have these types behind those of the parts before
+  -- the parts of a head, of which there are so many, have these types behind those of the parts
+  -- before
   pub AreTyped : Context → Top → ℕ → List Shape → Terms → List Shape → Type 0
   AreTyped c h n done nil us = us ≡ []
   AreTyped c h n done (cons k ks) us =

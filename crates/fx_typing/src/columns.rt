@@ -1,5 +1,6 @@
 //! Columns, and what functions of tables make of them.
-ghost use Rattle.std.specs.Prelude.{◌≡◌, Ok, IfOk, map, filter, not, bytes_eq, option_map, unwrap_or};
+ghost use Rattle.std.specs.Prelude.{◌≡◌, Ok, IfOk, map, filter, not, bytes_eq, option_map};
+ghost use Rattle.std.specs.Prelude.{unwrap_or};
 ghost use Rattle.fx_types.specs.TypeView.{shape, columns_view};
 ghost use Rattle.fx_types.specs.Types.{column_list, texts};
 ghost use Rattle.fx_types.specs.Words.{scalars_of};
@@ -24,7 +25,8 @@ use std::cmp::Ordering;
 
 /// The type of the column of this name.
 pub fn field_in<'a>(name: &Words, columns: &'a Columns) -> Option<&'a Ty>
-    ensures { option_map (λ t. shape t.now) result ≡ lists.field_in name.now (column_list columns.now) }
+    ensures { option_map (λ t. shape t.now) result
+        ≡ lists.field_in name.now (column_list columns.now) }
 {
     columns.ty(name)
 }
@@ -60,7 +62,8 @@ fn others(name: &Words, columns: Vec<(Words, Ty)>) -> Vec<(Words, Ty)>
 
 /// The columns with one more at its place, in place of one of that name.
 pub fn put_column(name: Words, ty: Ty, columns: Columns) -> Result<Columns, Memory>
-    ensures { IfOk result (λ cs. column_list cs ≡ sources.put_column name (shape ty) (column_list columns)) }
+    ensures { IfOk result (λ cs. column_list cs
+        ≡ sources.put_column name (shape ty) (column_list columns)) }
 {
     let mut items = others(&name, columns.into_items());
     let place = place_of(&name, items.as_slice());
@@ -119,7 +122,8 @@ fn name_of(alloc: Global, core: &Core) -> Result<Words, Wrong>
 
 /// New columns in turn, each of the name that stands before its formula.
 pub fn add_columns(alloc: Global, parts: &[Typed], columns: Columns) -> Result<Columns, Wrong>
-    ensures { IsAnswerOf column_list (typing.added (map typed parts.now) (column_list columns)) result }
+    ensures { IsAnswerOf column_list (typing.added (map typed parts.now) (column_list columns))
+        result }
 {
     let mut columns = columns;
     let mut more = parts;
@@ -133,7 +137,8 @@ pub fn add_columns(alloc: Global, parts: &[Typed], columns: Columns) -> Result<C
 
 /// Columns under new names in turn, each of which stands behind the old one.
 pub fn rename_columns(alloc: Global, parts: &[Typed], columns: Columns) -> Result<Columns, Wrong>
-    ensures { IsAnswerOf column_list (typing.columns_renamed (map typed parts.now) (column_list columns)) result }
+    ensures { IsAnswerOf column_list (typing.columns_renamed (map typed parts.now)
+        (column_list columns)) result }
 {
     let mut columns = columns;
     let mut more = parts;
@@ -155,7 +160,8 @@ pub fn is_one_of(name: &Words, names: &[Words]) -> bool
 
 // The names of columns that are all there.
 fn names_there(alloc: Global, parts: &[Typed], columns: &Columns) -> Result<Vec<Words>, Wrong>
-    ensures { IsAnswerOf (λ ns. ns.items) (typing.names_there (map typed parts.now) (column_list columns.now)) result }
+    ensures { IsAnswerOf (λ ns. ns.items) (typing.names_there (map typed parts.now)
+        (column_list columns.now)) result }
 {
     let mut names = Vec::new(alloc);
     for part in parts {
@@ -179,9 +185,11 @@ fn without_all(names: &[Words], columns: Columns) -> Columns
     left
 }
 
-/// The columns without those of these names, which are all there. A name that stands twice counts once.
+/// The columns without those of these names, which are all there. A name that stands twice counts
+/// once.
 pub fn drop_columns(alloc: Global, parts: &[Typed], columns: Columns) -> Result<Columns, Wrong>
-    ensures { IsAnswerOf column_list (typing.dropped (map typed parts.now) (column_list columns)) result }
+    ensures { IsAnswerOf column_list (typing.dropped (map typed parts.now) (column_list columns))
+        result }
 {
     let names = names_there(alloc, parts, &columns)?;
     Ok(without_all(names.as_slice(), columns))
@@ -205,7 +213,8 @@ fn select_columns(names: &[Words], columns: Vec<(Words, Ty)>) -> Vec<(Words, Ty)
 
 /// The columns of these names alone, which are all there.
 pub fn show_columns(alloc: Global, parts: &[Typed], columns: Columns) -> Result<Columns, Wrong>
-    ensures { IsAnswerOf column_list (typing.columns_shown (map typed parts.now) (column_list columns)) result }
+    ensures { IsAnswerOf column_list (typing.columns_shown (map typed parts.now)
+        (column_list columns)) result }
 {
     let names = names_there(alloc, parts, &columns)?;
     Ok(only(names.as_slice(), columns))
@@ -243,7 +252,8 @@ pub fn fault_type(alloc: Global) -> Result<Ty, Memory>
 // Whether a field has a coercion to Text, or what is said where it is missing.
 fn is_told(alloc: Global, name: &str, if_missing: bool, columns: &Columns) -> Result<bool, Memory>
     ensures { IfOk result (λ b. b ≡ unwrap_or
-        (option_map (λ t. is_open (way t texts)) (lists.field_in (scalars_of name.now) (column_list columns.now)))
+        (option_map (λ t. is_open (way t texts))
+        (lists.field_in (scalars_of name.now) (column_list columns.now)))
         if_missing) }
 {
     let name = Words::of(alloc, name)?;
@@ -263,7 +273,8 @@ fn is_text_like(alloc: Global, ty: &Ty) -> Result<bool, Memory>
     }
 }
 
-/// Whether a record tells an error: by its fields `Kind` and `Message`, of which `Message` may be missing.
+/// Whether a record tells an error: by its fields `Kind` and `Message`, of which `Message` may be
+/// missing.
 pub fn tells_error(alloc: Global, columns: &Columns) -> Result<bool, Memory>
     ensures { IfOk result (λ b. b ≡ typing.tells_error (column_list columns.now)) }
 {

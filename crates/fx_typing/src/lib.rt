@@ -1,5 +1,6 @@
-//! Which formulas are admitted, as which typed trees, and where others are broken: the definition twice, as a judgement
-//! and as a relation, with the laws of both, and the types that its rules speak of.
+//! Which formulas are admitted, as which typed trees, and where others are broken: the definition
+//! twice, as a judgement and as a relation, with the laws of both, and the types that its rules
+//! speak of.
 #![tactic(auto)]
 
 pub mod columns;

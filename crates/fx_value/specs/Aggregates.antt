@@ -1,5 +1,6 @@
 -- What is summed up of many numbers.
-use Rattle.std.specs.Prelude.{◌≡◌, ◌⊎◌, ℕ, ◌*◌, ℤ, pos, neg_ℤ, ◌+ℤ◌, ◌≤ℤ◌, List, [], fold, length, MatchOption, Option, Some, None}
+use Rattle.std.specs.Prelude.{◌≡◌, ◌⊎◌, ℕ, ◌*◌, ℤ, pos, neg_ℤ, ◌+ℤ◌, ◌≤ℤ◌, List, [], fold, length}
+use Rattle.std.specs.Prelude.{MatchOption, Option, Some, None}
 use Rattle.std.specs.List.{All, Contains, filter_map}
 use Rattle.fx_number.specs.Decimal.{greatest as limit}
 use Rattle.fx_types.specs.Values.{Data, number}
@@ -40,8 +41,10 @@ pub record IsBoundedSum (count : ℕ) (sum : ℤ) : Type 0 where
 
 -- one of two numbers that is above neither, and of one number that one
 abbrev pub IsLesser : Option ℤ → ℤ → ℤ → Type 0
-IsLesser first second r = MatchOption first (r ≡ second) (λ m. ((r ≡ m) ⊎ (r ≡ second)) × (r ≤ℤ m) × (r ≤ℤ second))
+IsLesser first second r = MatchOption first (r ≡ second)
+    (λ m. ((r ≡ m) ⊎ (r ≡ second)) × (r ≤ℤ m) × (r ≤ℤ second))
 
 -- one of two numbers that is below neither, and of one number that one
 abbrev pub IsGreater : Option ℤ → ℤ → ℤ → Type 0
-IsGreater first second r = MatchOption first (r ≡ second) (λ m. ((r ≡ m) ⊎ (r ≡ second)) × (m ≤ℤ r) × (second ≤ℤ r))
+IsGreater first second r = MatchOption first (r ≡ second)
+    (λ m. ((r ≡ m) ⊎ (r ≡ second)) × (m ≤ℤ r) × (second ≤ℤ r))

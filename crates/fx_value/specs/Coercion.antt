@@ -1,5 +1,6 @@
 -- Coercions.
-use Rattle.std.specs.Prelude.{◌≡◌, not, true, false, ℕ, ℤ, pos, Bool, List, [], Some, codes, bytes_eq, encode_utf8_all, if◌then◌else◌, ◌==◌}
+use Rattle.std.specs.Prelude.{◌≡◌, not, true, false, ℕ, ℤ, pos, Bool, List, [], Some, codes}
+use Rattle.std.specs.Prelude.{bytes_eq, encode_utf8_all, if◌then◌else◌, ◌==◌}
 use Rattle.std.specs.List.{list_all}
 use Rattle.std.specs.Ordering.{int_eq}
 use Rattle.fx_number.specs.Decimal.{IsInRange}
@@ -7,8 +8,10 @@ use Rattle.fx_number.specs.Spelling.{Spells, text_of}
 use Rattle.fx_types.specs.DateText.{date_text}
 use Rattle.fx_types.specs.Words.{scalars_of}
 use Rattle.fx_types.specs.declared.faults.Kind.TheVariants.{InvalidArgument}
-use Rattle.fx_types.specs.Types.{Shape, blanks, numbers, texts, booleans, dates, records, tables, ColumnList, no_columns, column}
-use Rattle.fx_types.specs.Values.{Data, blank, number, text, boolean, date, rec, tab, fault, FieldList, no_fields, field, RowList, no_rows, row}
+use Rattle.fx_types.specs.Types.{Shape, blanks, numbers, texts, booleans, dates, records, tables}
+use Rattle.fx_types.specs.Types.{ColumnList, no_columns, column}
+use Rattle.fx_types.specs.Values.{Data, blank, number, text, boolean, date, rec, tab, fault}
+use Rattle.fx_types.specs.Values.{FieldList, no_fields, field, RowList, no_rows, row}
 use Rattle.fx_value.specs.Fits.{fits_in}
 use Rattle.fx_value.specs.Join.{join_of}
 
@@ -22,8 +25,8 @@ abbrev pub rows_mapped : (FieldList → FieldList) → RowList → RowList
 rows_mapped f no_rows = no_rows
 rows_mapped f (row fs rs) = row (f fs) (rows_mapped f rs)
 
--- a value as one of a wider type: a record has a field for each column, blank where it is missing, and
--- so has each row of a table, and each record and table in them
+-- a value as one of a wider type: a record has a field for each column, blank where it is missing,
+-- and so has each row of a table, and each record and table in them
 abbrev mutual
   pub widened : Data → Shape → Data
   widened (rec fs) (records cs) = rec (widened_fields fs cs)
@@ -32,7 +35,8 @@ abbrev mutual
 
   pub widened_fields : FieldList → ColumnList → FieldList
   widened_fields fs no_columns = no_fields
-  widened_fields fs (column n t cs) = field n (widened (field_or_blank n fs) t) (widened_fields fs cs)
+  widened_fields fs (column n t cs) = field n (widened (field_or_blank n fs) t)
+      (widened_fields fs cs)
 
 -- the second type is the first one as it is joined with one type after another
 pub data Widens (s : Shape) : Shape → Type 0 where
@@ -67,16 +71,18 @@ pub record CanCoerce (d : Data) (t : Shape) : Type 0 where
 abbrev pub are_spaces : List ℕ → Bool
 are_spaces = list_all (λ b. b == 32)
 
--- what the bytes of a text are read as: blank where there are spaces alone, the number that they spell,
--- and else InvalidArgument without a message
+-- what the bytes of a text are read as: blank where there are spaces alone, the number that they
+-- spell, and else InvalidArgument without a message
 abbrev pub IsReadAs : List ℕ → Data → Type 0
 IsReadAs bs blank = are_spaces bs ≡ true
 IsReadAs bs (number z) = Spells bs z × IsInRange z
 IsReadAs bs (fault k cs) =
-    (k ≡ InvalidArgument) × (cs ≡ []) × (are_spaces bs ≡ false) × ((z : ℤ) → IsInRange z → ¬ Spells bs z)
+    (k ≡ InvalidArgument) × (cs ≡ []) × (are_spaces bs ≡ false)
+    × ((z : ℤ) → IsInRange z → ¬ Spells bs z)
 IsReadAs bs _ = ⊥
 
--- what a value is coerced to. Blank and errors stay, and all else is blank as a value of type Blank.
+-- what a value is coerced to. Blank and errors stay, and all else is blank as a value of type
+-- Blank.
 abbrev pub IsCoerced : Data → Shape → Data → Type 0
 IsCoerced blank t w = w ≡ blank
 IsCoerced (fault k cs) t w = w ≡ fault k cs
@@ -91,4 +97,5 @@ IsCoerced d t w = w ≡ widened d t
 
 -- a value that fits either of two types can be coerced to their join
 abbrev pub JoinTakesBoth : Type 0
-JoinTakesBoth = (s u t : Shape) → join_of s u ≡ Some t → (d : Data) → fits_in d s ≡ true → CanCoerce d t
+JoinTakesBoth = (s u t : Shape) → join_of s u ≡ Some t → (d : Data) → fits_in d s ≡ true
+    → CanCoerce d t

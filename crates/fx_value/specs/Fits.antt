@@ -1,8 +1,10 @@
 -- Which values fit which types.
 use Rattle.std.specs.Prelude.{Bool, true, false, ◌&&◌}
 use Rattle.std.specs.Str.{bytes_eq}
-use Rattle.fx_types.specs.Values.{Data, blank, number, text, boolean, date, rec, tab, fault, FieldList, no_fields, field, RowList, no_rows, row}
-use Rattle.fx_types.specs.Types.{Shape, numbers, texts, booleans, dates, records, tables, ColumnList, no_columns, column}
+use Rattle.fx_types.specs.Values.{Data, blank, number, text, boolean, date, rec, tab, fault}
+use Rattle.fx_types.specs.Values.{FieldList, no_fields, field, RowList, no_rows, row}
+use Rattle.fx_types.specs.Types.{Shape, numbers, texts, booleans, dates, records, tables}
+use Rattle.fx_types.specs.Types.{ColumnList, no_columns, column}
 
 -- Blank and errors fit every type, and nothing else fits the type of blank. A record fits where its
 -- names are exactly the columns' and each field fits, and a table where each row does.

@@ -15,8 +15,8 @@ AreKeys keys = All (λ a. All (AreOfOneType a) keys) keys
 abbrev pub directed : Bool → Data → Data → Ordering
 directed down a b = if down then order b a else order a b
 
--- The rows in another order, in which their keys don't fall (descending: don't rise), and rows of equal
--- keys keep their order. `pairs` are the rows so ordered, each beside its key.
+-- The rows in another order, in which their keys don't fall (descending: don't rise), and rows of
+-- equal keys keep their order. `pairs` are the rows so ordered, each beside its key.
 pub record IsOrderedBy (down : Bool) (keys : List Data) (rows ordered : List Row) : Type 0 where
   pub pairs : List (Data × Row)
   pub rearranged : IsPermutation (zip keys rows) pairs
@@ -26,4 +26,5 @@ pub record IsOrderedBy (down : Bool) (keys : List Data) (rows ordered : List Row
 
 -- rows have one order by their keys
 abbrev pub OrderedOnce : Type 0
-OrderedOnce = (down : Bool) (keys : List Data) (rows a b : List Row) → IsOrderedBy down keys rows a → IsOrderedBy down keys rows b → a ≡ b
+OrderedOnce = (down : Bool) (keys : List Data) (rows a b : List Row) → IsOrderedBy down keys rows a
+    → IsOrderedBy down keys rows b → a ≡ b

@@ -1,6 +1,7 @@
 -- What a value weighs.
 use Rattle.std.specs.Prelude.{ℕ, ◌+◌, List, length, encode_utf8_all}
-use Rattle.fx_types.specs.Values.{Data, blank, number, text, boolean, date, rec, tab, fault, FieldList, no_fields, field, RowList, no_rows, row}
+use Rattle.fx_types.specs.Values.{Data, blank, number, text, boolean, date, rec, tab, fault}
+use Rattle.fx_types.specs.Values.{FieldList, no_fields, field, RowList, no_rows, row}
 
 -- how many bytes a text has
 abbrev pub bytes_in : List ℕ → ℕ

@@ -1,5 +1,6 @@
 // Coercions.
-ghost use Rattle.std.specs.Prelude.{◌≡◌, IfOk, true, not, ℤ, List, ℕ, pos, codes, encode_utf8_all, if◌then◌else◌};
+ghost use Rattle.std.specs.Prelude.{◌≡◌, IfOk, true, not, ℤ, List, ℕ, pos, codes, encode_utf8_all};
+ghost use Rattle.std.specs.Prelude.{if◌then◌else◌};
 ghost use Rattle.std.specs.Ordering.{int_eq};
 ghost use Rattle.fx_types.specs.DateText.{date_text as date_text_of};
 ghost use Rattle.fx_types.specs.TypeView.{shape};
@@ -7,7 +8,8 @@ ghost use Rattle.fx_types.specs.Types.{blanks, numbers, texts, booleans};
 ghost use Rattle.fx_types.specs.ValueView.{view};
 ghost use Rattle.fx_types.specs.Words.{scalars_of};
 ghost use Rattle.fx_number.specs.Spelling.{text_of};
-ghost use Rattle.fx_value.specs.Coercion.{CanCoerce, IsCoerced, IsReadAs, JoinTakesBoth, are_spaces};
+ghost use Rattle.fx_value.specs.Coercion.{CanCoerce, IsCoerced, IsReadAs, JoinTakesBoth};
+ghost use Rattle.fx_value.specs.Coercion.{are_spaces};
 ghost use Rattle.fx_value.specs.Fits.{fits_in};
 
 use crate::widening::widen;
@@ -22,8 +24,8 @@ use std::alloc::Global;
 
 /// The value as one of another type, for a pair of types that has a coercion. Blank and errors stay
 /// as they are, and other values become blank as ones of type Blank. Numbers and dates become texts
-/// and are 0 or not as Booleans, Booleans are `true` and `false` or 1 and 0, and a text is read as a
-/// number, where one that spells none is an InvalidArgument. Records and tables are widened.
+/// and are 0 or not as Booleans, Booleans are `true` and `false` or 1 and 0, and a text is read as
+/// a number, where one that spells none is an InvalidArgument. Records and tables are widened.
 pub fn coerce(alloc: Global, v: Value, to: &Ty) -> Result<Value, Memory>
     requires { CanCoerce (view v) (shape to.now) }
     ensures value { IfOk result (λ w. IsCoerced (view v) (shape to.now) (view w)) }

@@ -10,9 +10,9 @@ use fx_types::words::Words;
 use std::alloc::Global;
 use std::cmp::Ordering;
 
-/// The type of the values of both types, if there is one: Blank joins with every type, a scalar type
-/// with itself, and records, and tables, by the union of their columns, with common columns joined.
-/// Either order of the two gives the same.
+/// The type of the values of both types, if there is one: Blank joins with every type, a scalar
+/// type with itself, and records, and tables, by the union of their columns, with common columns
+/// joined. Either order of the two gives the same.
 #[cycle(join)]
 pub fn join(alloc: Global, a: &Ty, b: &Ty) -> Result<Option<Ty>, Memory>
     ensures value { IfOk result (λ t. option_map shape t ≡ join_of (shape a.now) (shape b.now)) }
@@ -43,7 +43,8 @@ fn join_columns(alloc: Global, a: &Columns, b: &Columns) -> Result<Option<Column
     let mut joined = Vec::new(alloc);
     let mut i = 0;
     let mut j = 0;
-    // Places in whole slices, so that an invariant can name what is left of each; the label names the loop there.
+    // Places in whole slices, so that an invariant can name what is left of each; the label names
+    // the loop there.
     'merge: while i < xs.len() && j < ys.len() {
         let x = &xs[i];
         let y = &ys[j];

@@ -40,8 +40,8 @@ fn key(alloc: Global, head: u8, bytes: &[u8]) -> Result<Vec<u8>, Memory>
     Ok(key)
 }
 
-/// A fact about every value, for the law of keys: a number and a day are in their ranges, and a text
-/// is of scalar values.
+/// A fact about every value, for the law of keys: a number and a day are in their ranges, and a
+/// text is of scalar values.
 // Each read is for its clause alone, by which what it gives is in range.
 pub fn value_is_proper(v: &Value)
     ensures { IsProper (view v.now) }
@@ -60,7 +60,8 @@ pub fn value_is_proper(v: &Value)
     }
 }
 
-/// A law, and no work: keys order as `compare` does, and are equal exactly where it answers `Equal`.
+/// A law, and no work: keys order as `compare` does, and are equal exactly where it answers
+/// `Equal`.
 pub fn keys_order()
     ensures order { KeysOrder }
     ensures tell { KeysTell }

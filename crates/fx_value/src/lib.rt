@@ -1,5 +1,5 @@
-//! What is decided on values: which types they fit, how types join, what values weigh, how they compare and are
-//! coerced, and their keys in an index.
+//! What is decided on values: which types they fit, how types join, what values weigh, how they
+//! compare and are coerced, and their keys in an index.
 #![tactic(auto)]
 
 pub mod coercion;

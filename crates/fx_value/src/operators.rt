@@ -1,7 +1,8 @@
 // The operators that compare.
 ghost use Rattle.std.specs.Prelude.{◌≡◌};
 ghost use Rattle.fx_types.specs.ValueView.{view};
-ghost use Rattle.fx_value.specs.Operators.{holds_of, compared_by, takes as takes_of, sides as sides_of, CanCompare};
+ghost use Rattle.fx_value.specs.Operators.{holds_of, compared_by, takes as takes_of};
+ghost use Rattle.fx_value.specs.Operators.{sides as sides_of, CanCompare};
 
 use crate::ordering::compare;
 use fx_types::comparisons::Cmp;

@@ -8,8 +8,8 @@ use fx_types::values::Value;
 use std::cmp::Ordering;
 
 /// The order of sorting: blank first, and scalars of one type by their values. So that it is an
-/// order of all values, scalars of different types go by their types, and records, tables and errors
-/// come last as if they were one.
+/// order of all values, scalars of different types go by their types, and records, tables and
+/// errors come last as if they were one.
 pub fn compare(a: &Value, b: &Value) -> Ordering
     ensures { result ≡ order (view a.now) (view b.now) }
 {

@@ -4,7 +4,8 @@ ghost use Rattle.fx_types.specs.TypeView.{shape};
 ghost use Rattle.fx_types.specs.Types.{records, tables, column_list};
 ghost use Rattle.fx_types.specs.ValueView.{view, fields_view};
 ghost use Rattle.fx_types.specs.Values.{rec, tab, field_list, row_list};
-ghost use Rattle.fx_value.specs.Coercion.{CanWiden, field_or_blank, widened, widened_fields, rows_mapped};
+ghost use Rattle.fx_value.specs.Coercion.{CanWiden, field_or_blank, widened, widened_fields};
+ghost use Rattle.fx_value.specs.Coercion.{rows_mapped};
 ghost use Rattle.fx_value.specs.Fits.{fits_in, fields_fit, rows_fit};
 
 use fx_base::Memory;
@@ -68,8 +69,8 @@ fn widen_table(alloc: Global, rows: Rows, columns: &Columns) -> Result<Rows, Mem
     Ok(Rows::from_items(wide))
 }
 
-// The value under a name, which is taken out, or blank where it is missing. A blank stays in its place, so that nothing
-// is copied and no other field moves.
+// The value under a name, which is taken out, or blank where it is missing. A blank stays in its
+// place, so that nothing is copied and no other field moves.
 fn take_value(items: &mut Vec<(Words, Value)>, name: &Words) -> Value
     ensures value { view result ≡ field_or_blank name.now (field_list (fields_view items.old.items)) }
     ensures others { (m : List ℕ) → m ≢ name.now

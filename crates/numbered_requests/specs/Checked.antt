@@ -24,4 +24,5 @@ KeepsReply k = 1 ≤ k.last → IsAcceptedReply k.reply
 
 -- so it is with each session
 abbrev pub SessionsKeepReplies : List (Named SessionState) → Type 0
-SessionsKeepReplies sessions = AllByRecursion (λ (n : Named SessionState). KeepsReply n.it.kept) sessions
+SessionsKeepReplies sessions = AllByRecursion (λ (n : Named SessionState). KeepsReply n.it.kept)
+    sessions

@@ -1,5 +1,7 @@
--- The checks that a numbered request passes before it acts, in their order. The first that breaks is the reply.
-use Rattle.std.specs.Prelude.{◌≡◌, ℕ, Bool, false, nat_le, if◌then◌else◌, List, length, Option, Some, None, unwrap_or, Result, Ok, Err}
+-- The checks that a numbered request passes before it acts, in their order. The first that breaks
+-- is the reply.
+use Rattle.std.specs.Prelude.{◌≡◌, ℕ, Bool, false, nat_le, if◌then◌else◌, List, length, Option}
+use Rattle.std.specs.Prelude.{Some, None, unwrap_or, Result, Ok, Err}
 use Rattle.serde_json.specs.Data as json
 use Rattle.session_state.specs.Once.{LastRequest, nobody, turn_of}
 use Rattle.session_state.specs.Sessions.{SessionState}
@@ -16,7 +18,8 @@ use Rattle.numbered_requests.specs.declared.directory.Named.{Named}
 abbrev pub out_of_step : ℕ → Refusal
 out_of_step last = record { code = 13; detail = detail.Number last }
 
--- what a number calls for: a new one nothing, the last one with its body the kept reply (14 with another body)
+-- what a number calls for: a new one nothing, the last one with its body the kept reply (14 with
+-- another body)
 abbrev pub turn_reply : Turn → List ℕ → Option (List ℕ)
 turn_reply New kept = None
 turn_reply Again kept = Some kept
@@ -32,7 +35,8 @@ unless_said None it = Ok it
 unless_said (Some said) it = Err said
 
 -- the caller, which may be none (11) or one too many (12), and the number
-abbrev pub number_checked : {T : Type 0} → (T → ℕ) → Result LastRequest ℕ → List ℕ → T → Result T (List ℕ)
+abbrev pub number_checked : {T : Type 0} → (T → ℕ) → Result LastRequest ℕ → List ℕ → T
+    → Result T (List ℕ)
 number_checked number (Err code) body it = Err (refusal_reply (plain code))
 number_checked number (Ok k) body it = unless_said (number_reply k (number it) body) it
 
@@ -47,12 +51,15 @@ worded asked None = Err (refusal_reply (plain 9))
 worded asked (Some d) = shaped (asked d)
 
 -- and then the caller and its number
-abbrev pub then_numbered : {T : Type 0} → (T → ℕ) → Result LastRequest ℕ → List ℕ → Result T (List ℕ) → Result T (List ℕ)
+abbrev pub then_numbered : {T : Type 0} → (T → ℕ) → Result LastRequest ℕ → List ℕ
+    → Result T (List ℕ) → Result T (List ℕ)
 then_numbered number caller body (Ok it) = number_checked number caller body it
 then_numbered number caller body (Err said) = Err said
 
--- THE checks: JSON (9), its shape (10), the caller (11 or 12), and its number (13, 14, or the kept reply)
-abbrev pub checks : {T : Type 0} → (json.Data → Option T) → (T → ℕ) → Result LastRequest ℕ → List ℕ → Result T (List ℕ)
+-- THE checks: JSON (9), its shape (10), the caller (11 or 12), and its number (13, 14, or the kept
+-- reply)
+abbrev pub checks : {T : Type 0} → (json.Data → Option T) → (T → ℕ) → Result LastRequest ℕ → List ℕ
+    → Result T (List ℕ)
 checks asked number caller body = then_numbered number caller body (worded asked (json_of body))
 
 -- ---- callers
@@ -63,7 +70,8 @@ most_desks = 64
 
 -- a new desk has no room
 abbrev pub is_directory_full : List ℕ → List (Named LastRequest) → Bool
-is_directory_full name desks = if is_in_directory name desks then false else nat_le most_desks (length desks)
+is_directory_full name desks = if is_in_directory name desks then false else nat_le most_desks
+    (length desks)
 
 -- what is kept of a desk; of a new one nothing
 abbrev pub kept_of : List ℕ → List (Named LastRequest) → LastRequest
@@ -84,7 +92,8 @@ session_of name sessions = if_live (find name sessions)
 -- ---- the last request once more
 
 -- what is kept is the body of such a request, under the last number
-pub record IsLastAsked (T : Type 0) (asked : json.Data → Option T) (number : T → ℕ) (k : LastRequest) : Type 0 where
+pub record IsLastAsked (T : Type 0) (asked : json.Data → Option T) (number : T → ℕ)
+    (k : LastRequest) : Type 0 where
   pub value : json.Data
   pub is_json : json_of k.body ≡ Some value
   pub it : T

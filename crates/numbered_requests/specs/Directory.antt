@@ -1,5 +1,6 @@
 -- Things by their names.
-use Rattle.std.specs.Prelude.{ℕ, Bool, bytes_eq, is_some, List, [], ◌∷◌, ◌++◌, Option, Some, None, option_map, slice_get, slice_set}
+use Rattle.std.specs.Prelude.{ℕ, Bool, bytes_eq, is_some, List, [], ◌∷◌, ◌++◌, Option, Some, None}
+use Rattle.std.specs.Prelude.{option_map, slice_get, slice_set}
 use Rattle.std.specs.List.{position}
 use Rattle.numbered_requests.specs.declared.directory.Named.{Named}
 
@@ -25,4 +26,5 @@ put_at None x list = list ++ x ∷ []
 
 -- with this thing under its name
 abbrev pub put_named : {T : Type 0} → List ℕ → T → List (Named T) → List (Named T)
-put_named name it list = put_at (position (is_named name) list) (record { name = name; it = it }) list
+put_named name it list = put_at (position (is_named name) list) (record { name = name; it = it })
+    list

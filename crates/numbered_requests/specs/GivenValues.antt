@@ -1,5 +1,7 @@
 -- Values as they come in, and the members of objects.
-use Rattle.std.specs.Prelude.{ℕ, ◌+◌, ◌-◌, ◌*◌, ◌&&◌, nat_le, ℤ, pos, neg_ℤ, ◌*ℤ◌, int_le, List, [], ◌∷◌, take, drop, codes, bytes_eq, Option, Some, None, option_and_then, option_map, if◌then◌else◌}
+use Rattle.std.specs.Prelude.{ℕ, ◌+◌, ◌-◌, ◌*◌, ◌&&◌, nat_le, ℤ, pos, neg_ℤ, ◌*ℤ◌, int_le, List, []}
+use Rattle.std.specs.Prelude.{◌∷◌, take, drop, codes, bytes_eq, Option, Some, None, option_and_then}
+use Rattle.std.specs.Prelude.{option_map, if◌then◌else◌}
 use Rattle.std.specs.List.{fold}
 use Rattle.serde_json.specs.Data as json
 use Rattle.serde_json.specs.Data.{Members, no_members, member}
@@ -16,7 +18,8 @@ use Rattle.fx_types.specs.DateText.{date_text}
 
 -- a count of ten-thousandths, where it is one of a number
 abbrev pub units_in_range : ℤ → Option ℤ
-units_in_range z = if int_le (neg_ℤ (pos greatest)) z && int_le z (pos greatest) then Some z else None
+units_in_range z = if int_le (neg_ℤ (pos greatest)) z
+    && int_le z (pos greatest) then Some z else None
 
 -- the number that a JSON number is: a whole one in range
 abbrev pub whole_number : json.Num → Option ℤ
@@ -32,11 +35,13 @@ digits_of ds = fold (λ n d. n * 10 + (d - 48)) 0 ds
 
 -- the day that a text would name as `yyyy-mm-dd`
 abbrev pub day_at : List ℕ → ℤ
-day_at s = days_from_civil (pos (digits_of (take 4 s))) (digits_of (take 2 (drop 5 s))) (digits_of (take 2 (drop 8 s)))
+day_at s = days_from_civil (pos (digits_of (take 4 s))) (digits_of (take 2 (drop 5 s)))
+    (digits_of (take 2 (drop 8 s)))
 
 -- the day, where it is one and this is its text
 abbrev pub day_if : ℤ → List ℕ → Option ℤ
-day_if z s = if int_le (neg_ℤ (pos 25567)) z && int_le z (pos 2932896) && bytes_eq s (date_text z) then Some z else None
+day_if z s = if int_le (neg_ℤ (pos 25567)) z && int_le z (pos 2932896)
+    && bytes_eq s (date_text z) then Some z else None
 
 abbrev pub spelled_day : List ℕ → Option ℤ
 spelled_day s = day_if (day_at s) s
@@ -68,7 +73,8 @@ abbrev pub member_count : json.Data → ℕ
 member_count (json.object ms) = members_len ms
 member_count d = 0
 
--- a member that is a text, in bytes and in scalar values, one that is a whole number from 1 to 4,294,967,295, and one that is a list or an object
+-- a member that is a text, in bytes and in scalar values, one that is a whole number from 1 to
+-- 4,294,967,295, and one that is a list or an object
 abbrev pub bytes_at : List ℕ → json.Data → Option (List ℕ)
 bytes_at key d = option_and_then as_str (get key d)
 
@@ -79,7 +85,8 @@ abbrev pub if_counted : ℕ → Option ℕ
 if_counted n = if nat_le 1 n && nat_le n 4294967295 then Some n else None
 
 abbrev pub member_number : List ℕ → json.Data → Option ℕ
-member_number key d = option_and_then if_counted (option_and_then as_u64 (option_and_then as_number (get key d)))
+member_number key d = option_and_then if_counted
+    (option_and_then as_u64 (option_and_then as_number (get key d)))
 
 abbrev pub items_at : List ℕ → json.Data → Option json.Items
 items_at key d = option_and_then as_array (get key d)

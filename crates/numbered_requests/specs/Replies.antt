@@ -35,7 +35,8 @@ refusal_reply r = reply (refusal_status r.code) (refusal_text r)
 -- the refusals that have no detail and whose replies take memory
 abbrev pub is_plain_refusal : ℕ → Bool
 is_plain_refusal code =
-    (code == 9) || (code == 10) || (code == 11) || (code == 12) || (code == 14) || (code == 15) || (code == 16) || (code == 17)
+    (code == 9) || (code == 10) || (code == 11) || (code == 12) || (code == 14) || (code == 15)
+    || (code == 16) || (code == 17)
     || (code == 18) || (code == 20) || (code == 21) || (code == 22)
 
 -- the whole reply of an accepted request

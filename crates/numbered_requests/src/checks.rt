@@ -2,10 +2,16 @@
 ghost use Rattle.std.specs.Prelude.{◌≡◌, ◌≤◌, Err, IfOk, IfSome, IsTrue, Some, option_map};
 ghost use Rattle.serde_json.specs.View.{view as json_view};
 ghost use Rattle.view_text.specs.RefusalText.{Fits};
-ghost use Rattle.numbered_requests.specs.Checked.{IsChecked, IsSoundCheck, KeepsReply, SessionsKeepReplies};
+ghost use Rattle.numbered_requests.specs.Checked.{IsChecked, IsSoundCheck, KeepsReply};
+ghost use Rattle.numbered_requests.specs.Checked.{SessionsKeepReplies};
 ghost use Rattle.numbered_requests.specs.Bodies.{json_of as json_in_body};
-ghost use Rattle.numbered_requests.specs.Checks.{checks, desk_of, is_directory_full as is_full_of, kept_of, number_reply as number_reply_of, number_checked, session_of, shaped, turn_reply as turn_reply_of, unless_said as unless_said_of, worded};
-ghost use Rattle.numbered_requests.specs.Replies.{IsAcceptedReply, IsReply, KeepReplies, is_plain_refusal, plain, refusal_reply, said};
+ghost use Rattle.numbered_requests.specs.Checks.{checks, desk_of, is_directory_full as is_full_of};
+ghost use Rattle.numbered_requests.specs.Checks.{kept_of, number_reply as number_reply_of};
+ghost use Rattle.numbered_requests.specs.Checks.{number_checked, session_of, shaped};
+ghost use Rattle.numbered_requests.specs.Checks.{turn_reply as turn_reply_of};
+ghost use Rattle.numbered_requests.specs.Checks.{unless_said as unless_said_of, worded};
+ghost use Rattle.numbered_requests.specs.Replies.{IsAcceptedReply, IsReply, KeepReplies};
+ghost use Rattle.numbered_requests.specs.Replies.{is_plain_refusal, plain, refusal_reply, said};
 
 use crate::body::{Body, json_of};
 use crate::directory::{Named, is_among, place_of};
@@ -32,7 +38,8 @@ pub enum Checked<B> {
 /// The reply of a refusal with the detail of its code.
 fn refusal(alloc: Global, code: u8, detail: Detail) -> Result<Reply, Memory>
     requires { Fits code detail }
-    ensures said { IfOk result (λ r. said r ≡ refusal_reply (record { code = code; detail = detail })) }
+    ensures said { IfOk result (λ r. said r ≡ refusal_reply
+        (record { code = code; detail = detail })) }
     ensures whole { IfOk result IsReply }
 {
     Reply::refuse(alloc, &Refusal { code, detail })
@@ -82,7 +89,8 @@ fn desk_reply(
 ) -> Result<Option<Reply>, Memory>
     requires number { 1 ≤ seq }
     requires kept { KeepReplies desks.now }
-    ensures said { IfOk result (λ r. option_map said r ≡ number_reply_of (kept_of name.now desks.now) seq body.now) }
+    ensures said { IfOk result (λ r. option_map said r
+        ≡ number_reply_of (kept_of name.now desks.now) seq body.now) }
     ensures whole { IfOk result (λ r. IfSome r IsReply) }
 {
     match place_of(desks, name) {
@@ -106,7 +114,8 @@ fn session_reply(
 ) -> Result<Option<Reply>, Memory>
     requires number { 1 ≤ seq }
     requires kept { KeepsReply session.now.kept }
-    ensures said { IfOk result (λ r. option_map said r ≡ number_reply_of session.now.kept seq body.now) }
+    ensures said { IfOk result (λ r. option_map said r
+        ≡ number_reply_of session.now.kept seq body.now) }
     ensures whole { IfOk result (λ r. IfSome r IsReply) }
 {
     turn_reply(alloc, session.turn(seq, body), session.kept())
@@ -135,7 +144,8 @@ fn check_desk_number<B: Body>(
 ) -> Result<Checked<B>, Memory>
     requires sound { B.sound asked }
     requires kept { KeepReplies desks.now }
-    ensures is { IfOk result (IsChecked (number_checked B.number (desk_of name.now desks.now) body.now asked)) }
+    ensures is { IfOk result (IsChecked (number_checked B.number (desk_of name.now desks.now)
+        body.now asked)) }
     ensures sound { IfOk result (IsSoundCheck B.sound) }
 {
     if is_full(desks, name) {
@@ -155,7 +165,8 @@ fn check_session_number<B: Body>(
 ) -> Result<Checked<B>, Memory>
     requires sound { B.sound asked }
     requires kept { SessionsKeepReplies sessions.now }
-    ensures is { IfOk result (IsChecked (number_checked B.number (session_of name.now sessions.now) body.now asked)) }
+    ensures is { IfOk result (IsChecked (number_checked B.number (session_of name.now sessions.now)
+        body.now asked)) }
     ensures sound { IfOk result (IsSoundCheck B.sound) }
 {
     match place_of(sessions, name) {
@@ -189,8 +200,8 @@ fn check_body<B: Body>(alloc: Global, body: &[u8]) -> Result<Checked<B>, Memory>
     }
 }
 
-/// Checks a desk's request: its body is JSON (9) and has the shape (10), the desk isn't one too many (12), and the number is
-/// new (13, 14, or the kept reply).
+/// Checks a desk's request: its body is JSON (9) and has the shape (10), the desk isn't one too
+/// many (12), and the number is new (13, 14, or the kept reply).
 pub fn check_desk<B: Body>(
     alloc: Global,
     desks: &[Named<Desk>],
@@ -198,7 +209,8 @@ pub fn check_desk<B: Body>(
     body: &[u8],
 ) -> Result<Checked<B>, Memory>
     requires { KeepReplies desks.now }
-    ensures is { IfOk result (IsChecked (checks B.asked B.number (desk_of name.now desks.now) body.now)) }
+    ensures is { IfOk result (IsChecked (checks B.asked B.number (desk_of name.now desks.now)
+        body.now)) }
     ensures sound { IfOk result (IsSoundCheck B.sound) }
 {
     match check_body(alloc, body)? {
@@ -207,8 +219,8 @@ pub fn check_desk<B: Body>(
     }
 }
 
-/// Checks a session's request: its body is JSON (9) and has the shape (10), the session is live (11), and the number is new
-/// (13, 14, or the kept reply).
+/// Checks a session's request: its body is JSON (9) and has the shape (10), the session is live
+/// (11), and the number is new (13, 14, or the kept reply).
 pub fn check_session<B: Body>(
     alloc: Global,
     sessions: &[Named<Session>],
@@ -216,7 +228,8 @@ pub fn check_session<B: Body>(
     body: &[u8],
 ) -> Result<Checked<B>, Memory>
     requires { SessionsKeepReplies sessions.now }
-    ensures is { IfOk result (IsChecked (checks B.asked B.number (session_of name.now sessions.now) body.now)) }
+    ensures is { IfOk result (IsChecked (checks B.asked B.number (session_of name.now sessions.now)
+        body.now)) }
     ensures sound { IfOk result (IsSoundCheck B.sound) }
 {
     match check_body(alloc, body)? {

@@ -1,7 +1,8 @@
 //! Things by their names.
 ghost use Rattle.std.specs.Prelude.{◌≡◌, ◌<◌, IfSome, length, vec_capacity, vec_len};
 ghost use Rattle.std.specs.List.{position};
-ghost use Rattle.numbered_requests.specs.Directory.{is_in_directory as is_among_of, is_named, put_named as put_into};
+ghost use Rattle.numbered_requests.specs.Directory.{is_in_directory as is_among_of, is_named};
+ghost use Rattle.numbered_requests.specs.Directory.{put_named as put_into};
 
 use fx_types::Words;
 
@@ -27,7 +28,8 @@ pub fn is_among<T>(list: &[Named<T>], name: &Words) -> bool
     place_of(list, name).is_some()
 }
 
-/// Puts a thing under its name, in the place of the one of that name if there is one. It takes no memory.
+/// Puts a thing under its name, in the place of the one of that name if there is one. It takes no
+/// memory.
 pub fn put<T: Drop>(list: &mut Vec<Named<T>>, name: Words, it: T)
     requires room { vec_len list.old < vec_capacity list.old }
     ensures { list.new.items ≡ put_into name it list.old.items }

@@ -1,5 +1,5 @@
-//! What every numbered request goes through before it acts: its JSON, its shape, its caller and its number. Beside it stand
-//! what such requests share: things by their names, and replies.
+//! What every numbered request goes through before it acts: its JSON, its shape, its caller and its
+//! number. Beside it stand what such requests share: things by their names, and replies.
 #![tactic(auto)]
 
 pub mod body;

@@ -2,7 +2,8 @@
 ghost use Rattle.std.specs.Prelude.{◌≡◌, IfOk, IsTrue};
 ghost use Rattle.view_text.specs.Refusals.{refusal_status};
 ghost use Rattle.app_wire.specs.ReplyBytes.{is_fixed, refusal, reply};
-ghost use Rattle.numbered_requests.specs.Replies.{IsAcceptedReply, IsReply, is_plain_refusal, refusal_reply, said};
+ghost use Rattle.numbered_requests.specs.Replies.{IsAcceptedReply, IsReply, is_plain_refusal};
+ghost use Rattle.numbered_requests.specs.Replies.{refusal_reply, said};
 ghost use Rattle.view_text.specs.RefusalText.{Fits};
 
 use app_wire::reply::{fixed_reply, reply_bytes};
@@ -10,15 +11,16 @@ use fx_base::Memory;
 use std::alloc::Global;
 use view_text::{Cause, Detail, Refusal, refusal_json};
 
-/// A whole HTTP reply: that of the refusal `fixed`, which takes no memory, where it is Some, else `bytes`. `status` is the
-/// status in its first line.
+/// A whole HTTP reply: that of the refusal `fixed`, which takes no memory, where it is Some, else
+/// `bytes`. `status` is the status in its first line.
 pub struct Reply {
     pub status: u16,
     pub bytes: Vec<u8>,
     pub fixed: Option<u8>,
 }
 
-// By hand, so that it is called: what is derived is opened wherever a value may end, which costs proofs seconds each time.
+// By hand, so that it is called: what is derived is opened wherever a value may end, which costs
+// proofs seconds each time.
 impl Drop for Reply {
     fn drop(self) {
         let Reply {

@@ -6,7 +6,16 @@ ghost use Rattle.serde_json.specs.View.{items_view, members_view, view as json_v
 ghost use Rattle.serde_json.specs.declared.number.Number.{Number as JsonNumber};
 ghost use Rattle.serde_json.specs.View.{number_view};
 ghost use Rattle.fx_types.specs.ValueView.{view};
-ghost use Rattle.numbered_requests.specs.GivenValues.{items_at as items_at_key, member_count as member_count_of, member_value as member_value_of, members_at as members_at_key, member_number as number_at_key, spelled_day, spelled_number as spelled_number_of, tagged_value as tagged_value_of, member_text as text_at_key, value_in as value_in_json, whole_number as whole_number_of};
+ghost use Rattle.numbered_requests.specs.GivenValues.{items_at as items_at_key};
+ghost use Rattle.numbered_requests.specs.GivenValues.{member_count as member_count_of};
+ghost use Rattle.numbered_requests.specs.GivenValues.{member_value as member_value_of};
+ghost use Rattle.numbered_requests.specs.GivenValues.{members_at as members_at_key};
+ghost use Rattle.numbered_requests.specs.GivenValues.{member_number as number_at_key, spelled_day};
+ghost use Rattle.numbered_requests.specs.GivenValues.{spelled_number as spelled_number_of};
+ghost use Rattle.numbered_requests.specs.GivenValues.{tagged_value as tagged_value_of};
+ghost use Rattle.numbered_requests.specs.GivenValues.{member_text as text_at_key};
+ghost use Rattle.numbered_requests.specs.GivenValues.{value_in as value_in_json};
+ghost use Rattle.numbered_requests.specs.GivenValues.{whole_number as whole_number_of};
 
 use fx_base::Memory;
 use fx_number::{Num, spelling_laws};
@@ -53,7 +62,8 @@ fn member_value(members: &Map<String, Json>) -> Option<Value>
 
 /// What a member is that is alone in its object, where its value is a text.
 fn text_value(key: &str, json: &Json) -> Option<Value>
-    ensures { option_map view result ≡ member_value_of (member key.now (json_view json.now) no_members) }
+    ensures { option_map view result ≡ member_value_of
+        (member key.now (json_view json.now) no_members) }
 {
     match json.as_str() {
         Some(text) => tagged_value(key, text),
@@ -122,7 +132,8 @@ pub fn number_at(json: &Json, key: &str) -> Option<u32>
 
 /// A member that is a list.
 pub fn items_at<'a>(json: &'a Json, key: &str) -> Option<&'a [Json]>
-    ensures { option_map (λ items. items_view items.now) result ≡ items_at_key key.now (json_view json.now) }
+    ensures { option_map (λ items. items_view items.now) result
+        ≡ items_at_key key.now (json_view json.now) }
 {
     match json.get(key) {
         Some(member) => elements_of(member),
@@ -141,7 +152,8 @@ fn elements_of(json: &Json) -> Option<&[Json]>
 
 /// A member that is an object.
 pub fn members_at<'a>(json: &'a Json, key: &str) -> Option<&'a Map<String, Json>>
-    ensures { option_map (λ ms. members_view ms.now.entries) result ≡ members_at_key key.now (json_view json.now) }
+    ensures { option_map (λ ms. members_view ms.now.entries) result
+        ≡ members_at_key key.now (json_view json.now) }
 {
     json.get(key).and_then(Json::as_object)
 }

@@ -1,5 +1,6 @@
 -- The caches of sessions.
-use Rattle.std.specs.Prelude.{◌≡◌, ◌⊎◌, ◌+◌, ℕ, Bool, true, false, List, [], ◌∷◌, length, Option, Some, None, nat_eq, not, slice_get}
+use Rattle.std.specs.Prelude.{◌≡◌, ◌⊎◌, ◌+◌, ℕ, Bool, true, false, List, [], ◌∷◌, length, Option}
+use Rattle.std.specs.Prelude.{Some, None, nat_eq, not, slice_get}
 use Rattle.std.specs.List.{filter}
 use Rattle.app_cells.specs.declared.app.App.{App}
 use Rattle.fx_types.specs.Values.{Data}
@@ -20,13 +21,16 @@ use Rattle.session_requests.specs.Caching.{IsCached}
 use Rattle.session_state.specs.Sessions.{SessionState}
 
 -- the cache of a session: it has its name, and what is kept in it is right
-pub record IsCacheOf (a : App) (told : Option Tables) (m : ℕ) (s : Named SessionState) (c : Named CacheState) : Type 0 where
+pub record IsCacheOf (a : App) (told : Option Tables) (m : ℕ) (s : Named SessionState)
+    (c : Named CacheState) : Type 0 where
   pub name : c.name ≡ s.name
   pub cached : IsCached a s.it told m c.it
 
--- EACH SESSION HAS ITS CACHE, in the order of sessions: what is kept is right over the app, over what the session holds, over the
--- rows of tables, where they are told, and on the day of this moment.
-abbrev pub AreKept : App → Option Tables → ℕ → List (Named SessionState) → List (Named CacheState) → Type 0
+-- EACH SESSION HAS ITS CACHE, in the order of sessions: what is kept is right over the app, over
+-- what the session holds, over the rows of tables, where they are told, and on the day of this
+-- moment.
+abbrev pub AreKept : App → Option Tables → ℕ → List (Named SessionState) → List (Named CacheState)
+    → Type 0
 AreKept a told m [] [] = Unit {0}
 AreKept a told m [] (c ∷ cs) = ⊥
 AreKept a told m (s ∷ ss) [] = ⊥
@@ -50,17 +54,19 @@ HaveRoomFor a cs = (k : ℕ) (c : Named CacheState) → slice_get cs k ≡ Some 
 abbrev pub AreInOrder : App → List (Named CacheState) → Type 0
 AreInOrder a cs = (k : ℕ) (c : Named CacheState) → slice_get cs k ≡ Some c → IsInOrder a c.it
 
--- BESIDE AN EDIT: the app stays, and so does what is kept; or the cache went over to the edited app, in which what the edit left
--- stays clean
+-- BESIDE AN EDIT: the app stays, and so does what is kept; or the cache went over to the edited
+-- app, in which what the edit left stays clean
 abbrev pub WentOver : App → App → CacheState → CacheState → Type 0
 WentOver old new c d = ((new ≡ old) × IsButRoom c d) ⊎ IsCarried old new c d
 
 -- ---- what caches are told
 
 -- each cache became another one, of its name, so
-pub record EachCacheBecame (R : ℕ → CacheState → CacheState → Type 0) (old new : List (Named CacheState)) : Type 0 where
+pub record EachCacheBecame (R : ℕ → CacheState → CacheState → Type 0)
+    (old new : List (Named CacheState)) : Type 0 where
   pub long : length new ≡ length old
-  pub each : (k : ℕ) (c : Named CacheState) → slice_get old k ≡ Some c → (d : Named CacheState) × (slice_get new k ≡ Some d) × (d.name ≡ c.name) × R k c.it d.it
+  pub each : (k : ℕ) (c : Named CacheState) → slice_get old k ≡ Some c
+      → (d : Named CacheState) × (slice_get new k ≡ Some d) × (d.name ≡ c.name) × R k c.it d.it
 
 -- another day begins, which is that of this moment
 pub record IsTurned (m : ℕ) (old new : CacheState) : Type 0 where
@@ -78,12 +84,14 @@ is_table x = false
 abbrev pub tables_in : List Source → List Source
 tables_in xs = filter is_table xs
 
--- SOURCES, WHICH ARE NO CELLS, WERE TOUCHED: what is kept is right where their changes were still to be told; and the cells that
--- reach none of them stay clean, unless numbers run out.
+-- SOURCES, WHICH ARE NO CELLS, WERE TOUCHED: what is kept is right where their changes were still
+-- to be told; and the cells that reach none of them stay clean, unless numbers run out.
 pub record CacheTouched (a : App) (xs : List Source) (old new : CacheState) : Type 0 where
   pub order : IsInOrder a old → IsInOrder a new
-  pub right : (s : SessionState) (tables : ToldRows) (m : ℕ) → IsRight (present a s tables m) xs old → IsRight (present a s tables m) [] new
-  pub left : HasNumbersLeft (old.last + length xs) → (k : ℕ) → ((x : Source) → IsAmong x xs → Reaches a k x → ⊥) → IsClean a old k → IsClean a new k
+  pub right : (s : SessionState) (tables : ToldRows) (m : ℕ) → IsRight (present a s tables m) xs old
+      → IsRight (present a s tables m) [] new
+  pub left : HasNumbersLeft (old.last + length xs) → (k : ℕ)
+      → ((x : Source) → IsAmong x xs → Reaches a k x → ⊥) → IsClean a old k → IsClean a new k
   pub but : StaysCleanExcept a xs old new
   pub day : new.values.day ≡ old.values.day
 
@@ -93,6 +101,7 @@ is_other_place None at = true
 is_other_place (Some place) at = not (nat_eq place at)
 
 -- all caches are told of sources but the one at a place, which stays as it is
-pub record IsToldAside (a : App) (place : Option ℕ) (xs : List Source) (k : ℕ) (old new : CacheState) : Type 0 where
+pub record IsToldAside (a : App) (place : Option ℕ) (xs : List Source) (k : ℕ)
+    (old new : CacheState) : Type 0 where
   pub same : is_other_place place k ≡ false → new ≡ old
   pub told : is_other_place place k ≡ true → CacheTouched a xs old new

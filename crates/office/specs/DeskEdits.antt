@@ -52,19 +52,27 @@ all_carried old new sessions = map (one_carried old new) sessions
 
 -- an accepted edit leaves its number, its body and its reply
 abbrev pub desk_answered : List ℕ → List ℕ → ℕ → List (Named LastRequest) → List (Named LastRequest)
-desk_answered name body seq desks = put_named name (record { last = seq; body = body; reply = accepted_edit_reply seq }) desks
+desk_answered name body seq desks = put_named name
+    (record { last = seq; body = body; reply = accepted_edit_reply seq }) desks
 
 -- after an accepted edit: this app, the sessions that went over to it, and what is kept of the desk
 abbrev pub edited : List ℕ → List ℕ → ℕ → App → Parts → Parts
-edited name body seq b p = record { app = b; sessions = all_carried p.app.names b.names p.sessions; desks = desk_answered name body seq p.desks }
+edited name body seq b p = record {
+  app = b;
+  sessions = all_carried p.app.names b.names p.sessions;
+  desks = desk_answered name body seq p.desks;
+}
 
 -- what is accepted changes the parts and is answered, and what is refused leaves all
-abbrev pub EditEnds : List ℕ → List ℕ → ℕ → Result App (List Broken) → Parts → List ℕ → Parts → Type 0
-EditEnds name body seq (Ok b) p said p' = (said ≡ accepted_edit_reply seq) × (p' ≡ edited name body seq b p)
+abbrev pub EditEnds : List ℕ → List ℕ → ℕ → Result App (List Broken) → Parts → List ℕ → Parts
+    → Type 0
+EditEnds name body seq (Ok b) p said p' = (said ≡ accepted_edit_reply seq)
+    × (p' ≡ edited name body seq b p)
 EditEnds name body seq (Err bs) p said p' = (said ≡ refusal_reply (refusal_of bs)) × (p' ≡ p)
 
 -- an edit that passed the checks of numbered requests
-pub record MakesEdit (name body : List ℕ) (e : Edit) (p : Parts) (said : List ℕ) (p' : Parts) : Type 0 where
+pub record MakesEdit (name body : List ℕ) (e : Edit) (p : Parts) (said : List ℕ) (p' : Parts) : Type
+    0 where
   pub verdict : Result App (List Broken)
   pub judged : JudgedEdit p.app e.cell e.text verdict
   pub ends : EditEnds name body e.seq verdict p said p'
@@ -74,7 +82,8 @@ abbrev pub EditsChecked : List ℕ → List ℕ → Result Edit (List ℕ) → P
 EditsChecked name body (Err words) p said p' = (said ≡ words) × (p' ≡ p)
 EditsChecked name body (Ok e) p said p' = MakesEdit name body e p said p'
 
--- the checks of edits: JSON (9), its shape (10), a desk too many (12), and the number (13, 14, or the kept reply)
+-- the checks of edits: JSON (9), its shape (10), a desk too many (12), and the number (13, 14, or
+-- the kept reply)
 abbrev pub edit_checks : List (Named LastRequest) → List ℕ → List ℕ → Result Edit (List ℕ)
 edit_checks desks name body = checks edit_in (λ (e : Edit). e.seq) (desk_of name desks) body
 

@@ -12,7 +12,8 @@ use Rattle.fx_core.specs.declared.broken.Broken.{Broken}
 use Rattle.numbered_requests.specs.Replies.{refusal_reply}
 use Rattle.session_state.specs.Changes.{HoldsTables}
 
--- What an edit keeps: the app is sound, an empty table fits each of its collections, and it is the same beside its formulas.
+-- What an edit keeps: the app is sound, an empty table fits each of its collections, and it is the
+-- same beside its formulas.
 pub record KeepsApp (a b : App) : Type 0 where
   pub sound : IsSoundApp b
   pub tables : HoldsTables b.names

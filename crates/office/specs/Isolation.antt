@@ -9,7 +9,8 @@ use Rattle.app_wire.specs.ReplyBytes.{refusal}
 use Rattle.app_wire.specs.Routing.{Routing}
 use Rattle.app_wire.specs.declared.head.Method.TheVariants.{Get, Post, Put}
 use Rattle.app_wire.specs.declared.route.Route.{Route}
-use Rattle.app_wire.specs.declared.route.Route.TheVariants.{Begin, End, View, Named, Items, Event, Input, Rows, Edit}
+use Rattle.app_wire.specs.declared.route.Route.TheVariants.{Begin, End, View, Named, Items, Event}
+use Rattle.app_wire.specs.declared.route.Route.TheVariants.{Input, Rows, Edit}
 use Rattle.numbered_requests.specs.Directory.{find}
 use Rattle.session_state.specs.Carrying.{carried}
 use Rattle.session_state.specs.Once.{LastRequest}
@@ -46,14 +47,17 @@ pub record IsOf (caller : Caller) (request : Asked) : Type 0 where
 
 -- after an edit: a session goes over to the edited app
 abbrev pub SessionIsCarried : OfficeState → OfficeState → List ℕ → Type 0
-SessionIsCarried old new name = find name new.sessions ≡ option_map (carried old.app.names new.app.names) (find name old.sessions)
+SessionIsCarried old new name = find name new.sessions
+    ≡ option_map (carried old.app.names new.app.names) (find name old.sessions)
 
--- Any request but those of a session leaves its record as it was, but that it goes over to an app that a desk edits.
+-- Any request but those of a session leaves its record as it was, but that it goes over to an app
+-- that a desk edits.
 abbrev pub LeavesSession : Type 0
 LeavesSession =
     (old new : OfficeState) (before now : Marks) (moment : ℕ) (request : Asked) (said name : List ℕ)
     → AnswersRequest old before moment request said now new → (IsOf (session name) request → ⊥)
-    → (find name new.sessions ≡ find name old.sessions) ⊎ (IsEdit request × SessionIsCarried old new name)
+    → (find name new.sessions ≡ find name old.sessions)
+    ⊎ (IsEdit request × SessionIsCarried old new name)
 
 -- the same of a desk
 abbrev pub LeavesDesk : Type 0
@@ -62,24 +66,31 @@ LeavesDesk =
     → AnswersRequest old before moment request said now new → (IsOf (desk name) request → ⊥)
     → find name new.desks ≡ find name old.desks
 
--- Offices with the same app, with the same tables and with the same record of a session or with none, whose keepers tell their
--- tables, answer its requests alike at one moment, PUT aside, which counts sessions.
+-- Offices with the same app, with the same tables and with the same record of a session or with
+-- none, whose keepers tell their tables, answer its requests alike at one moment, PUT aside, which
+-- counts sessions.
 abbrev pub IsAlone : Type 0
 IsAlone =
-    (k l m n : Marks) (a b new new' : OfficeState) (moment : ℕ) (request : Asked) (said said' name : List ℕ) (t u u' : Tables)
+    (k l m n : Marks) (a b new new' : OfficeState) (moment : ℕ) (request : Asked)
+    (said said' name : List ℕ) (t u u' : Tables)
     → IsOf (session name) request → request.method ≢ Put
-    → IsSettledOffice a → AreSound (schema_of a.app) a.tables → a.app ≡ b.app → find name a.sessions ≡ find name b.sessions
+    → IsSettledOffice a → AreSound (schema_of a.app) a.tables → a.app ≡ b.app
+    → find name a.sessions ≡ find name b.sessions
     → a.tables ≡ Some t → b.tables ≡ Some t → new.tables ≡ Some u → new'.tables ≡ Some u'
-    → Step (SilenceCause k l) a moment request said new → Step (SilenceCause m n) b moment request said' new' → said ≡ said'
+    → Step (SilenceCause k l) a moment request said new
+    → Step (SilenceCause m n) b moment request said' new' → said ≡ said'
 
--- So do offices of whose rows the same is told, which is all that the app's formulas read, where a session asks to be shown
--- something.
+-- So do offices of whose rows the same is told, which is all that the app's formulas read, where a
+-- session asks to be shown something.
 abbrev pub ReadsAlone : Type 0
 ReadsAlone =
-    (k l m n : Marks) (a b new new' : OfficeState) (moment : ℕ) (request : Asked) (said said' name : List ℕ)
+    (k l m n : Marks) (a b new new' : OfficeState) (moment : ℕ) (request : Asked)
+    (said said' name : List ℕ)
     → IsOf (session name) request → request.method ≡ Get
-    → IsSettledOffice a → a.app ≡ b.app → find name a.sessions ≡ find name b.sessions → AreKnown a.app (rows_told new.tables) → rows_told new.tables ≡ rows_told new'.tables
-    → Step (SilenceCause k l) a moment request said new → Step (SilenceCause m n) b moment request said' new' → said ≡ said'
+    → IsSettledOffice a → a.app ≡ b.app → find name a.sessions ≡ find name b.sessions
+    → AreKnown a.app (rows_told new.tables) → rows_told new.tables ≡ rows_told new'.tables
+    → Step (SilenceCause k l) a moment request said new
+    → Step (SilenceCause m n) b moment request said' new' → said ≡ said'
 
 -- none of these exchanges is one of this caller
 abbrev pub AreOfOthers : Caller → List Exchange → Type 0
@@ -98,13 +109,15 @@ last_request_of (desk name) s = find name s.desks
 abbrev pub IsPosted : Asked → Type 0
 IsPosted request = request.method ≡ Post
 
--- A posted request of a caller that was accepted, so that other things are kept of it, comes again, after any requests of
--- others: it gets the same reply, or want of memory, and acts no more.
+-- A posted request of a caller that was accepted, so that other things are kept of it, comes again,
+-- after any requests of others: it gets the same reply, or want of memory, and acts no more.
 abbrev pub ActsOnce : Type 0
 ActsOnce =
-    (s t u v : OfficeState) (k l m n : Marks) (moment moment' : ℕ) (request : Asked) (said said' : List ℕ) (caller : Caller) (between : List Exchange)
+    (s t u v : OfficeState) (k l m n : Marks) (moment moment' : ℕ) (request : Asked)
+    (said said' : List ℕ) (caller : Caller) (between : List Exchange)
     → IsOf caller request → IsPosted request
-    → AnswersRequest s k moment request said l t → last_request_of caller t ≢ last_request_of caller s
+    → AnswersRequest s k moment request said l t
+    → last_request_of caller t ≢ last_request_of caller s
     → Plays t l between u m → AreOfOthers caller between
     → AnswersRequest u m moment' request said' n v
     → ((said' ≡ said) ⊎ (said' ≡ refusal 26)) × Left (SilenceCause m n) u v

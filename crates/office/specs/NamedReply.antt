@@ -17,7 +17,8 @@ use Rattle.view_text.specs.declared.replies.Named.{Named}
 
 -- `{"name":..,"value":..}`
 abbrev pub pair_data : List ℕ × Data → json.Data
-pair_data p = object (member (codes "name") (string (encode_utf8_all p.0)) (member (codes "value") (value_data p.1) no_members))
+pair_data p = object (member (codes "name") (string (encode_utf8_all p.0))
+    (member (codes "value") (value_data p.1) no_members))
 
 -- `{"named":[..]}`: these names with their values, in order
 unfoldable pub named_body : List (List ℕ × Data) → List ℕ
@@ -36,19 +37,23 @@ named_cells a = map (λ (f : FormulaName). f.cell) a.names.formulas
 
 -- the named formulas have their fresh values
 abbrev pub AreNamedFresh : Present → (ℕ → Data) → Type 0
-AreNamedFresh p values = (i : ℕ) (f : FormulaName) → slice_get p.app.names.formulas i ≡ Some f → IsFreshAt p values f.cell
+AreNamedFresh p values = (i : ℕ) (f : FormulaName) → slice_get p.app.names.formulas i ≡ Some f
+    → IsFreshAt p values f.cell
 
 -- each named formula of the app with its fresh value
 abbrev pub IsNamedList : Present → List (List ℕ × Data) → Type 0
-IsNamedList p shown = (values : ℕ → Data) × AreNamedFresh p values × (shown ≡ named_values p.app values)
+IsNamedList p shown = (values : ℕ → Data) × AreNamedFresh p values
+    × (shown ≡ named_values p.app values)
 
 -- each cell that is needed for a named formula is clean
 abbrev pub AreNamedMade : App → CacheState → Type 0
-AreNamedMade a c = (r k : ℕ) → Contains (named_cells a) r → Needs a r k → is_alone a.cells k ≡ true → IsClean a c k
+AreNamedMade a c = (r k : ℕ) → Contains (named_cells a) r → Needs a r k → is_alone a.cells k ≡ true
+    → IsClean a c k
 
 -- the body
 abbrev pub IsNamedBody : Present → List ℕ → Type 0
-IsNamedBody p body = (shown : List (List ℕ × Data)) × ∥ IsNamedList p shown ∥₁ × (body ≡ named_body shown)
+IsNamedBody p body = (shown : List (List ℕ × Data)) × ∥ IsNamedList p shown ∥₁
+    × (body ≡ named_body shown)
 
 -- a row of the reply, as its name and its value
 abbrev pub reply_row : Named → List ℕ × Data

@@ -17,16 +17,20 @@ use Rattle.numbered_requests.specs.declared.directory.Named.{Named}
 use Rattle.office.specs.Caches.{AreKept}
 use Rattle.office.specs.State.{OfficeState, schema_of}
 
--- an office between two requests serves an accepted app, of which sessions can be opened, and which its sessions fit
+-- an office between two requests serves an accepted app, of which sessions can be opened, and which
+-- its sessions fit
 pub record IsSettledOffice (s : OfficeState) : Type 0 where
   pub app : IsSoundApp s.app
   pub opens : CanOpen s.app.names
   pub fit : LiveSessionsFit s.app.names s.sessions
 
--- No transaction is begun, the keeper is shaped by the app's schema, its tables, where they are told, are those of the schema,
--- what is kept of desks are replies, the app is an accepted one that can be edited, its sessions fit it, and each has its cache,
--- which is right on the day of the last request that had a route.
-pub record OfficeInvariant (app : App) (in_transaction : Bool) (by : Option Schema) (told : Option Tables) (sessions : List (Named SessionState)) (desks : List (Named LastRequest)) (caches : List (Named Values)) (moment : ℕ) : Type 0 where
+-- No transaction is begun, the keeper is shaped by the app's schema, its tables, where they are
+-- told, are those of the schema, what is kept of desks are replies, the app is an accepted one that
+-- can be edited, its sessions fit it, and each has its cache, which is right on the day of the last
+-- request that had a route.
+pub record OfficeInvariant (app : App) (in_transaction : Bool) (by : Option Schema)
+    (told : Option Tables) (sessions : List (Named SessionState)) (desks : List (Named LastRequest))
+    (caches : List (Named Values)) (moment : ℕ) : Type 0 where
   pub idle : in_transaction ≡ false
   pub shaped : by ≡ Some (schema_of app)
   pub sound : AreSound (schema_of app) told

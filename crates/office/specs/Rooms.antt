@@ -19,4 +19,5 @@ HaveNoRoom sessions = map without_room sessions ≡ sessions
 
 -- there is as much beside each as the names want
 abbrev pub HaveRoom : Names → List (Named SessionState) → Type 0
-HaveRoom n sessions = AllByRecursion (λ (s : Named SessionState). HasSessionRoom n s.it.room) sessions
+HaveRoom n sessions = AllByRecursion (λ (s : Named SessionState). HasSessionRoom n s.it.room)
+    sessions

@@ -12,10 +12,12 @@ use Rattle.office.specs.State.{OfficeState, started}
 
 -- an office that begins with an accepted app is settled
 abbrev pub StartsSettled : Type 0
-StartsSettled = (app : App) (tables : Option Tables) → IsSoundApp app → CanOpen app.names → IsSettledOffice (started app tables)
+StartsSettled = (app : App) (tables : Option Tables) → IsSoundApp app → CanOpen app.names
+    → IsSettledOffice (started app tables)
 
 -- any requests leave it so, and its app but for formulas that are edited
 abbrev pub StaysSettled : Type 0
 StaysSettled =
     (old new : OfficeState) (before now : Marks) (xs : List Exchange)
-    → IsSettledOffice old → Plays old before xs new now → IsSettledOffice new × (app_frame new.app ≡ app_frame old.app)
+    → IsSettledOffice old → Plays old before xs new now
+    → IsSettledOffice new × (app_frame new.app ≡ app_frame old.app)

@@ -13,15 +13,17 @@ use Rattle.numbered_requests.specs.declared.directory.Named.{Named}
 abbrev pub schema_of : App → Schema
 schema_of a = a.names.schema
 
--- The app; the tables, where the keeper tells them; the live sessions; and the desks of which a request was accepted.
+-- The app; the tables, where the keeper tells them; the live sessions; and the desks of which a
+-- request was accepted.
 pub record OfficeState : Type 0 where
   pub app : App
   pub tables : Option Tables
   pub sessions : List (Named SessionState)
   pub desks : List (Named LastRequest)
 
--- An office as contracts see it: its state, the marks of its keeper, how many rows that one visited, the loan through which it uses a
--- keeper that is lent, the caches of its sessions, and the moment of the last request that had a route.
+-- An office as contracts see it: its state, the marks of its keeper, how many rows that one
+-- visited, the loan through which it uses a keeper that is lent, the caches of its sessions, and
+-- the moment of the last request that had a route.
 pub record OfficeView : Type 0 where
   pub state : OfficeState
   pub marks : Marks

@@ -72,7 +72,9 @@ pub(crate) fn keep(
 ) -> Reply
     requires room { vec_len desks.old < vec_capacity desks.old }
     ensures reply { result ≡ accepted.reply }
-    ensures kept { desks.new.items ≡ put_into accepted.name (record { last = seq; body = accepted.body.items; reply = accepted.kept.items }) desks.old.items }
+    ensures kept { desks.new.items ≡ put_into accepted.name
+        (record { last = seq; body = accepted.body.items; reply = accepted.kept.items })
+        desks.old.items }
 {
     let Accepted {
         reply,

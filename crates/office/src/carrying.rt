@@ -28,7 +28,8 @@ fn drop_room(sessions: &mut [Named<Session>])
     }
 }
 
-/// Makes room beside each session for what the names want; or there is no memory, and all is as before.
+/// Makes room beside each session for what the names want; or there is no memory, and all is as
+/// before.
 pub(crate) fn make_room(sessions: &mut [Named<Session>], names: &Names) -> Result<(), Memory>
     requires { HaveNoRoom sessions.old }
     ensures made { IfOk result (λ _. sessions.new ≡ map (with_room names.now) sessions.old) }

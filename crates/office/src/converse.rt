@@ -5,7 +5,8 @@ ghost use Rattle.fx_base.specs.Silence.{IsLater};
 ghost use Rattle.fx_base.specs.Telling.{Tells};
 ghost use Rattle.app_wire.specs.Moments.{Ticks};
 ghost use Rattle.app_wire.specs.ReplyBytes.{is_fixed, refusal};
-ghost use Rattle.office.specs.Answers.{Converses, Exchange, IsAnswerCount, Plays, SaysLastWords, moments_of};
+ghost use Rattle.office.specs.Answers.{Converses, Exchange, IsAnswerCount, Plays, SaysLastWords};
+ghost use Rattle.office.specs.Answers.{moments_of};
 
 use crate::machine::Office;
 use app_wire::clock::Clock;
@@ -24,8 +25,8 @@ pub const MOST_REQUESTS: u32 = 1_000_000;
 /// How a conversation ended.
 #[derive(Clone, Copy, Debug, PartialEq, Eq)]
 pub enum ConvEnd {
-    /// At the end of its bytes, at a framing refusal, for want of memory in finding a request, or after the one reply of
-    /// doors that end it there.
+    /// At the end of its bytes, at a framing refusal, for want of memory in finding a request, or
+    /// after the one reply of doors that end it there.
     Ended,
     /// By a counted fault of the doors.
     Faulted,
@@ -34,17 +35,20 @@ pub enum ConvEnd {
 }
 
 impl<K: Keeper + Drop> Office<K> {
-    /// Answers the present conversation of the doors. Each whole request is answered before more is read, at one moment of
-    /// the clock.
+    /// Answers the present conversation of the doors. Each whole request is answered before more is
+    /// read, at one moment of the clock.
     pub fn converse<D: Doors, C: Clock, L: Ledger>(
         &mut self,
         doors: &mut D,
         clock: &mut C,
         steps: &mut Steps<L>,
     ) -> ConvEnd
-        ensures talked { (exchanges : List Exchange) × Ticks (C.told clock.old) (moments_of exchanges) (C.told clock.new)
-            × Plays self.old.state self.old.marks exchanges self.new.state self.new.marks × IsAnswerCount result (D.single doors.old) (length exchanges)
-            × Tells (Converses (D.single doors.old) result exchanges) (D.told doors.old) (D.told doors.new) }
+        ensures talked { (exchanges : List Exchange)
+            × Ticks (C.told clock.old) (moments_of exchanges) (C.told clock.new)
+            × Plays self.old.state self.old.marks exchanges self.new.state self.new.marks
+            × IsAnswerCount result (D.single doors.old) (length exchanges)
+            × Tells (Converses (D.single doors.old) result exchanges) (D.told doors.old)
+            (D.told doors.new) }
         ensures cause { result ≡ ConvEnd.Faulted → Rose (D.faults doors.old) (D.faults doors.new) }
         ensures later { D.faults doors.old ≤ D.faults doors.new }
         ensures marks { IsLater self.old.marks self.new.marks }
@@ -57,7 +61,8 @@ impl<K: Keeper + Drop> Office<K> {
                 Found::Whole(request) => {
                     let moment = clock.now();
                     let reply = self.answer(&request, moment, steps);
-                    // By `match`, in whose arms the proof has what the call promises; a test would hide it.
+                    // By `match`, in whose arms the proof has what the call promises; a test would
+                    // hide it.
                     match write_all(doors, reply.whole()) {
                         Ok(()) => {}
                         Err(Failed) => return ConvEnd::Faulted,

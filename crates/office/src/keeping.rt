@@ -1,5 +1,6 @@
 //! The caches of sessions: each session has one, under its name.
-ghost use Rattle.std.specs.Prelude.{◌≡◌, ◌<◌, ℕ, IfOk, OnErr, length, slice_get, Some, vec_capacity};
+ghost use Rattle.std.specs.Prelude.{◌≡◌, ◌<◌, ℕ, IfOk, OnErr, length, slice_get, Some};
+ghost use Rattle.std.specs.Prelude.{vec_capacity};
 ghost use Rattle.std.specs.List.{AllByRecursion};
 ghost use Rattle.app_loader.specs.app_semantics.Sound.{IsSoundApp};
 ghost use Rattle.fx_types.specs.ValueView.{view};
@@ -9,7 +10,10 @@ ghost use Rattle.recalc.specs.Carrying.{AreOldCells, IsCarried, IsEditOf};
 ghost use Rattle.recalc.specs.Kept.{IsInOrder, CacheState, source_index};
 ghost use Rattle.numbered_requests.specs.declared.directory.Named.{Named as Under};
 ghost use Rattle.session_requests.specs.Caching.{AreSources};
-ghost use Rattle.office.specs.Caches.{EachCacheBecame, AreInOrder, CacheTouched, HaveRoomFor, IsButRoom, IsNew, IsToldAside, IsTurned, is_other_place as is_other_of, is_table as is_table_of, tables_in};
+ghost use Rattle.office.specs.Caches.{EachCacheBecame, AreInOrder, CacheTouched, HaveRoomFor};
+ghost use Rattle.office.specs.Caches.{IsButRoom, IsNew, IsToldAside, IsTurned};
+ghost use Rattle.office.specs.Caches.{is_other_place as is_other_of, is_table as is_table_of};
+ghost use Rattle.office.specs.Caches.{tables_in};
 
 use app_cells::App;
 use fx_base::Memory;
@@ -31,7 +35,8 @@ pub(crate) fn new_cache(alloc: Global, app: &App, moment: u64) -> Result<Cache, 
     Cache::new(alloc, app, day)
 }
 
-/// Makes room in each cache for what will be kept of an edited app, as far as there is memory. What is kept stays.
+/// Makes room in each cache for what will be kept of an edited app, as far as there is memory. What
+/// is kept stays.
 pub(crate) fn make_rooms(caches: &mut Vec<Named<Cache>>, app: &App) -> Result<(), Memory>
     ensures rooms { EachCacheBecame (λ k. IsButRoom) caches.old.items caches.new.items }
     ensures made { IfOk result (λ _. HaveRoomFor app.now caches.new.items) }
@@ -42,7 +47,8 @@ pub(crate) fn make_rooms(caches: &mut Vec<Named<Cache>>, app: &App) -> Result<()
     Ok(())
 }
 
-/// Each cache goes over to an edited app, in the room that was made. `cells` are the cells that the edit left. It takes no memory.
+/// Each cache goes over to an edited app, in the room that was made. `cells` are the cells that the
+/// edit left. It takes no memory.
 pub(crate) fn carry_all(
     caches: &mut Vec<Named<Cache>>,
     old: &App,
@@ -74,14 +80,17 @@ fn days_of(alloc: Global, moment: u64, count: usize) -> Result<Vec<Value>, Memor
     Ok(days)
 }
 
-/// Says to all caches that another day begins, which is that of a moment; or there is no memory, and all is as before.
+/// Says to all caches that another day begins, which is that of a moment; or there is no memory,
+/// and all is as before.
 pub(crate) fn turn_all(
     alloc: Global,
     caches: &mut Vec<Named<Cache>>,
     moment: u64,
 ) -> Result<(), Memory>
-    requires { (k : ℕ) (c : Under CacheState) → slice_get caches.old.items k ≡ Some c → source_index Today < length c.it.versions }
-    ensures turned { IfOk result (λ _. EachCacheBecame (λ k. IsTurned moment) caches.old.items caches.new.items) }
+    requires { (k : ℕ) (c : Under CacheState) → slice_get caches.old.items k ≡ Some c
+        → source_index Today < length c.it.versions }
+    ensures turned { IfOk result (λ _. EachCacheBecame (λ k. IsTurned moment) caches.old.items
+        caches.new.items) }
     ensures stopped { OnErr result (caches.new.items ≡ caches.old.items) }
 {
     let mut days = days_of(alloc, moment, caches.len())?;
@@ -124,16 +133,19 @@ fn is_other(place: Option<usize>, at: usize) -> bool
     }
 }
 
-/// Says to all caches but the one at a place which tables were written: that of the session that wrote them knows.
+/// Says to all caches but the one at a place which tables were written: that of the session that
+/// wrote them knows.
 pub(crate) fn touch_others(
     app: &App,
     caches: &mut Vec<Named<Cache>>,
     place: Option<usize>,
     wrote: &[Source],
 )
-    requires order { (k : ℕ) (c : Under CacheState) → slice_get caches.old.items k ≡ Some c → IsInOrder app.now c.it }
+    requires order { (k : ℕ) (c : Under CacheState) → slice_get caches.old.items k ≡ Some c
+        → IsInOrder app.now c.it }
     requires sources { AreSources app.now.names wrote.now }
-    ensures told { EachCacheBecame (IsToldAside app.now place (tables_in wrote.now)) caches.old.items caches.new.items }
+    ensures told { EachCacheBecame (IsToldAside app.now place (tables_in wrote.now))
+        caches.old.items caches.new.items }
     ensures capacity { vec_capacity caches.new ≡ vec_capacity caches.old }
 {
     for at in 0..caches.len() {

@@ -10,10 +10,10 @@ use app_wire::route::one_route;
 use session_requests::{laws as requests, one_opening};
 use session_views::{one_items_reply, one_view_reply};
 
-/// A request has one answer where the tables are told: the state before it, its moment and its bytes determine the state
-/// after it and the reply, want of memory and faults of the keeper aside. An edit determines the app up to what has no
-/// meaning, as the order in which its formulas are evaluated, and a refusal up to places and circles of which there are
-/// several.
+/// A request has one answer where the tables are told: the state before it, its moment and its
+/// bytes determine the state after it and the reply, want of memory and faults of the keeper aside.
+/// An edit determines the app up to what has no meaning, as the order in which its formulas are
+/// evaluated, and a refusal up to places and circles of which there are several.
 pub fn one_answer()
     ensures { IsOneAnswer }
 {
@@ -32,7 +32,8 @@ pub fn silent()
     ensures { IsSilent }
 {}
 
-/// Any request but those of a session leaves its record as it was, but that it goes over to an app that a desk edits.
+/// Any request but those of a session leaves its record as it was, but that it goes over to an app
+/// that a desk edits.
 pub fn leaves_session()
     ensures { LeavesSession }
 {
@@ -44,7 +45,8 @@ pub fn leaves_desk()
     ensures { LeavesDesk }
 {}
 
-/// What is said to a session depends on the app, on the tables, on the moment and on its own record, and on no other session.
+/// What is said to a session depends on the app, on the tables, on the moment and on its own
+/// record, and on no other session.
 pub fn is_alone()
     ensures { IsAlone }
 {
@@ -58,7 +60,8 @@ pub fn is_alone()
     one_route();
 }
 
-/// What is shown to a session depends on no other session, also where the keeper tells no more than the rows that formulas read.
+/// What is shown to a session depends on no other session, also where the keeper tells no more than
+/// the rows that formulas read.
 pub fn reads_alone()
     ensures { ReadsAlone }
 {
@@ -69,7 +72,8 @@ pub fn reads_alone()
     one_route();
 }
 
-/// A posted request that was accepted and comes again acts no more, whatever others asked for between.
+/// A posted request that was accepted and comes again acts no more, whatever others asked for
+/// between.
 pub fn acts_once()
     ensures { ActsOnce }
 {
@@ -83,8 +87,8 @@ pub fn starts_settled()
     ensures { StartsSettled }
 {}
 
-/// Any requests leave an office settled, and its app as it is beside formulas that are edited. So what laws say of settled
-/// offices holds of each that is served.
+/// Any requests leave an office settled, and its app as it is beside formulas that are edited. So
+/// what laws say of settled offices holds of each that is served.
 pub fn stays_settled()
     ensures { StaysSettled }
 {}

@@ -1,4 +1,5 @@
-//! The office: an app, its live sessions and desks, the keeper of its rows, and the conversations that it answers.
+//! The office: an app, its live sessions and desks, the keeper of its rows, and the conversations
+//! that it answers.
 #![tactic(auto)]
 
 mod accepting;

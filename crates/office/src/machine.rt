@@ -1,5 +1,6 @@
 //! The office, one request at a time.
-ghost use Rattle.std.specs.Prelude.{◌≡◌, ◌≢◌, ◌⊎◌, ◌<◌, Err, IfOk, IsErrOf, Ok, OnErr, Some, false, length};
+ghost use Rattle.std.specs.Prelude.{◌≡◌, ◌≢◌, ◌⊎◌, ◌<◌, Err, IfOk, IsErrOf, Ok, OnErr, Some, false};
+ghost use Rattle.std.specs.Prelude.{length};
 ghost use Rattle.fx_base.specs.Silence.{IsLater, SilenceCause};
 ghost use Rattle.app_loader.specs.Edits.{IsLoaded};
 ghost use Rattle.app_loader.specs.app_semantics.Sound.{IsSoundApp};
@@ -12,9 +13,11 @@ ghost use Rattle.row_requests.specs.Sound.{AreSound};
 ghost use Rattle.session_requests.specs.Opening.{CanOpen};
 ghost use Rattle.app_wire.specs.ReplyBytes.{refusal};
 ghost use Rattle.office.specs.Costs.{CostsAnswered, CostsBy, counts};
-ghost use Rattle.office.specs.Leaving.{ActsClean, AreEachLeft, LeavesActed, LeavesBy, LeavesClean, LeavesStopped, StopsClean, nothing, day_turned};
+ghost use Rattle.office.specs.Leaving.{ActsClean, AreEachLeft, LeavesActed, LeavesBy, LeavesClean};
+ghost use Rattle.office.specs.Leaving.{LeavesStopped, StopsClean, nothing, day_turned};
 ghost use Rattle.office.specs.State.{schema_of, started};
-ghost use Rattle.office.specs.Step.{AnswersRequest, RouteStep, Left, PassesChecks, ReachesKeeper, Step};
+ghost use Rattle.office.specs.Step.{AnswersRequest, RouteStep, Left, PassesChecks, ReachesKeeper};
+ghost use Rattle.office.specs.Step.{Step};
 
 use crate::keeping::{DAY, turn_all};
 use crate::plans::{show_graph, show_plan};
@@ -36,7 +39,8 @@ use std::alloc::Global;
 use std::marker::Model;
 use std::sync::ledger::Ledger;
 
-/// An app in use: its live sessions, its desks, and the keeper of its rows. Between two requests no transaction is begun.
+/// An app in use: its live sessions, its desks, and the keeper of its rows. Between two requests no
+/// transaction is begun.
 #[derive(Drop)]
 pub struct Office<K: Keeper + Drop> {
     pub(crate) alloc: Global,
@@ -65,7 +69,12 @@ impl<K: Keeper + Drop> Model for Office<K> {
     ghost coded = { Prim.hlevel (codes, data_code, app_row.coded, schema_row.coded, row_row.coded) };
 
     ghost view = { λ o. record {
-      state = record { app = o.app; tables = K.told o.keeper; sessions = o.sessions.items; desks = o.desks.items };
+      state = record {
+        app = o.app;
+        tables = K.told o.keeper;
+        sessions = o.sessions.items;
+        desks = o.desks.items;
+      };
       marks = K.marks o.keeper;
       visited = K.visited o.keeper;
       loan = K.loan o.keeper;
@@ -73,7 +82,8 @@ impl<K: Keeper + Drop> Model for Office<K> {
       moment = o.moment;
     } };
 
-    ghost invariant = { λ o. OfficeInvariant o.app (K.in_transaction o.keeper) (K.shaped o.keeper) (K.told o.keeper) o.sessions.items o.desks.items o.caches.items o.moment };
+    ghost invariant = { λ o. OfficeInvariant o.app (K.in_transaction o.keeper) (K.shaped o.keeper)
+        (K.told o.keeper) o.sessions.items o.desks.items o.caches.items o.moment };
 }
 
 /// The tables of an app.
@@ -84,7 +94,8 @@ fn schema_of(app: &App) -> &Schema
 }
 
 impl<K: Keeper + Drop> Office<K> {
-    /// An office that serves this app over the keeper's tables. No session is live yet, and no desk has come into being.
+    /// An office that serves this app over the keeper's tables. No session is live yet, and no desk
+    /// has come into being.
     pub fn new(alloc: Global, app: App, keeper: K) -> Result<Office<K>, Memory>
         requires idle { K.in_transaction keeper ≡ false }
         requires shaped { K.shaped keeper ≡ Some (schema_of app) }
@@ -101,7 +112,8 @@ impl<K: Keeper + Drop> Office<K> {
         Ok(Office::over(alloc, app, routes, keeper))
     }
 
-    /// The same, where the routes are made already. It can't be refused, so a keeper that is only lent is never lost.
+    /// The same, where the routes are made already. It can't be refused, so a keeper that is only
+    /// lent is never lost.
     pub fn over(alloc: Global, app: App, routes: Routes, keeper: K) -> Office<K>
         requires idle { K.in_transaction keeper ≡ false }
         requires shaped { K.shaped keeper ≡ Some (schema_of app) }
@@ -126,20 +138,29 @@ impl<K: Keeper + Drop> Office<K> {
         }
     }
 
-    /// Answers one request, which was whole at this moment, in seconds since 1970-01-01 UTC. After a refusal the office is
-    /// as before.
+    /// Answers one request, which was whole at this moment, in seconds since 1970-01-01 UTC. After
+    /// a refusal the office is as before.
     pub fn answer<L: Ledger>(
         &mut self,
         request: &Request,
         moment: u64,
         steps: &mut Steps<L>,
     ) -> Reply
-        ensures answered { AnswersRequest self.old.state self.old.marks moment (asked request.now) (said result) self.new.marks self.new.state }
+        ensures answered { AnswersRequest self.old.state self.old.marks moment (asked request.now)
+            (said result) self.new.marks self.new.state }
         ensures later { IsLater self.old.marks self.new.marks }
         ensures whole { IsReply result }
-        ensures clean { LeavesClean self.old.state self.old.moment self.old.caches moment (asked request.now) self.new.state self.new.caches }
-        ensures acted { LeavesActed (SilenceCause self.old.marks self.new.marks) self.old.state self.old.moment self.old.caches moment (asked request.now) (said result) self.new.state self.new.caches ⊎ (((said result ≡ refusal 26) ⊎ (said result ≡ refusal 25)) × LeavesStopped self.old.state self.old.moment self.old.caches moment (asked request.now) self.new.state self.new.caches) }
-        ensures costs { CostsAnswered self.old.state self.old.moment self.old.caches moment (asked request.now) (said result) self.new.state self.new.caches (counts steps.old self.old.visited) (counts steps.new self.new.visited) ⊎ ((said result ≡ refusal 26) ⊎ (said result ≡ refusal 25)) }
+        ensures clean { LeavesClean self.old.state self.old.moment self.old.caches moment
+            (asked request.now) self.new.state self.new.caches }
+        ensures acted { LeavesActed (SilenceCause self.old.marks self.new.marks) self.old.state
+            self.old.moment self.old.caches moment (asked request.now) (said result) self.new.state
+            self.new.caches ⊎ (((said result ≡ refusal 26) ⊎ (said result ≡ refusal 25))
+            × LeavesStopped self.old.state self.old.moment self.old.caches moment
+            (asked request.now) self.new.state self.new.caches) }
+        ensures costs { CostsAnswered self.old.state self.old.moment self.old.caches moment
+            (asked request.now) (said result) self.new.state self.new.caches
+            (counts steps.old self.old.visited) (counts steps.new self.new.visited)
+            ⊎ ((said result ≡ refusal 26) ⊎ (said result ≡ refusal 25)) }
         ensures loan { self.new.loan ≡ self.old.loan }
     {
         match self.carry_out(request, moment, steps) {
@@ -149,22 +170,31 @@ impl<K: Keeper + Drop> Office<K> {
         }
     }
 
-    /// Does what the request asks for, or stops and leaves the office as it was: `answer` says a stop as a refusal.
+    /// Does what the request asks for, or stops and leaves the office as it was: `answer` says a
+    /// stop as a refusal.
     pub fn carry_out<L: Ledger>(
         &mut self,
         request: &Request,
         moment: u64,
         steps: &mut Steps<L>,
     ) -> Result<Reply, KeeperEnd>
-        ensures step { IfOk result (λ r. Step (SilenceCause self.old.marks self.new.marks) self.old.state moment (asked request.now) (said r) self.new.state) }
+        ensures step { IfOk result (λ r. Step (SilenceCause self.old.marks self.new.marks)
+            self.old.state moment (asked request.now) (said r) self.new.state) }
         ensures whole { IfOk result IsReply }
-        ensures stopped { OnErr result (Left (SilenceCause self.old.marks self.new.marks) self.old.state self.new.state) }
+        ensures stopped { OnErr result (Left (SilenceCause self.old.marks self.new.marks)
+            self.old.state self.new.state) }
         ensures reached { IsErrOf result Failed → ReachesKeeper self.old.state (asked request.now) }
         ensures cause { HasCause self.old.marks self.new.marks result }
-        ensures clean { LeavesClean self.old.state self.old.moment self.old.caches moment (asked request.now) self.new.state self.new.caches }
-        ensures acted { IfOk result (λ r. LeavesActed (SilenceCause self.old.marks self.new.marks) self.old.state self.old.moment self.old.caches moment (asked request.now) (said r) self.new.state self.new.caches) }
-        ensures costs { IfOk result (λ r. CostsAnswered self.old.state self.old.moment self.old.caches moment (asked request.now) (said r) self.new.state self.new.caches (counts steps.old self.old.visited) (counts steps.new self.new.visited)) }
-        ensures cut { OnErr result (LeavesStopped self.old.state self.old.moment self.old.caches moment (asked request.now) self.new.state self.new.caches) }
+        ensures clean { LeavesClean self.old.state self.old.moment self.old.caches moment
+            (asked request.now) self.new.state self.new.caches }
+        ensures acted { IfOk result (λ r. LeavesActed (SilenceCause self.old.marks self.new.marks)
+            self.old.state self.old.moment self.old.caches moment (asked request.now) (said r)
+            self.new.state self.new.caches) }
+        ensures costs { IfOk result (λ r. CostsAnswered self.old.state self.old.moment
+            self.old.caches moment (asked request.now) (said r) self.new.state self.new.caches
+            (counts steps.old self.old.visited) (counts steps.new self.new.visited)) }
+        ensures cut { OnErr result (LeavesStopped self.old.state self.old.moment self.old.caches
+            moment (asked request.now) self.new.state self.new.caches) }
         ensures loan { self.new.loan ≡ self.old.loan }
     {
         match self.routes.route(self.alloc, request) {
@@ -185,7 +215,8 @@ impl<K: Keeper + Drop> Office<K> {
         ensures visited { self.new.visited ≡ self.old.visited }
         ensures loan { self.new.loan ≡ self.old.loan }
         ensures moment { IfOk result (λ _. self.new.moment ≡ moment) }
-        ensures clean { AreEachLeft self.old.state.app (day_turned self.old.moment moment) self.old.caches self.new.caches }
+        ensures clean { AreEachLeft self.old.state.app (day_turned self.old.moment moment)
+            self.old.caches self.new.caches }
     {
         if moment / DAY != self.moment / DAY {
             turn_all(self.alloc, &mut self.caches, moment)?;
@@ -202,15 +233,24 @@ impl<K: Keeper + Drop> Office<K> {
         request: &Request,
         steps: &mut Steps<L>,
     ) -> Result<Reply, KeeperEnd>
-        ensures step { IfOk result (λ r. RouteStep (SilenceCause self.old.marks self.new.marks) self.old.moment route.now request.now.body.items self.old.state (said r) self.new.state) }
+        ensures step { IfOk result (λ r. RouteStep (SilenceCause self.old.marks self.new.marks)
+            self.old.moment route.now request.now.body.items self.old.state (said r) self.new.state) }
         ensures whole { IfOk result IsReply }
-        ensures stopped { OnErr result (Left (SilenceCause self.old.marks self.new.marks) self.old.state self.new.state) }
-        ensures reached { IsErrOf result Failed → PassesChecks route.now request.now.body.items self.old.state }
+        ensures stopped { OnErr result (Left (SilenceCause self.old.marks self.new.marks)
+            self.old.state self.new.state) }
+        ensures reached { IsErrOf result Failed
+            → PassesChecks route.now request.now.body.items self.old.state }
         ensures cause { HasCause self.old.marks self.new.marks result }
-        ensures clean { LeavesBy route.now nothing request.now.body.items self.old.state self.new.state self.old.caches self.new.caches }
-        ensures acted { IfOk result (λ r. ActsClean (SilenceCause self.old.marks self.new.marks) self.old.moment route.now nothing request.now.body.items self.old.state (said r) self.new.state self.old.caches self.new.caches) }
-        ensures costs { IfOk result (λ r. CostsBy route.now self.old.moment self.old.state (said r) self.new.state self.old.caches self.new.caches (counts steps.old self.old.visited) (counts steps.new self.new.visited)) }
-        ensures cut { OnErr result (StopsClean self.old.moment route.now nothing request.now.body.items self.old.state self.new.state self.old.caches self.new.caches) }
+        ensures clean { LeavesBy route.now nothing request.now.body.items self.old.state
+            self.new.state self.old.caches self.new.caches }
+        ensures acted { IfOk result (λ r. ActsClean (SilenceCause self.old.marks self.new.marks)
+            self.old.moment route.now nothing request.now.body.items self.old.state (said r)
+            self.new.state self.old.caches self.new.caches) }
+        ensures costs { IfOk result (λ r. CostsBy route.now self.old.moment self.old.state (said r)
+            self.new.state self.old.caches self.new.caches (counts steps.old self.old.visited)
+            (counts steps.new self.new.visited)) }
+        ensures cut { OnErr result (StopsClean self.old.moment route.now nothing
+            request.now.body.items self.old.state self.new.state self.old.caches self.new.caches) }
         ensures loan { self.new.loan ≡ self.old.loan }
     {
         let moment = self.moment;

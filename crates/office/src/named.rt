@@ -8,7 +8,8 @@ ghost use Rattle.session_requests.specs.recalc.Values.{value_of};
 ghost use Rattle.row_keeper.specs.Over.{HasCause};
 ghost use Rattle.row_keeper.specs.declared.keeper.KeeperEnd.TheVariants.{Failed};
 ghost use Rattle.fx_scalar.specs.ScalarFunctions.{IsToday};
-ghost use Rattle.office.specs.NamedReply.{AreNamedMade, IsNamedBody, IsNamedList, named_cells, named_values, reply_row};
+ghost use Rattle.office.specs.NamedReply.{AreNamedMade, IsNamedBody, IsNamedList, named_cells};
+ghost use Rattle.office.specs.NamedReply.{named_values, reply_row};
 ghost use Rattle.recalc.specs.AskingOver.{HasRead};
 ghost use Rattle.recalc.specs.Changes.{StaysCleanExcept};
 ghost use Rattle.recalc.specs.Kept.{HasNumbersLeft, IsInOrder};
@@ -25,9 +26,9 @@ use std::alloc::Global;
 use std::sync::ledger::Ledger;
 use view_text::{Named, named_json};
 
-/// The named formulas of an app with their values over a session and the rows of a keeper, at a moment in seconds since
-/// 1970-01-01 UTC, in the order of their text, where nothing is kept. Where no formula reads a table the keeper is left alone.
-/// `Failed` only where it counted a fault.
+/// The named formulas of an app with their values over a session and the rows of a keeper, at a
+/// moment in seconds since 1970-01-01 UTC, in the order of their text, where nothing is kept. Where
+/// no formula reads a table the keeper is left alone. `Failed` only where it counted a fault.
 pub fn named_list<K: Keeper, L: Ledger>(
     alloc: Global,
     app: &App,
@@ -39,7 +40,8 @@ pub fn named_list<K: Keeper, L: Ledger>(
     requires sound { IsSoundApp app.now }
     requires holds { HoldsFitting app.now.names session.now }
     requires asks { CanAsk app.now (K.shaped keeper.old) }
-    ensures list { IfOk result (λ rows. (tables : ToldRows) → IsHeardOf (K.told keeper.new) tables → IsNamedList (present app.now session.now tables moment) (map reply_row rows.items)) }
+    ensures list { IfOk result (λ rows. (tables : ToldRows) → IsHeardOf (K.told keeper.new) tables
+        → IsNamedList (present app.now session.now tables moment) (map reply_row rows.items)) }
     ensures read { HasRead K.Keeper keeper.old keeper.new }
     ensures cause { HasCause K.Keeper keeper.old keeper.new result }
     ensures alone { ReadsNone app.now → keeper.new ≡ keeper.old }
@@ -51,7 +53,8 @@ pub fn named_list<K: Keeper, L: Ledger>(
 
 /// The named formulas with the values of their cells.
 fn name_values(alloc: Global, app: &App, values: &Valued) -> Result<Vec<Named>, Memory>
-    ensures { IfOk result (λ rows. map reply_row rows.items ≡ named_values app.now (value_of values.now)) }
+    ensures { IfOk result (λ rows. map reply_row rows.items
+        ≡ named_values app.now (value_of values.now)) }
 {
     let mut rows = Vec::new(alloc);
     for formula in app.names.formulas.as_slice() {
@@ -90,16 +93,22 @@ fn kept_list<K: Keeper, L: Ledger>(
     requires asks { CanAsk app.now (K.shaped keeper.old) }
     requires day { IsToday moment cache.old.values.day }
     requires order { IsInOrder app.now cache.old }
-    ensures list { IfOk result (λ rows. IsRightOver app.now session.now (K.told keeper.old) moment cache.old → (tables : ToldRows) → IsHeardOf (K.told keeper.new) tables → IsNamedList (present app.now session.now tables moment) (map reply_row rows.items)) }
+    ensures list { IfOk result (λ rows. IsRightOver app.now session.now (K.told keeper.old) moment
+        cache.old → (tables : ToldRows) → IsHeardOf (K.told keeper.new) tables
+        → IsNamedList (present app.now session.now tables moment) (map reply_row rows.items)) }
     ensures order { IsInOrder app.now cache.new }
-    ensures right { IsRightOver app.now session.now (K.told keeper.old) moment cache.old → IsRightOver app.now session.now (K.told keeper.new) moment cache.new }
+    ensures right { IsRightOver app.now session.now (K.told keeper.old) moment cache.old
+        → IsRightOver app.now session.now (K.told keeper.new) moment cache.new }
     ensures day { cache.new.values.day ≡ cache.old.values.day }
     ensures left { HasNumbersLeft cache.old.last → KeepsClean app.now cache.old cache.new }
     ensures but { StaysCleanExcept app.now [] cache.old cache.new }
     ensures made { OnOk result (AreNamedMade app.now cache.new) }
-    ensures ticks { OnOk result (HasNumbersLeft cache.old.last → OncePerCell app.now (named_cells app.now) cache.old cache.new steps.old steps.new) }
-    ensures visits { OnOk result (IsRightOver app.now session.now (K.told keeper.old) moment cache.old → HasNumbersLeft cache.old.last → WhereTold (K.told keeper.new) (λ told.
-        VisitsPerCell app.now session.now told moment (named_cells app.now) cache.old cache.new steps.old steps.new (K.visited keeper.old) (K.visited keeper.new))) }
+    ensures ticks { OnOk result (HasNumbersLeft cache.old.last
+        → OncePerCell app.now (named_cells app.now) cache.old cache.new steps.old steps.new) }
+    ensures visits { OnOk result (IsRightOver app.now session.now (K.told keeper.old) moment
+        cache.old → HasNumbersLeft cache.old.last → WhereTold (K.told keeper.new) (λ told.
+        VisitsPerCell app.now session.now told moment (named_cells app.now) cache.old cache.new
+        steps.old steps.new (K.visited keeper.old) (K.visited keeper.new))) }
     ensures idle { OnOk result (steps.new ≡ steps.old → keeper.new ≡ keeper.old) }
     ensures read { HasRead K.Keeper keeper.old keeper.new }
     ensures cause { HasCause K.Keeper keeper.old keeper.new result }
@@ -109,8 +118,9 @@ fn kept_list<K: Keeper, L: Ledger>(
     Ok(name_values(alloc, app, cache.values())?)
 }
 
-/// The body of the reply that shows each named formula with its value. What is kept is right afterwards, also where it stops; the
-/// cells that the named formulas need are then clean, and what was clean stays so. `Failed` only where the keeper counted a fault.
+/// The body of the reply that shows each named formula with its value. What is kept is right
+/// afterwards, also where it stops; the cells that the named formulas need are then clean, and what
+/// was clean stays so. `Failed` only where the keeper counted a fault.
 #[tactic(auto, using(session_views::proofs::Needing::leaves_none, recalc::proofs::Leaving::left_same))]
 pub(crate) fn named_body<K: Keeper, L: Ledger>(
     alloc: Global,
@@ -127,16 +137,20 @@ pub(crate) fn named_body<K: Keeper, L: Ledger>(
     requires day { IsToday moment cache.old.values.day }
     requires order { IsInOrder app.now cache.old }
     requires right { ∥ IsRightOver app.now session.now (K.told keeper.old) moment cache.old ∥₁ }
-    ensures body { IfOk result (λ s. (tables : ToldRows) → IsHeardOf (K.told keeper.new) tables → IsNamedBody (present app.now session.now tables moment) (string_bytes s)) }
+    ensures body { IfOk result (λ s. (tables : ToldRows) → IsHeardOf (K.told keeper.new) tables
+        → IsNamedBody (present app.now session.now tables moment) (string_bytes s)) }
     ensures order { IsInOrder app.now cache.new }
     ensures right { ∥ IsRightOver app.now session.now (K.told keeper.new) moment cache.new ∥₁ }
     ensures day { cache.new.values.day ≡ cache.old.values.day }
     ensures left { HasNumbersLeft cache.old.last → KeepsClean app.now cache.old cache.new }
     ensures but { StaysCleanExcept app.now [] cache.old cache.new }
     ensures made { OnOk result (AreNamedMade app.now cache.new) }
-    ensures ticks { OnOk result (HasNumbersLeft cache.old.last → OncePerCell app.now (named_cells app.now) cache.old cache.new steps.old steps.new) }
-    ensures visits { OnOk result (HasNumbersLeft cache.old.last → WhereTold (K.told keeper.new) (λ told.
-        ∥ VisitsPerCell app.now session.now told moment (named_cells app.now) cache.old cache.new steps.old steps.new (K.visited keeper.old) (K.visited keeper.new) ∥₁)) }
+    ensures ticks { OnOk result (HasNumbersLeft cache.old.last
+        → OncePerCell app.now (named_cells app.now) cache.old cache.new steps.old steps.new) }
+    ensures visits { OnOk result (HasNumbersLeft cache.old.last
+        → WhereTold (K.told keeper.new) (λ told.
+        ∥ VisitsPerCell app.now session.now told moment (named_cells app.now) cache.old cache.new
+        steps.old steps.new (K.visited keeper.old) (K.visited keeper.new) ∥₁)) }
     ensures idle { OnOk result (steps.new ≡ steps.old → keeper.new ≡ keeper.old) }
     ensures read { HasRead K.Keeper keeper.old keeper.new }
     ensures cause { HasCause K.Keeper keeper.old keeper.new result }

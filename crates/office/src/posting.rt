@@ -24,11 +24,12 @@ use recalc::{Cache, old_cells};
 use session_state::{Desk, Session};
 use std::alloc::Global;
 
-/// A desk edits a formula, under a number. The app becomes the edited one, and the reply is kept; or nothing changes and the
-/// reply is a refusal: no JSON (9), another shape (10), a desk too many (12), another number (13, 14), or the rules that the
-/// edited app breaks (24). The last request once more gets the kept reply. Nothing but the app's formulas, this desk's record
-/// and what sessions hold can change: each session goes over to the edited app, and its cache with what the edit left. All memory is
-/// taken before.
+/// A desk edits a formula, under a number. The app becomes the edited one, and the reply is kept;
+/// or nothing changes and the reply is a refusal: no JSON (9), another shape (10), a desk too many
+/// (12), another number (13, 14), or the rules that the edited app breaks (24). The last request
+/// once more gets the kept reply. Nothing but the app's formulas, this desk's record and what
+/// sessions hold can change: each session goes over to the edited app, and its cache with what the
+/// edit left. All memory is taken before.
 #[tactic(auto, using(crate::proofs::GoingOver::each_left))]
 pub fn post_edit(
     alloc: Global,
@@ -45,8 +46,11 @@ pub fn post_edit(
     requires fit { LiveSessionsFit app.old.names sessions.old.items }
     requires kept { KeepReplies desks.old.items }
     requires replies { SessionsKeepReplies sessions.old.items }
-    requires cached { (told : Option Tables) × (moment : ℕ) × AreKept app.old told moment sessions.old.items caches.old.items }
-    ensures done { IfOk result (λ r. PostsEdit name.now body.now (record { app = app.old; sessions = sessions.old.items; desks = desks.old.items }) (said r) (record { app = app.new; sessions = sessions.new.items; desks = desks.new.items })) }
+    requires cached { (told : Option Tables) × (moment : ℕ)
+        × AreKept app.old told moment sessions.old.items caches.old.items }
+    ensures done { IfOk result (λ r. PostsEdit name.now body.now
+        (record { app = app.old; sessions = sessions.old.items; desks = desks.old.items }) (said r)
+        (record { app = app.new; sessions = sessions.new.items; desks = desks.new.items })) }
     ensures whole { IfOk result IsReply }
     ensures app { OnErr result (app.new ≡ app.old) }
     ensures sessions { OnErr result (sessions.new.items ≡ sessions.old.items) }
@@ -58,7 +62,9 @@ pub fn post_edit(
     ensures fit { LiveSessionsFit app.new.names sessions.new.items }
     ensures kept { KeepReplies desks.new.items }
     ensures replies { SessionsKeepReplies sessions.new.items }
-    ensures caches { (told : Option Tables) (moment : ℕ) → AreKept app.old told moment sessions.old.items caches.old.items → AreKept app.new told moment sessions.new.items caches.new.items }
+    ensures caches { (told : Option Tables) (moment : ℕ)
+        → AreKept app.old told moment sessions.old.items caches.old.items
+        → AreKept app.new told moment sessions.new.items caches.new.items }
     ensures over { EachCacheBecame (λ k. WentOver app.old app.new) caches.old.items caches.new.items }
 {
     match check_desk::<Edit>(alloc, desks, name, body)? {
@@ -85,8 +91,11 @@ fn make_edit(
     requires fit { LiveSessionsFit app.old.names sessions.old.items }
     requires kept { KeepReplies desks.old.items }
     requires replies { SessionsKeepReplies sessions.old.items }
-    requires cached { (told : Option Tables) × (moment : ℕ) × AreKept app.old told moment sessions.old.items caches.old.items }
-    ensures done { IfOk result (λ r. MakesEdit name.now body.now asked.now (record { app = app.old; sessions = sessions.old.items; desks = desks.old.items }) (said r) (record { app = app.new; sessions = sessions.new.items; desks = desks.new.items })) }
+    requires cached { (told : Option Tables) × (moment : ℕ)
+        × AreKept app.old told moment sessions.old.items caches.old.items }
+    ensures done { IfOk result (λ r. MakesEdit name.now body.now asked.now
+        (record { app = app.old; sessions = sessions.old.items; desks = desks.old.items }) (said r)
+        (record { app = app.new; sessions = sessions.new.items; desks = desks.new.items })) }
     ensures whole { IfOk result IsReply }
     ensures app { OnErr result (app.new ≡ app.old) }
     ensures sessions { OnErr result (sessions.new.items ≡ sessions.old.items) }
@@ -98,7 +107,9 @@ fn make_edit(
     ensures fit { LiveSessionsFit app.new.names sessions.new.items }
     ensures kept { KeepReplies desks.new.items }
     ensures replies { SessionsKeepReplies sessions.new.items }
-    ensures caches { (told : Option Tables) (moment : ℕ) → AreKept app.old told moment sessions.old.items caches.old.items → AreKept app.new told moment sessions.new.items caches.new.items }
+    ensures caches { (told : Option Tables) (moment : ℕ)
+        → AreKept app.old told moment sessions.old.items caches.old.items
+        → AreKept app.new told moment sessions.new.items caches.new.items }
     ensures over { EachCacheBecame (λ k. WentOver app.old app.new) caches.old.items caches.new.items }
 {
     let accepted = accept(alloc, name, asked.seq, body)?;
@@ -113,8 +124,8 @@ fn make_edit(
     }
 }
 
-/// The app becomes an edited one, and sessions and caches go over to it; or there is no memory, and the app, the sessions and what the
-/// caches keep are as before.
+/// The app becomes an edited one, and sessions and caches go over to it; or there is no memory, and
+/// the app, the sessions and what the caches keep are as before.
 fn go_over(
     alloc: Global,
     app: &mut App,
@@ -126,12 +137,16 @@ fn go_over(
     requires edited { IsSoundApp edited }
     requires frame { app_frame edited ≡ app_frame app.old }
     requires fit { LiveSessionsFit app.old.names sessions.old.items }
-    requires cached { (told : Option Tables) × (moment : ℕ) × AreKept app.old told moment sessions.old.items caches.old.items }
+    requires cached { (told : Option Tables) × (moment : ℕ)
+        × AreKept app.old told moment sessions.old.items caches.old.items }
     ensures app { OnOk result (app.new ≡ edited) }
-    ensures sessions { OnOk result (sessions.new.items ≡ all_carried app.old.names edited.names sessions.old.items) }
+    ensures sessions { OnOk result (sessions.new.items
+        ≡ all_carried app.old.names edited.names sessions.old.items) }
     ensures stopped { OnErr result (app.new ≡ app.old) }
     ensures stayed { OnErr result (sessions.new.items ≡ sessions.old.items) }
-    ensures kept { (told : Option Tables) (moment : ℕ) → AreKept app.old told moment sessions.old.items caches.old.items → AreKept app.new told moment sessions.new.items caches.new.items }
+    ensures kept { (told : Option Tables) (moment : ℕ)
+        → AreKept app.old told moment sessions.old.items caches.old.items
+        → AreKept app.new told moment sessions.new.items caches.new.items }
     ensures over { EachCacheBecame (λ k. WentOver app.old app.new) caches.old.items caches.new.items }
 {
     carry_over(alloc, app, &edited, sessions, caches)?;
@@ -139,8 +154,8 @@ fn go_over(
     Ok(())
 }
 
-/// Sessions and caches go over to an edited app; or there is no memory, and the sessions and what the caches keep are as before. All
-/// memory is taken before anything goes over.
+/// Sessions and caches go over to an edited app; or there is no memory, and the sessions and what
+/// the caches keep are as before. All memory is taken before anything goes over.
 fn carry_over(
     alloc: Global,
     app: &App,
@@ -152,13 +167,21 @@ fn carry_over(
     requires edited { IsSoundApp edited.now }
     requires frame { app_frame edited.now ≡ app_frame app.now }
     requires fit { LiveSessionsFit app.now.names sessions.old.items }
-    requires cached { (told : Option Tables) × (moment : ℕ) × AreKept app.now told moment sessions.old.items caches.old.items }
-    ensures sessions { OnOk result (sessions.new.items ≡ all_carried app.now.names edited.now.names sessions.old.items) }
+    requires cached { (told : Option Tables) × (moment : ℕ)
+        × AreKept app.now told moment sessions.old.items caches.old.items }
+    ensures sessions { OnOk result (sessions.new.items
+        ≡ all_carried app.now.names edited.now.names sessions.old.items) }
     ensures stopped { OnErr result (sessions.new.items ≡ sessions.old.items) }
-    ensures kept { OnOk result ((told : Option Tables) (moment : ℕ) → AreKept app.now told moment sessions.old.items caches.old.items → AreKept edited.now told moment sessions.new.items caches.new.items) }
-    ensures stayed { OnErr result ((told : Option Tables) (moment : ℕ) → AreKept app.now told moment sessions.old.items caches.old.items → AreKept app.now told moment sessions.new.items caches.new.items) }
-    ensures over { OnOk result (EachCacheBecame (λ k. WentOver app.now edited.now) caches.old.items caches.new.items) }
-    ensures left { OnErr result (EachCacheBecame (λ k. WentOver app.now app.now) caches.old.items caches.new.items) }
+    ensures kept { OnOk result ((told : Option Tables) (moment : ℕ)
+        → AreKept app.now told moment sessions.old.items caches.old.items
+        → AreKept edited.now told moment sessions.new.items caches.new.items) }
+    ensures stayed { OnErr result ((told : Option Tables) (moment : ℕ)
+        → AreKept app.now told moment sessions.old.items caches.old.items
+        → AreKept app.now told moment sessions.new.items caches.new.items) }
+    ensures over { OnOk result (EachCacheBecame (λ k. WentOver app.now edited.now) caches.old.items
+        caches.new.items) }
+    ensures left { OnErr result (EachCacheBecame (λ k. WentOver app.now app.now) caches.old.items
+        caches.new.items) }
 {
     let cells = old_cells(alloc, app, edited)?;
     make_rooms(caches, edited)?;

@@ -1,6 +1,7 @@
-//! What is sent: sessions send events and inputs, and desks changes of rows. The caches of the others are told which tables were
-//! written.
-ghost use Rattle.std.specs.Prelude.{◌≡◌, ℕ, false, IfOk, IsErrOf, IsSome, List, Ok, OnErr, Some, slice_get};
+//! What is sent: sessions send events and inputs, and desks changes of rows. The caches of the
+//! others are told which tables were written.
+ghost use Rattle.std.specs.Prelude.{◌≡◌, ℕ, false, IfOk, IsErrOf, IsSome, List, Ok, OnErr, Some};
+ghost use Rattle.std.specs.Prelude.{slice_get};
 ghost use Rattle.app_loader.specs.app_semantics.Sound.{IsSoundApp};
 ghost use Rattle.fx_base.specs.Silence.{SilenceCause};
 ghost use Rattle.fx_base.specs.Telling.{Stays};
@@ -17,11 +18,14 @@ ghost use Rattle.row_keeper.specs.Over.{Becomes, HasCause};
 ghost use Rattle.row_keeper.specs.declared.keeper.KeeperEnd.TheVariants.{Failed};
 ghost use Rattle.row_requests.specs.DeskRows.{PostsRows, ReachesRows};
 ghost use Rattle.row_requests.specs.Sound.{AreSound};
-ghost use Rattle.session_requests.specs.Posting.{PostsEvent, PostsInput, ReachesEvent, ReachesInput, SendsEvent, SendsInput};
+ghost use Rattle.session_requests.specs.Posting.{PostsEvent, PostsInput, ReachesEvent};
+ghost use Rattle.session_requests.specs.Posting.{ReachesInput, SendsEvent, SendsInput};
 ghost use Rattle.session_state.specs.Sessions.{SessionState};
 ghost use Rattle.row_requests.specs.Written.{IsNamedBy};
 ghost use Rattle.office.specs.Caches.{AreKept};
-ghost use Rattle.office.specs.Leaving.{AreEachLeft, AreLeftBeside, AreStopped, EventCutOff, EventLeaves, InputCutOff, InputLeaves, any_table, event_cut, input_cut, nothing};
+ghost use Rattle.office.specs.Leaving.{AreEachLeft, AreLeftBeside, AreStopped, EventCutOff};
+ghost use Rattle.office.specs.Leaving.{EventLeaves, InputCutOff, InputLeaves, any_table, event_cut};
+ghost use Rattle.office.specs.Leaving.{input_cut, nothing};
 ghost use Rattle.session_views.specs.Shows.{LiveSessionsFit};
 
 use crate::keeping::touch_others;
@@ -56,7 +60,9 @@ pub(crate) fn post_input<K: Keeper, L: Ledger>(
     requires shaped { K.shaped keeper.old ≡ Some app.now.names.schema }
     requires rows { AreSound app.now.names.schema (K.told keeper.old) }
     requires idle { K.in_transaction keeper.old ≡ false }
-    ensures done { IfOk result (λ r. PostsInput (SilenceCause (K.marks keeper.old) (K.marks keeper.new)) app.now moment name.now body.now (K.told keeper.old) sessions.old.items (said r) (K.told keeper.new) sessions.new.items) }
+    ensures done { IfOk result (λ r. PostsInput
+        (SilenceCause (K.marks keeper.old) (K.marks keeper.new)) app.now moment name.now body.now
+        (K.told keeper.old) sessions.old.items (said r) (K.told keeper.new) sessions.new.items) }
     ensures whole { IfOk result IsReply }
     ensures reached { IsErrOf result Failed → ReachesInput name.now body.now sessions.old.items }
     ensures stopped { OnErr result (sessions.new.items ≡ sessions.old.items) }
@@ -65,8 +71,15 @@ pub(crate) fn post_input<K: Keeper, L: Ledger>(
     ensures replies { SessionsKeepReplies sessions.new.items }
     ensures kept { AreKept app.now (K.told keeper.new) moment sessions.new.items caches.new.items }
     ensures clean { AreLeftBeside app.now name.now any_table caches.old.items caches.new.items }
-    ensures own { IfOk result (λ r. InputLeaves (SilenceCause (K.marks keeper.old) (K.marks keeper.new)) app.now moment name.now nothing body.now (checks input_in (λ (i : AnInput). i.seq) (session_of name.now sessions.old.items) body.now) (K.told keeper.old) sessions.old.items (said r) (K.told keeper.new) sessions.new.items caches.old.items caches.new.items) }
-    ensures cut { OnErr result (AreStopped app.now name.now nothing (input_cut app.now moment name.now (K.told keeper.old) sessions.old.items (checks input_in (λ (i : AnInput). i.seq) (session_of name.now sessions.old.items) body.now)) (K.told keeper.new) caches.old.items caches.new.items) }
+    ensures own { IfOk result (λ r. InputLeaves
+        (SilenceCause (K.marks keeper.old) (K.marks keeper.new)) app.now moment name.now nothing
+        body.now (checks input_in (λ (i : AnInput). i.seq) (session_of name.now sessions.old.items)
+        body.now) (K.told keeper.old) sessions.old.items (said r) (K.told keeper.new)
+        sessions.new.items caches.old.items caches.new.items) }
+    ensures cut { OnErr result (AreStopped app.now name.now nothing
+        (input_cut app.now moment name.now (K.told keeper.old) sessions.old.items
+        (checks input_in (λ (i : AnInput). i.seq) (session_of name.now sessions.old.items)
+        body.now)) (K.told keeper.new) caches.old.items caches.new.items) }
     ensures rows { AreSound app.now.names.schema (K.told keeper.new) }
     ensures shaped { K.shaped keeper.new ≡ Some app.now.names.schema }
     ensures idle { K.in_transaction keeper.new ≡ false }
@@ -103,7 +116,10 @@ fn act_input<K: Keeper, L: Ledger>(
     requires shaped { K.shaped keeper.old ≡ Some app.now.names.schema }
     requires rows { AreSound app.now.names.schema (K.told keeper.old) }
     requires idle { K.in_transaction keeper.old ≡ false }
-    ensures done { IfOk result (λ r. SendsInput (SilenceCause (K.marks keeper.old) (K.marks keeper.new)) app.now moment name.now body.now input (K.told keeper.old) sessions.old.items (said r) (K.told keeper.new) sessions.new.items) }
+    ensures done { IfOk result (λ r. SendsInput
+        (SilenceCause (K.marks keeper.old) (K.marks keeper.new)) app.now moment name.now body.now
+        input (K.told keeper.old) sessions.old.items (said r) (K.told keeper.new)
+        sessions.new.items) }
     ensures whole { IfOk result IsReply }
     ensures stopped { OnErr result (sessions.new.items ≡ sessions.old.items) }
     ensures left { OnErr result (Becomes K.Keeper keeper.old keeper.new Stays) }
@@ -111,8 +127,13 @@ fn act_input<K: Keeper, L: Ledger>(
     ensures replies { SessionsKeepReplies sessions.new.items }
     ensures kept { AreKept app.now (K.told keeper.new) moment sessions.new.items caches.new.items }
     ensures clean { AreLeftBeside app.now name.now any_table caches.old.items caches.new.items }
-    ensures own { IfOk result (λ r. InputLeaves (SilenceCause (K.marks keeper.old) (K.marks keeper.new)) app.now moment name.now nothing body.now (Ok input) (K.told keeper.old) sessions.old.items (said r) (K.told keeper.new) sessions.new.items caches.old.items caches.new.items) }
-    ensures cut { OnErr result (AreStopped app.now name.now nothing (InputCutOff app.now moment name.now input (K.told keeper.old) sessions.old.items) (K.told keeper.new) caches.old.items caches.new.items) }
+    ensures own { IfOk result (λ r. InputLeaves
+        (SilenceCause (K.marks keeper.old) (K.marks keeper.new)) app.now moment name.now nothing
+        body.now (Ok input) (K.told keeper.old) sessions.old.items (said r) (K.told keeper.new)
+        sessions.new.items caches.old.items caches.new.items) }
+    ensures cut { OnErr result (AreStopped app.now name.now nothing
+        (InputCutOff app.now moment name.now input (K.told keeper.old) sessions.old.items)
+        (K.told keeper.new) caches.old.items caches.new.items) }
     ensures rows { AreSound app.now.names.schema (K.told keeper.new) }
     ensures shaped { K.shaped keeper.new ≡ Some app.now.names.schema }
     ensures idle { K.in_transaction keeper.new ≡ false }
@@ -153,7 +174,9 @@ pub(crate) fn post_event<K: Keeper, L: Ledger>(
     requires shaped { K.shaped keeper.old ≡ Some app.now.names.schema }
     requires rows { AreSound app.now.names.schema (K.told keeper.old) }
     requires idle { K.in_transaction keeper.old ≡ false }
-    ensures done { IfOk result (λ r. PostsEvent (SilenceCause (K.marks keeper.old) (K.marks keeper.new)) app.now moment name.now body.now (K.told keeper.old) sessions.old.items (said r) (K.told keeper.new) sessions.new.items) }
+    ensures done { IfOk result (λ r. PostsEvent
+        (SilenceCause (K.marks keeper.old) (K.marks keeper.new)) app.now moment name.now body.now
+        (K.told keeper.old) sessions.old.items (said r) (K.told keeper.new) sessions.new.items) }
     ensures whole { IfOk result IsReply }
     ensures reached { IsErrOf result Failed → ReachesEvent name.now body.now sessions.old.items }
     ensures stopped { OnErr result (sessions.new.items ≡ sessions.old.items) }
@@ -162,8 +185,15 @@ pub(crate) fn post_event<K: Keeper, L: Ledger>(
     ensures replies { SessionsKeepReplies sessions.new.items }
     ensures kept { AreKept app.now (K.told keeper.new) moment sessions.new.items caches.new.items }
     ensures clean { AreLeftBeside app.now name.now any_table caches.old.items caches.new.items }
-    ensures own { IfOk result (λ r. EventLeaves (SilenceCause (K.marks keeper.old) (K.marks keeper.new)) app.now moment name.now nothing body.now (checks event_in (λ (e : AnEvent). e.seq) (session_of name.now sessions.old.items) body.now) (K.told keeper.old) sessions.old.items (said r) (K.told keeper.new) sessions.new.items caches.old.items caches.new.items) }
-    ensures cut { OnErr result (AreStopped app.now name.now nothing (event_cut app.now moment name.now (K.told keeper.old) sessions.old.items (checks event_in (λ (e : AnEvent). e.seq) (session_of name.now sessions.old.items) body.now)) (K.told keeper.new) caches.old.items caches.new.items) }
+    ensures own { IfOk result (λ r. EventLeaves
+        (SilenceCause (K.marks keeper.old) (K.marks keeper.new)) app.now moment name.now nothing
+        body.now (checks event_in (λ (e : AnEvent). e.seq) (session_of name.now sessions.old.items)
+        body.now) (K.told keeper.old) sessions.old.items (said r) (K.told keeper.new)
+        sessions.new.items caches.old.items caches.new.items) }
+    ensures cut { OnErr result (AreStopped app.now name.now nothing
+        (event_cut app.now moment name.now (K.told keeper.old) sessions.old.items
+        (checks event_in (λ (e : AnEvent). e.seq) (session_of name.now sessions.old.items)
+        body.now)) (K.told keeper.new) caches.old.items caches.new.items) }
     ensures rows { AreSound app.now.names.schema (K.told keeper.new) }
     ensures shaped { K.shaped keeper.new ≡ Some app.now.names.schema }
     ensures idle { K.in_transaction keeper.new ≡ false }
@@ -200,7 +230,10 @@ fn act_event<K: Keeper, L: Ledger>(
     requires shaped { K.shaped keeper.old ≡ Some app.now.names.schema }
     requires rows { AreSound app.now.names.schema (K.told keeper.old) }
     requires idle { K.in_transaction keeper.old ≡ false }
-    ensures done { IfOk result (λ r. SendsEvent (SilenceCause (K.marks keeper.old) (K.marks keeper.new)) app.now moment name.now body.now event.now (K.told keeper.old) sessions.old.items (said r) (K.told keeper.new) sessions.new.items) }
+    ensures done { IfOk result (λ r. SendsEvent
+        (SilenceCause (K.marks keeper.old) (K.marks keeper.new)) app.now moment name.now body.now
+        event.now (K.told keeper.old) sessions.old.items (said r) (K.told keeper.new)
+        sessions.new.items) }
     ensures whole { IfOk result IsReply }
     ensures stopped { OnErr result (sessions.new.items ≡ sessions.old.items) }
     ensures left { OnErr result (Becomes K.Keeper keeper.old keeper.new Stays) }
@@ -208,8 +241,13 @@ fn act_event<K: Keeper, L: Ledger>(
     ensures replies { SessionsKeepReplies sessions.new.items }
     ensures kept { AreKept app.now (K.told keeper.new) moment sessions.new.items caches.new.items }
     ensures clean { AreLeftBeside app.now name.now any_table caches.old.items caches.new.items }
-    ensures own { IfOk result (λ r. EventLeaves (SilenceCause (K.marks keeper.old) (K.marks keeper.new)) app.now moment name.now nothing body.now (Ok event.now) (K.told keeper.old) sessions.old.items (said r) (K.told keeper.new) sessions.new.items caches.old.items caches.new.items) }
-    ensures cut { OnErr result (AreStopped app.now name.now nothing (EventCutOff app.now moment name.now event.now (K.told keeper.old) sessions.old.items) (K.told keeper.new) caches.old.items caches.new.items) }
+    ensures own { IfOk result (λ r. EventLeaves
+        (SilenceCause (K.marks keeper.old) (K.marks keeper.new)) app.now moment name.now nothing
+        body.now (Ok event.now) (K.told keeper.old) sessions.old.items (said r) (K.told keeper.new)
+        sessions.new.items caches.old.items caches.new.items) }
+    ensures cut { OnErr result (AreStopped app.now name.now nothing
+        (EventCutOff app.now moment name.now event.now (K.told keeper.old) sessions.old.items)
+        (K.told keeper.new) caches.old.items caches.new.items) }
     ensures rows { AreSound app.now.names.schema (K.told keeper.new) }
     ensures shaped { K.shaped keeper.new ≡ Some app.now.names.schema }
     ensures idle { K.in_transaction keeper.new ≡ false }
@@ -241,17 +279,24 @@ pub(crate) fn change_rows<K: Keeper>(
     body: &[u8],
 ) -> Result<Reply, KeeperEnd>
     requires sound { IsSoundApp app.now }
-    requires order { (k : ℕ) (c : Under CacheState) → slice_get caches.old.items k ≡ Some c → IsInOrder app.now c.it }
+    requires order { (k : ℕ) (c : Under CacheState) → slice_get caches.old.items k ≡ Some c
+        → IsInOrder app.now c.it }
     requires shaped { K.shaped keeper.old ≡ Some app.now.names.schema }
     requires rows { AreSound app.now.names.schema (K.told keeper.old) }
     requires idle { K.in_transaction keeper.old ≡ false }
     requires replies { KeepReplies desks.old.items }
-    ensures done { IfOk result (λ r. PostsRows (SilenceCause (K.marks keeper.old) (K.marks keeper.new)) app.now.names.schema.tables name.now body.now (K.told keeper.old) desks.old.items (said r) (K.told keeper.new) desks.new.items) }
+    ensures done { IfOk result (λ r. PostsRows
+        (SilenceCause (K.marks keeper.old) (K.marks keeper.new)) app.now.names.schema.tables
+        name.now body.now (K.told keeper.old) desks.old.items (said r) (K.told keeper.new)
+        desks.new.items) }
     ensures whole { IfOk result IsReply }
     ensures stopped { OnErr result (Becomes K.Keeper keeper.old keeper.new Stays) }
     ensures same { OnErr result (desks.new.items ≡ desks.old.items) }
-    ensures clean { AreEachLeft app.now (IsNamedBy app.now.names.schema.tables desks.old.items name.now body.now) caches.old.items caches.new.items }
-    ensures kept { (m : ℕ) (sessions : List (Under SessionState)) → AreKept app.now (K.told keeper.old) m sessions caches.old.items → AreKept app.now (K.told keeper.new) m sessions caches.new.items }
+    ensures clean { AreEachLeft app.now (IsNamedBy app.now.names.schema.tables desks.old.items
+        name.now body.now) caches.old.items caches.new.items }
+    ensures kept { (m : ℕ) (sessions : List (Under SessionState))
+        → AreKept app.now (K.told keeper.old) m sessions caches.old.items
+        → AreKept app.now (K.told keeper.new) m sessions caches.new.items }
     ensures reached { IsErrOf result Failed → ReachesRows name.now body.now desks.old.items }
     ensures cause { HasCause K.Keeper keeper.old keeper.new result }
     ensures idle { K.in_transaction keeper.new ≡ false }

@@ -1,5 +1,6 @@
 //! Sessions: they begin, end, and are shown what they ask for.
-ghost use Rattle.std.specs.Prelude.{◌≡◌, ◌<◌, [], ℕ, false, IfOk, IfSome, IsErrOf, List, OnErr, OnOk, Option, Some, option_map, vec_capacity, vec_len};
+ghost use Rattle.std.specs.Prelude.{◌≡◌, ◌<◌, [], ℕ, false, IfOk, IfSome, IsErrOf, List, OnErr};
+ghost use Rattle.std.specs.Prelude.{OnOk, Option, Some, option_map, vec_capacity, vec_len};
 ghost use Rattle.app_wire.specs.ReplyBytes.{reply};
 ghost use Rattle.numbered_requests.specs.Checked.{SessionsKeepReplies};
 ghost use Rattle.numbered_requests.specs.Directory.{find};
@@ -11,18 +12,21 @@ ghost use Rattle.app_cells.specs.declared.app.App.{App as AnApp};
 ghost use Rattle.row_keeper.specs.Over.{Becomes, HasCause};
 ghost use Rattle.row_keeper.specs.Tables.{Tables};
 ghost use Rattle.session_views.specs.Galleries.{gallery_named};
-ghost use Rattle.session_views.specs.Shows.{LiveSessionsFit, ReachesItems, ReachesView, ShowsItems, ShowsView};
+ghost use Rattle.session_views.specs.Shows.{LiveSessionsFit, ReachesItems, ReachesView, ShowsItems};
+ghost use Rattle.session_views.specs.Shows.{ShowsView};
 ghost use Rattle.recalc.specs.AskingOver.{HasRead};
 ghost use Rattle.recalc.specs.Changes.{StaysCleanExcept};
 ghost use Rattle.office.specs.Caches.{EachCacheBecame, AreKept, IsNew};
 ghost use Rattle.office.specs.Costs.{CostOfItems, CostOfNamed, CostOfView, CostsTo, counts};
-ghost use Rattle.office.specs.Leaving.{SessionsLeft, AreLeftBeside, BeginLeaves, any_table, nothing};
+ghost use Rattle.office.specs.Leaving.{SessionsLeft, AreLeftBeside, BeginLeaves, any_table};
+ghost use Rattle.office.specs.Leaving.{nothing};
 ghost use Rattle.fx_base.specs.Silence.{SilenceCause};
 ghost use Rattle.fx_base.specs.Telling.{Stays};
 ghost use Rattle.row_requests.specs.Sound.{AreSound};
 ghost use Rattle.session_requests.specs.Opening.{CanOpen};
 ghost use Rattle.row_keeper.specs.declared.keeper.KeeperEnd.TheVariants.{Failed};
-ghost use Rattle.office.specs.Sessions.{BeginsSession, ReachesBegin, ReachesNamed, ShowsNamed, begin_checks, sessions_without};
+ghost use Rattle.office.specs.Sessions.{BeginsSession, ReachesBegin, ReachesNamed, ShowsNamed};
+ghost use Rattle.office.specs.Sessions.{begin_checks, sessions_without};
 
 use crate::app_semantics::fitting_holds;
 use crate::keeping::{new_cache, touch_others};
@@ -43,9 +47,9 @@ use view_text::ok_json;
 /// The most sessions that live at a time.
 pub const MOST_SESSIONS: usize = 256;
 
-/// Opens a session, if it isn't live: the formulas act that an app has for this, in one transaction of the keeper. It gets a
-/// cache, and those of the others are told which tables were written. What stops leaves the sessions and the tables. `Failed`
-/// only where the keeper counted a fault.
+/// Opens a session, if it isn't live: the formulas act that an app has for this, in one transaction
+/// of the keeper. It gets a cache, and those of the others are told which tables were written. What
+/// stops leaves the sessions and the tables. `Failed` only where the keeper counted a fault.
 #[tactic(auto, using(crate::proofs::Leaving::beside_same, crate::proofs::Leaving::left_unchanged))]
 pub(crate) fn begin<K: Keeper, L: Ledger>(
     alloc: Global,
@@ -65,7 +69,9 @@ pub(crate) fn begin<K: Keeper, L: Ledger>(
     requires shaped { K.shaped keeper.old ≡ Some app.now.names.schema }
     requires rows { AreSound app.now.names.schema (K.told keeper.old) }
     requires idle { K.in_transaction keeper.old ≡ false }
-    ensures done { IfOk result (λ r. BeginsSession (SilenceCause (K.marks keeper.old) (K.marks keeper.new)) app.now moment name.now (K.told keeper.old) sessions.old.items (said r) (K.told keeper.new) sessions.new.items) }
+    ensures done { IfOk result (λ r. BeginsSession
+        (SilenceCause (K.marks keeper.old) (K.marks keeper.new)) app.now moment name.now
+        (K.told keeper.old) sessions.old.items (said r) (K.told keeper.new) sessions.new.items) }
     ensures whole { IfOk result IsReply }
     ensures reached { IsErrOf result Failed → ReachesBegin name.now sessions.old.items }
     ensures stopped { OnErr result (sessions.new.items ≡ sessions.old.items) }
@@ -74,7 +80,10 @@ pub(crate) fn begin<K: Keeper, L: Ledger>(
     ensures replies { SessionsKeepReplies sessions.new.items }
     ensures kept { AreKept app.now (K.told keeper.new) moment sessions.new.items caches.new.items }
     ensures clean { AreLeftBeside app.now name.now any_table caches.old.items caches.new.items }
-    ensures others { IfOk result (λ r. BeginLeaves (SilenceCause (K.marks keeper.old) (K.marks keeper.new)) app.now moment name.now nothing (begin_checks name.now sessions.old.items) (K.told keeper.old) sessions.old.items (said r) (K.told keeper.new) sessions.new.items caches.old.items caches.new.items) }
+    ensures others { IfOk result (λ r. BeginLeaves
+        (SilenceCause (K.marks keeper.old) (K.marks keeper.new)) app.now moment name.now nothing
+        (begin_checks name.now sessions.old.items) (K.told keeper.old) sessions.old.items (said r)
+        (K.told keeper.new) sessions.new.items caches.old.items caches.new.items) }
     ensures cut { OnErr result (SessionsLeft app.now nothing caches.old.items caches.new.items) }
     ensures rows { AreSound app.now.names.schema (K.told keeper.new) }
     ensures shaped { K.shaped keeper.new ≡ Some app.now.names.schema }
@@ -120,7 +129,8 @@ fn said_unopened(
     Ok(None)
 }
 
-/// What is made for a session before it is opened: the reply, its name for it and for its cache, and the cache.
+/// What is made for a session before it is opened: the reply, its name for it and for its cache,
+/// and the cache.
 #[derive(Drop)]
 struct Prepared {
     reply: Reply,
@@ -129,7 +139,8 @@ struct Prepared {
     cache: Cache,
 }
 
-/// Takes all memory for a session before its transaction ends, so that want of it opens none: room for it and for its cache too.
+/// Takes all memory for a session before its transaction ends, so that want of it opens none: room
+/// for it and for its cache too.
 fn prepare(
     alloc: Global,
     app: &App,
@@ -170,10 +181,15 @@ pub(crate) fn end(
     name: &Words,
 ) -> Result<Reply, Memory>
     ensures said { IfOk result (λ r. said r ≡ reply 200 ok_text) }
-    ensures done { IfOk result (λ r. sessions.new.items ≡ sessions_without name.now sessions.old.items) }
-    ensures fit { (names : Known) → LiveSessionsFit names sessions.old.items → LiveSessionsFit names sessions.new.items }
-    ensures replies { SessionsKeepReplies sessions.old.items → SessionsKeepReplies sessions.new.items }
-    ensures kept { (app : AnApp) (told : Option Tables) (m : ℕ) → AreKept app told m sessions.old.items caches.old.items → AreKept app told m sessions.new.items caches.new.items }
+    ensures done { IfOk result (λ r. sessions.new.items
+        ≡ sessions_without name.now sessions.old.items) }
+    ensures fit { (names : Known) → LiveSessionsFit names sessions.old.items
+        → LiveSessionsFit names sessions.new.items }
+    ensures replies { SessionsKeepReplies sessions.old.items
+        → SessionsKeepReplies sessions.new.items }
+    ensures kept { (app : AnApp) (told : Option Tables) (m : ℕ)
+        → AreKept app told m sessions.old.items caches.old.items
+        → AreKept app told m sessions.new.items caches.new.items }
     ensures clean { (app : AnApp) → SessionsLeft app nothing caches.old.items caches.new.items }
     ensures whole { IfOk result IsReply }
     ensures stopped { OnErr result (sessions.new.items ≡ sessions.old.items) }
@@ -191,7 +207,8 @@ fn remove<T: Drop>(list: &mut Vec<Named<T>>, name: &Words)
     list.retain(|named| !named.name.is(name));
 }
 
-/// Shows a live session its view, as it is at a moment over the rows of a keeper. `Failed` only where it counted a fault.
+/// Shows a live session its view, as it is at a moment over the rows of a keeper. `Failed` only
+/// where it counted a fault.
 #[tactic(auto, using(crate::proofs::StepLemmas::read_nothing, crate::proofs::Leaving::each_same))]
 pub(crate) fn show_view_to<K: Keeper, L: Ledger>(
     alloc: Global,
@@ -207,12 +224,18 @@ pub(crate) fn show_view_to<K: Keeper, L: Ledger>(
     requires fit { LiveSessionsFit app.now.names sessions.now }
     requires kept { AreKept app.now (K.told keeper.old) moment sessions.now caches.old.items }
     requires shaped { K.shaped keeper.old ≡ Some app.now.names.schema }
-    ensures done { IfOk result (λ r. ShowsView (SilenceCause (K.marks keeper.old) (K.marks keeper.new)) moment app.now name.now sessions.now (K.told keeper.old) (said r) (K.told keeper.new)) }
+    ensures done { IfOk result (λ r. ShowsView
+        (SilenceCause (K.marks keeper.old) (K.marks keeper.new)) moment app.now name.now
+        sessions.now (K.told keeper.old) (said r) (K.told keeper.new)) }
     ensures whole { IfOk result IsReply }
     ensures reached { IsErrOf result Failed → ReachesView name.now sessions.now }
     ensures kept { AreKept app.now (K.told keeper.new) moment sessions.now caches.new.items }
-    ensures clean { EachCacheBecame (λ k. StaysCleanExcept app.now []) caches.old.items caches.new.items }
-    ensures costs { IfOk result (λ r. CostsTo (CostOfView app.now (K.told keeper.new) moment (said r)) name.now (find name.now sessions.now) caches.old.items caches.new.items (counts steps.old (K.visited keeper.old)) (counts steps.new (K.visited keeper.new))) }
+    ensures clean { EachCacheBecame (λ k. StaysCleanExcept app.now []) caches.old.items
+        caches.new.items }
+    ensures costs { IfOk result (λ r. CostsTo
+        (CostOfView app.now (K.told keeper.new) moment (said r)) name.now
+        (find name.now sessions.now) caches.old.items caches.new.items
+        (counts steps.old (K.visited keeper.old)) (counts steps.new (K.visited keeper.new))) }
     ensures read { HasRead K.Keeper keeper.old keeper.new }
     ensures cause { HasCause K.Keeper keeper.old keeper.new result }
 {
@@ -231,8 +254,8 @@ pub(crate) fn show_view_to<K: Keeper, L: Ledger>(
     )
 }
 
-/// Shows a live session the items of a gallery from a position on, of which 0 counts as 1. `Failed` only where the keeper counted
-/// a fault.
+/// Shows a live session the items of a gallery from a position on, of which 0 counts as 1. `Failed`
+/// only where the keeper counted a fault.
 #[tactic(auto, using(crate::proofs::StepLemmas::read_nothing, crate::proofs::Leaving::each_same))]
 pub(crate) fn show_items_to<K: Keeper, L: Ledger>(
     alloc: Global,
@@ -250,12 +273,19 @@ pub(crate) fn show_items_to<K: Keeper, L: Ledger>(
     requires fit { LiveSessionsFit app.now.names sessions.now }
     requires kept { AreKept app.now (K.told keeper.old) moment sessions.now caches.old.items }
     requires shaped { K.shaped keeper.old ≡ Some app.now.names.schema }
-    ensures done { IfOk result (λ r. ShowsItems (SilenceCause (K.marks keeper.old) (K.marks keeper.new)) moment app.now name.now gallery.now from sessions.now (K.told keeper.old) (said r) (K.told keeper.new)) }
+    ensures done { IfOk result (λ r. ShowsItems
+        (SilenceCause (K.marks keeper.old) (K.marks keeper.new)) moment app.now name.now gallery.now
+        from sessions.now (K.told keeper.old) (said r) (K.told keeper.new)) }
     ensures whole { IfOk result IsReply }
     ensures reached { IsErrOf result Failed → ReachesItems app.now name.now gallery.now sessions.now }
     ensures kept { AreKept app.now (K.told keeper.new) moment sessions.now caches.new.items }
-    ensures clean { EachCacheBecame (λ k. StaysCleanExcept app.now []) caches.old.items caches.new.items }
-    ensures costs { IfOk result (λ r. CostsTo (CostOfItems app.now (K.told keeper.new) moment from (gallery_named gallery.now app.now.names) (said r)) name.now (find name.now sessions.now) caches.old.items caches.new.items (counts steps.old (K.visited keeper.old)) (counts steps.new (K.visited keeper.new))) }
+    ensures clean { EachCacheBecame (λ k. StaysCleanExcept app.now []) caches.old.items
+        caches.new.items }
+    ensures costs { IfOk result (λ r. CostsTo
+        (CostOfItems app.now (K.told keeper.new) moment from
+        (gallery_named gallery.now app.now.names) (said r)) name.now (find name.now sessions.now)
+        caches.old.items caches.new.items (counts steps.old (K.visited keeper.old))
+        (counts steps.new (K.visited keeper.new))) }
     ensures read { HasRead K.Keeper keeper.old keeper.new }
     ensures cause { HasCause K.Keeper keeper.old keeper.new result }
 {
@@ -285,12 +315,17 @@ pub(crate) fn show_named<K: Keeper, L: Ledger>(
     requires fit { LiveSessionsFit app.now.names sessions.now }
     requires kept { AreKept app.now (K.told keeper.old) moment sessions.now caches.old.items }
     requires shaped { K.shaped keeper.old ≡ Some app.now.names.schema }
-    ensures done { IfOk result (λ r. ShowsNamed (SilenceCause (K.marks keeper.old) (K.marks keeper.new)) moment app.now name.now sessions.now (K.told keeper.old) (said r) (K.told keeper.new)) }
+    ensures done { IfOk result (λ r. ShowsNamed
+        (SilenceCause (K.marks keeper.old) (K.marks keeper.new)) moment app.now name.now
+        sessions.now (K.told keeper.old) (said r) (K.told keeper.new)) }
     ensures whole { IfOk result IsReply }
     ensures reached { IsErrOf result Failed → ReachesNamed name.now sessions.now }
     ensures kept { AreKept app.now (K.told keeper.new) moment sessions.now caches.new.items }
-    ensures clean { EachCacheBecame (λ k. StaysCleanExcept app.now []) caches.old.items caches.new.items }
-    ensures costs { OnOk result (CostsTo (CostOfNamed app.now (K.told keeper.new) moment) name.now (find name.now sessions.now) caches.old.items caches.new.items (counts steps.old (K.visited keeper.old)) (counts steps.new (K.visited keeper.new))) }
+    ensures clean { EachCacheBecame (λ k. StaysCleanExcept app.now []) caches.old.items
+        caches.new.items }
+    ensures costs { OnOk result (CostsTo (CostOfNamed app.now (K.told keeper.new) moment) name.now
+        (find name.now sessions.now) caches.old.items caches.new.items
+        (counts steps.old (K.visited keeper.old)) (counts steps.new (K.visited keeper.new))) }
     ensures read { HasRead K.Keeper keeper.old keeper.new }
     ensures cause { HasCause K.Keeper keeper.old keeper.new result }
 {

@@ -38,8 +38,9 @@ fn words(rt: &(impl Env + AllocGlobal)) -> io::Result<Vec<String>> {
     Ok(env::args(rt)?.skip(1).collect(rt.alloc())?)
 }
 
-/// A run over the system's files and its clock. On a port it serves rows in SQLite, and says what it has to say on standard
-/// error. A replay answers on standard output, with rows in memory, and speaks on standard error too.
+/// A run over the system's files and its clock. On a port it serves rows in SQLite, and says what
+/// it has to say on standard error. A replay answers on standard output, with rows in memory, and
+/// speaks on standard error too.
 fn run_words<L: Ledger>(rt: &HostRuntime, words: &[String], blank: Blank) -> Status
     requires name { blank.name ≡ L.name }
     requires parts { blank.parts ≡ L.parts }

@@ -20,8 +20,18 @@ pub record Keeping : Type 0 where
   pub visited : ℕ
   pub loan : Option ℕ
 
-abbrev pub keeping : Option Tables → Option Tables → Option Schema → Bool → Marks → ℕ → Option ℕ → Keeping
-keeping told began shaped in_transaction marks visited loan = record { told = told; began = began; shaped = shaped; in_transaction = in_transaction; marks = marks; visited = visited; loan = loan }
+abbrev pub keeping : Option Tables → Option Tables → Option Schema → Bool → Marks → ℕ → Option ℕ
+    → Keeping
+keeping told began shaped in_transaction marks visited loan
+    = record {
+      told = told;
+      began = began;
+      shaped = shaped;
+      in_transaction = in_transaction;
+      marks = marks;
+      visited = visited;
+      loan = loan;
+    }
 
 -- nothing changed, but that it may have fallen silent, and counted faults
 pub record HasRead (a b : Keeping) : Type 0 where
@@ -45,6 +55,7 @@ IsHeardOf told tables = IsHeard (rows_told told) tables
 abbrev pub ReadsNone : App → Type 0
 ReadsNone a = (k : ℕ) (c : CellInfo) → slice_get a.cells k ≡ Some c → reads_table c.reads ≡ false
 
--- a keeper can be asked for the rows that the formulas of an app read: it is shaped by the app's schema, or they read none
+-- a keeper can be asked for the rows that the formulas of an app read: it is shaped by the app's
+-- schema, or they read none
 abbrev pub CanAsk : App → Option Schema → Type 0
 CanAsk a shaped = (shaped ≡ Some a.names.schema) ⊎ ReadsNone a

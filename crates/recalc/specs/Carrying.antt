@@ -1,5 +1,6 @@
 -- What is kept as an app is edited.
-use Rattle.std.specs.Prelude.{◌≡◌, ◌↔◌, ◌⊎◌, ◌<◌, ℕ, zero, suc, List, [], length, true, Option, Some, None, IsSome, slice_get, slice_set, bytes_eq}
+use Rattle.std.specs.Prelude.{◌≡◌, ◌↔◌, ◌⊎◌, ◌<◌, ℕ, zero, suc, List, [], length, true, Option}
+use Rattle.std.specs.Prelude.{Some, None, IsSome, slice_get, slice_set, bytes_eq}
 use Rattle.std.specs.List.{position, slice_index_or}
 use Rattle.fx_types.specs.TypeView.{shape}
 use Rattle.fx_types.specs.Values.{Data, blank}
@@ -17,10 +18,12 @@ use Rattle.recalc.specs.app_semantics.Needed.{Needs, is_alone, stands_alone}
 use Rattle.recalc.specs.app_semantics.Present.{present}
 use Rattle.session_state.specs.Carrying.{AreAlike, carried, collection_was, variable_was, was_at}
 use Rattle.session_state.specs.Sessions.{SessionState}
-use Rattle.recalc.specs.Kept.{IsClean, IsInOrder, IsRight, CacheState, Leans, stamp_of, cached_value}
+use Rattle.recalc.specs.Kept.{IsClean, IsInOrder, IsRight, CacheState, Leans, stamp_of}
+use Rattle.recalc.specs.Kept.{cached_value}
 use Rattle.recalc.specs.declared.stamps.Stamp.{Stamp}
 
--- an app that was edited: it has the tables, the screens and the controls that it had, and its limit
+-- an app that was edited: it has the tables, the screens and the controls that it had, and its
+-- limit
 pub record IsEditOf (old new : App) : Type 0 where
   pub alike : AreAlike old.names new.names
   pub schema : new.names.schema ≡ old.names.schema
@@ -34,7 +37,8 @@ place_of_cell a y = position (λ (x : CellInfo). bytes_eq x.cell.name y.cell.nam
 
 -- where a cell of the edited app was: the one of its address, if that has the same type
 abbrev pub cell_was : App → App → ℕ → Option ℕ
-cell_was old new k = was_at (λ (c : CellInfo). c.ty) (place_of_cell old) (place_of_cell new) old.cells new.cells k
+cell_was old new k = was_at (λ (c : CellInfo). c.ty) (place_of_cell old) (place_of_cell new)
+    old.cells new.cells k
 
 -- where each cell of the edited app was
 abbrev pub AreOldPlaces : App → App → List (Option ℕ) → Type 0
@@ -50,15 +54,22 @@ IsOldBehind old new (Some k) (Some j) = IsOldOne old new k j
 IsOldBehind old new None None = Unit {0}
 IsOldBehind old new k j = ⊥
 
--- A source of the edited app was this one before, and has the value that it had, where cells have. An input or a chosen item is
--- the old one where what gives it its default, or its items, is.
+-- A source of the edited app was this one before, and has the value that it had, where cells have.
+-- An input or a chosen item is the old one where what gives it its default, or its items, is.
 abbrev pub IsOldSource : App → App → Source → Source → Type 0
 IsOldSource old new (source.Cell k) (source.Cell j) = IsOldOne old new k j
-IsOldSource old new (source.Global k) (source.Global j) = variable_was old.names new.names k ≡ Some j
-IsOldSource old new (source.Context k) (source.Context j) = variable_was old.names new.names k ≡ Some j
-IsOldSource old new (source.Gathered k) (source.Gathered j) = collection_was old.names new.names k ≡ Some j
-IsOldSource old new (source.Input k) (source.Input j) = (k ≡ j) × IsOldBehind old new (cell_behind new.names (source.Input k)) (cell_behind old.names (source.Input j))
-IsOldSource old new (source.Chosen k) (source.Chosen j) = (k ≡ j) × IsOldBehind old new (cell_behind new.names (source.Chosen k)) (cell_behind old.names (source.Chosen j))
+IsOldSource old new (source.Global k) (source.Global j)
+    = variable_was old.names new.names k ≡ Some j
+IsOldSource old new (source.Context k) (source.Context j)
+    = variable_was old.names new.names k ≡ Some j
+IsOldSource old new (source.Gathered k) (source.Gathered j)
+    = collection_was old.names new.names k ≡ Some j
+IsOldSource old new (source.Input k) (source.Input j)
+    = (k ≡ j) × IsOldBehind old new (cell_behind new.names (source.Input k))
+    (cell_behind old.names (source.Input j))
+IsOldSource old new (source.Chosen k) (source.Chosen j)
+    = (k ≡ j) × IsOldBehind old new (cell_behind new.names (source.Chosen k))
+    (cell_behind old.names (source.Chosen j))
 IsOldSource old new (source.Table k) (source.Table j) = k ≡ j
 IsOldSource old new source.Today source.Today = Unit {0}
 IsOldSource old new s r = ⊥
@@ -112,10 +123,12 @@ pub record IsLeft (old new : App) (before after : CellInfo) : Type 0 where
   pub alone : stands_alone before ≡ true
   pub still : stands_alone after ≡ true
   pub told : reads_table after.reads ≡ reads_table before.reads
-  pub reads : (x : Source) → IsAmong x after.reads → (r : Source) × IsAmong r before.reads × IsOldSource old new x r
+  pub reads : (x : Source) → IsAmong x after.reads
+      → (r : Source) × IsAmong r before.reads × IsOldSource old new x r
   pub tree : IsOldTree (IsOldSource old new) after.taken before.taken
 
--- A cell of the edited app is this one of before: both have one address and one type, and the formula was left.
+-- A cell of the edited app is this one of before: both have one address and one type, and the
+-- formula was left.
 pub record IsOldCell (old new : App) (j k : ℕ) : Type 0 where
   pub was : cell_was old new k ≡ Some j
   pub before : CellInfo
@@ -125,10 +138,12 @@ pub record IsOldCell (old new : App) (j k : ℕ) : Type 0 where
   pub ty : shape after.ty ≡ shape before.ty
   pub left : IsLeft old new before after
 
--- UNTOUCHED BY AN EDIT: a cell is the old one, and so is each that it needs and that has a value by itself. Then it reaches no formula that differs or that is
--- new, and no variable or collection that loses its value.
+-- UNTOUCHED BY AN EDIT: a cell is the old one, and so is each that it needs and that has a value by
+-- itself. Then it reaches no formula that differs or that is new, and no variable or collection
+-- that loses its value.
 abbrev pub IsUntouched : App → App → ℕ → Type 0
-IsUntouched old new k = (d : ℕ) → Needs new k d → is_alone new.cells d ≡ true → (c : ℕ) × IsOldCell old new c d
+IsUntouched old new k = (d : ℕ) → Needs new k d → is_alone new.cells d ≡ true
+    → (c : ℕ) × IsOldCell old new c d
 
 -- for each cell of the edited app the old one, where that is the same
 pub record AreOldCells (old new : App) (cells : List (Option ℕ)) : Type 0 where
@@ -151,20 +166,27 @@ received c k v moved = record c {
 abbrev pub AreHad : App → CacheState → ℕ → Type 0
 AreHad a c k = (d : ℕ) → Leans a k d → IsSome (stamp_of c d)
 
--- ONE CELL went over: it was clean and all is kept there on which it leans, and the value went from the one cache to the other;
--- or it was not so, and both are as they were
-abbrev pub IsCarriedAt : App → App → ℕ → ℕ → CacheState → CacheState → CacheState → CacheState → Type 0
+-- ONE CELL went over: it was clean and all is kept there on which it leans, and the value went from
+-- the one cache to the other; or it was not so, and both are as they were
+abbrev pub IsCarriedAt : App → App → ℕ → ℕ → CacheState → CacheState → CacheState → CacheState
+    → Type 0
 IsCarriedAt old new j k from left before after =
-    ((e : Stamp) × (stamp_of from j ≡ Some e) × IsClean old from j × AreHad new before k × (left ≡ taken_from from j) × (after ≡ received before k (cached_value from j) e.moved))
+    ((e : Stamp) × (stamp_of from j ≡ Some e) × IsClean old from j × AreHad new before k
+    × (left ≡ taken_from from j) × (after ≡ received before k (cached_value from j) e.moved))
     ⊎ ((IsClean old from j → AreHad new before k → ⊥) × (left ≡ from) × (after ≡ before))
 
--- CARRIED to an edited app: kept are the cells that were clean and that the edit left, with their values and since when they have
--- them, and they are clean. No other cell is. Over the sessions that are carried what was right is right.
+-- CARRIED to an edited app: kept are the cells that were clean and that the edit left, with their
+-- values and since when they have them, and they are clean. No other cell is. Over the sessions
+-- that are carried what was right is right.
 pub record IsCarried (old new : App) (before after : CacheState) : Type 0 where
   pub emptied : after.emptied ≡ before.emptied
   pub last : after.last ≡ before.last
   pub day : after.values.day ≡ before.values.day
   pub order : IsInOrder new after
-  pub clean : (k : ℕ) → IsClean new after k ↔ ((j : ℕ) × IsOldCell old new j k × IsUntouched old new k × IsClean old before j)
-  pub moved : (k j : ℕ) (e f : Stamp) → cell_was old new k ≡ Some j → stamp_of after k ≡ Some e → stamp_of before j ≡ Some f → e.moved ≡ f.moved
-  pub right : (s : SessionState) (tables : ToldRows) (m : ℕ) → HoldsFitting old.names s → IsRight (present old s tables m) [] before → IsRight (present new (carried old.names new.names s) tables m) [] after
+  pub clean : (k : ℕ) → IsClean new after k ↔ ((j : ℕ) × IsOldCell old new j k
+      × IsUntouched old new k × IsClean old before j)
+  pub moved : (k j : ℕ) (e f : Stamp) → cell_was old new k ≡ Some j → stamp_of after k ≡ Some e
+      → stamp_of before j ≡ Some f → e.moved ≡ f.moved
+  pub right : (s : SessionState) (tables : ToldRows) (m : ℕ) → HoldsFitting old.names s
+      → IsRight (present old s tables m) [] before
+      → IsRight (present new (carried old.names new.names s) tables m) [] after

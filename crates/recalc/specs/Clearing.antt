@@ -1,5 +1,7 @@
--- Stamps are taken away from the cells that reach one: by the order each of them is marked, and then the marks go.
-use Rattle.std.specs.Prelude.{◌≡◌, ◌⊎◌, ◌^◌, ◌-◌, ℕ, Bool, true, false, Option, Some, None, if◌then◌else◌, length, nat_eq, slice_get, slice_set}
+-- Stamps are taken away from the cells that reach one: by the order each of them is marked, and
+-- then the marks go.
+use Rattle.std.specs.Prelude.{◌≡◌, ◌⊎◌, ◌^◌, ◌-◌, ℕ, Bool, true, false, Option, Some, None}
+use Rattle.std.specs.Prelude.{if◌then◌else◌, length, nat_eq, slice_get, slice_set}
 use Rattle.recalc.specs.app_cells.Leaning.{LeansOn}
 use Rattle.recalc.specs.app_cells.declared.app.App.{App}
 use Rattle.recalc.specs.app_cells.declared.app.CellInfo.{CellInfo}
@@ -26,15 +28,20 @@ is_marked_cell c k = is_mark_stamp (stamp_of c k)
 
 -- it was marked
 abbrev pub marked : CacheState → ℕ → CacheState
-marked c k = record c { stamps = slice_set c.stamps k (Some (record { checked = greatest_stamp; moved = greatest_stamp })) }
+marked c k = record c {
+  stamps = slice_set c.stamps k
+      (Some (record { checked = greatest_stamp; moved = greatest_stamp }));
+}
 
 -- a cell is this one, or leans on one that is marked
 abbrev pub IsToMark : App → ℕ → CacheState → ℕ → Type 0
-IsToMark a x c k = (k ≡ x) ⊎ ((i : CellInfo) × (d : ℕ) × (slice_get a.cells k ≡ Some i) × LeansOn a.names i d × (is_marked_cell c d ≡ true))
+IsToMark a x c k = (k ≡ x) ⊎ ((i : CellInfo) × (d : ℕ) × (slice_get a.cells k ≡ Some i)
+    × LeansOn a.names i d × (is_marked_cell c d ≡ true))
 
 -- such a cell was marked, and any other was left
 abbrev pub IsMarkedIf : App → ℕ → ℕ → CacheState → CacheState → Type 0
-IsMarkedIf a x k old new = (IsToMark a x old k × (new ≡ marked old k)) ⊎ ((IsToMark a x old k → ⊥) × (new ≡ old))
+IsMarkedIf a x k old new = (IsToMark a x old k × (new ≡ marked old k))
+    ⊎ ((IsToMark a x old k → ⊥) × (new ≡ old))
 
 -- THE MARKS WENT, and nothing else
 pub record AreUnmarked (old new : CacheState) : Type 0 where

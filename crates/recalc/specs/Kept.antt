@@ -1,5 +1,6 @@
 -- Kept values, and the numbers by which it is known which of them stand.
-use Rattle.std.specs.Prelude.{◌≡◌, ◌+◌, ◌*◌, ◌<◌, ◌≤◌, ◌^◌, ℕ, List, length, true, false, Option, Some, None, slice_get, slice_index, slice_index_or}
+use Rattle.std.specs.Prelude.{◌≡◌, ◌+◌, ◌*◌, ◌<◌, ◌≤◌, ◌^◌, ℕ, List, length, true, false, Option}
+use Rattle.std.specs.Prelude.{Some, None, slice_get, slice_index, slice_index_or}
 use Rattle.fx_types.specs.Values.{Data, blank}
 use Rattle.fx_core.specs.Reads.{IsAmong, source_number, source_rank}
 use Rattle.fx_core.specs.declared.names.Names.{Names}
@@ -22,8 +23,9 @@ pub record CacheRoom : Type 0 where
   pub stamps : ℕ
   pub values : ℕ
 
--- A CACHE: how often all numbers were given anew; the last number that was given; by the place of each source, the number of its
--- last change; of each cell that is kept the stamp; the values of all cells, with the day; and the room beside them.
+-- A CACHE: how often all numbers were given anew; the last number that was given; by the place of
+-- each source, the number of its last change; of each cell that is kept the stamp; the values of
+-- all cells, with the day; and the room beside them.
 pub record CacheState : Type 0 where
   pub emptied : ℕ
   pub last : ℕ
@@ -83,13 +85,15 @@ IsClean a c k = (e : Stamp) × (stamp_of c k ≡ Some e) × IsCurrent a c k e.ch
 
 -- a cell leans on another that has a value by itself
 abbrev pub Leans : App → ℕ → ℕ → Type 0
-Leans a k d = (i : CellInfo) × (slice_get a.cells k ≡ Some i) × LeansOn a.names i d × (is_alone a.cells d ≡ true)
+Leans a k d = (i : CellInfo) × (slice_get a.cells k ≡ Some i) × LeansOn a.names i d
+    × (is_alone a.cells d ≡ true)
 
 -- it is kept, and has had its value since this number
 abbrev pub IsSettled : CacheState → ℕ → ℕ → Type 0
 IsSettled c d n = (f : Stamp) × (stamp_of c d ≡ Some f) × (f.moved ≤ n)
 
--- UNMOVED: no source that a formula names changed after this number, and no cell on which it leans got another value
+-- UNMOVED: no source that a formula names changed after this number, and no cell on which it leans
+-- got another value
 pub record IsUnmoved (a : App) (c : CacheState) (i : CellInfo) (n : ℕ) : Type 0 where
   pub sources : (s : Source) → is_cell s ≡ false → IsAmong s i.reads → version_of c s ≤ n
   pub cells : (d : ℕ) → LeansOn a.names i d → is_alone a.cells d ≡ true → IsSettled c d n
@@ -110,9 +114,9 @@ pub record AreLow (c : CacheState) : Type 0 where
   pub checked : (k : ℕ) (e : Stamp) → stamp_of c k ≡ Some e → e.checked ≤ c.last
   pub moved : (k : ℕ) (e : Stamp) → stamp_of c k ≡ Some e → e.moved ≤ c.last
 
--- IN ORDER, whatever the session and the tables are: there is a place for each cell and each source; a value fits its cell; a
--- formula that has no value by itself isn't kept, and is blank; and what a clean cell leans on is clean, and didn't move since
--- it was checked.
+-- IN ORDER, whatever the session and the tables are: there is a place for each cell and each
+-- source; a value fits its cell; a formula that has no value by itself isn't kept, and is blank;
+-- and what a clean cell leans on is clean, and didn't move since it was checked.
 pub record IsInOrder (a : App) (c : CacheState) : Type 0 where
   pub few : length a.cells ≤ 2000
   pub stamps : length c.stamps ≡ length a.cells
@@ -121,11 +125,15 @@ pub record IsInOrder (a : App) (c : CacheState) : Type 0 where
   pub fits : CellsFit a (cached_value c)
   pub bare : (k : ℕ) → is_alone a.cells k ≡ false → cached_value c k ≡ blank
   pub alone : (k : ℕ) (e : Stamp) → stamp_of c k ≡ Some e → is_alone a.cells k ≡ true
-  pub leans : (k d : ℕ) (e : Stamp) → stamp_of c k ≡ Some e → IsCurrent a c k e.checked → Leans a k d → IsClean a c d × IsSettled c d e.checked
+  pub leans : (k d : ℕ) (e : Stamp) → stamp_of c k ≡ Some e → IsCurrent a c k e.checked
+      → Leans a k d → IsClean a c d × IsSettled c d e.checked
   pub low : AreLow c
 
--- RIGHT over a present: it is in order, and the value of each kept cell is that of its formula over what is kept, where nothing
--- moved since it was checked. Left out are the cells that name sources of which a change is still to be told.
+-- RIGHT over a present: it is in order, and the value of each kept cell is that of its formula over
+-- what is kept, where nothing moved since it was checked. Left out are the cells that name sources
+-- of which a change is still to be told.
 pub record IsRight (p : Present) (pending : List Source) (c : CacheState) : Type 0 where
   pub order : IsInOrder p.app c
-  pub valid : (k : ℕ) (e : Stamp) (i : CellInfo) → stamp_of c k ≡ Some e → slice_get p.app.cells k ≡ Some i → NamesNone pending i → IsUnmoved p.app c i e.checked → IsCellValue p (cached_value c) i (cached_value c k)
+  pub valid : (k : ℕ) (e : Stamp) (i : CellInfo) → stamp_of c k ≡ Some e
+      → slice_get p.app.cells k ≡ Some i → NamesNone pending i → IsUnmoved p.app c i e.checked
+      → IsCellValue p (cached_value c) i (cached_value c k)

@@ -10,10 +10,18 @@ use Rattle.row_queries.specs.declared.rows.Row.{Row}
 
 -- all rows of a table
 abbrev pub whole_table : ℕ → Query
-whole_table k = record { table = k; column = 0; ranges = everything; test = always; order = None; take = None }
+whole_table k = record {
+  table = k;
+  column = 0;
+  ranges = everything;
+  test = always;
+  order = None;
+  take = None;
+}
 
 -- the value of a table: that of rows which it can hold, and of the told ones where rows are told
-pub record IsTableValue (shapes : List TableShape) (told : Option (List (List Row))) (k : ℕ) (v : Data) : Type 0 where
+pub record IsTableValue (shapes : List TableShape) (told : Option (List (List Row))) (k : ℕ)
+    (v : Data) : Type 0 where
   pub table : TableShape
   pub is_table : slice_get shapes k ≡ Some table
   pub rows : List Row

@@ -1,5 +1,6 @@
 -- What a formula reads: the types and values of the sources that stand in it.
-use Rattle.std.specs.Prelude.{ℕ, List, [], ◌∷◌, Bool, true, false, ◌&&◌, nat_eq, Option, Some, None, slice_index_or}
+use Rattle.std.specs.Prelude.{ℕ, List, [], ◌∷◌, Bool, true, false, ◌&&◌, nat_eq, Option, Some, None}
+use Rattle.std.specs.Prelude.{slice_index_or}
 use Rattle.std.specs.List.{list_any}
 use Rattle.app_semantics.specs.Telling.{told_on}
 use Rattle.fx_types.specs.Types.{Shape}
@@ -38,7 +39,13 @@ types_on n reads told (source.Table k) = None
 types_on n reads told x = type_by (is_source_among x reads) (sources n x) (told x)
 
 abbrev pub fixed_on : Names → List Source → (Source → Data) → Schema → ℕ → Fixed
-fixed_on n reads told schema limit = record { types = types_on n reads told; schema = schema; limit = limit; loans = []; in_transaction = false }
+fixed_on n reads told schema limit = record {
+  types = types_on n reads told;
+  schema = schema;
+  limit = limit;
+  loans = [];
+  in_transaction = false;
+}
 
 -- values alone are told
 abbrev pub told_values : (Source → Data) → EnvState (Unit {0})
@@ -55,18 +62,32 @@ abbrev pub types_over : Names → List Source → (Source → Data) → Source �
 types_over n reads told (source.Table k) = table_type n.schema k
 types_over n reads told x = types_on n reads told x
 
--- the loan through which a keeper is used, and the one through which that keeper uses another, if it does
+-- the loan through which a keeper is used, and the one through which that keeper uses another, if
+-- it does
 abbrev pub loans_of : ℕ → Option ℕ → List (Option ℕ)
 loans_of name loan = Some name ∷ loan ∷ []
 
 abbrev pub fixed_over : Names → List Source → (Source → Data) → ℕ → List (Option ℕ) → Bool → Fixed
 fixed_over n reads told limit loans in_transaction =
-    record { types = types_over n reads told; schema = n.schema; limit = limit; loans = loans; in_transaction = in_transaction }
+    record {
+      types = types_over n reads told;
+      schema = n.schema;
+      limit = limit;
+      loans = loans;
+      in_transaction = in_transaction;
+    }
 
 -- all that a keeper tells: its tables, and what they were as its transaction began
 abbrev pub KeeperState : Type 0
 KeeperState = Tables × Option Tables
 
 -- the values of sources, tables among them, the rows of tables, and all that a keeper tells
-abbrev pub told_over : Data → Names → SessionState → List Data → Option Tables → Tables → EnvState KeeperState
-told_over day n s values began t = record { values = told_on day n s (Some (rows_of_tables t.states)) (cell_value values); tables = rows_of_tables t.states; beside = (t, began) }
+abbrev pub told_over : Data → Names → SessionState → List Data → Option Tables → Tables
+    → EnvState KeeperState
+told_over day n s values began t = record {
+  values = told_on day n s
+      (Some (rows_of_tables t.states)) (cell_value values);
+  tables = rows_of_tables t.states;
+  beside
+      = (t, began);
+}

@@ -4,7 +4,8 @@ use Rattle.std.specs.Coded.{Coded-set, coded_option}
 use Rattle.std.proofs.Props.{props}
 use Rattle.fx_types.specs.declared.types.Ty.{Ty}
 use Rattle.fx_types.specs.declared.types.Ty.TheVariants as ty
-use Rattle.fx_core.specs.Lawful.{AreDistinct, DiffersFromAll, IsColumnType, IsLawfulSchema, IsLawfulTable}
+use Rattle.fx_core.specs.Lawful.{AreDistinct, DiffersFromAll, IsColumnType, IsLawfulSchema}
+use Rattle.fx_core.specs.Lawful.{IsLawfulTable}
 use Rattle.fx_core.specs.contracts.schema.Schema.{the_row}
 use Rattle.fx_core.specs.declared.schema.Schema.{Schema}
 use Rattle.fx_core.specs.declared.schema.TableShape.{TableShape}

@@ -8,9 +8,11 @@ use Rattle.fx_core.specs.declared.names.Names.{Names}
 
 -- the control of this number stands in a gallery
 abbrev pub StandsIn : Names → ℕ → ℕ → Type 0
-StandsIn n k gallery = (c : ControlName) × (slice_get n.controls k ≡ Some c) × (c.gallery ≡ Some gallery)
+StandsIn n k gallery = (c : ControlName) × (slice_get n.controls k ≡ Some c)
+    × (c.gallery ≡ Some gallery)
 
--- a property of such a control, where it is written, is the formula of a cell that sees the gallery's item
+-- a property of such a control, where it is written, is the formula of a cell that sees the
+-- gallery's item
 abbrev pub IsTemplateProperty : App → ℕ → Option ℕ → Type 0
 IsTemplateProperty a gallery None = Unit {0}
 IsTemplateProperty a gallery (Some d) = (t : Shape) × IsCellOf a.cells d (Some gallery) t

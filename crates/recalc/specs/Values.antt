@@ -17,4 +17,5 @@ value_of v = cell_value v.cells
 
 -- each cell has a value that fits it
 abbrev pub CellsFit : App → (ℕ → Data) → Type 0
-CellsFit a values = (k : ℕ) (c : CellInfo) → slice_get a.cells k ≡ Some c → fits_in (values k) (shape c.ty) ≡ true
+CellsFit a values = (k : ℕ) (c : CellInfo) → slice_get a.cells k ≡ Some c
+    → fits_in (values k) (shape c.ty) ≡ true

@@ -1,5 +1,6 @@
 //! A session's cache.
-ghost use Rattle.std.specs.Prelude.{◌≡◌, ◌+◌, ◌<◌, ◌≤◌, ◌^◌, ℕ, IfOk, IfSome, None, OnErr, length, slice_index, slice_index_or};
+ghost use Rattle.std.specs.Prelude.{◌≡◌, ◌+◌, ◌<◌, ◌≤◌, ◌^◌, ℕ, IfOk, IfSome, None, OnErr, length};
+ghost use Rattle.std.specs.Prelude.{slice_index, slice_index_or};
 ghost use Rattle.fx_core.specs.declared.sources.Source.{Source as Src};
 ghost use Rattle.recalc.specs.Clearing.{is_mark_stamp as is_mark_of, stamp_unmarked as unmarked_of};
 ghost use Rattle.recalc.specs.Kept.{IsSourceOf, source_index};
@@ -20,8 +21,8 @@ const MOST_CELLS: usize = 2_000;
 /// How many kinds of sources there are. The places of those of one kind stand so far apart.
 const KINDS: usize = 8;
 
-/// The values of the cells of an app for one session, as far as they are kept, with the numbers by which it is known which of
-/// them stand. Every change of a source is told it by `touched`.
+/// The values of the cells of an app for one session, as far as they are kept, with the numbers by
+/// which it is known which of them stand. Every change of a source is told it by `touched`.
 pub struct Cache {
     // Kept, so that `make_room` takes none.
     alloc: Global,
@@ -37,7 +38,8 @@ pub struct Cache {
     spare_values: Vec<Value>,
 }
 
-// By hand, so that it is called: what is derived is opened wherever a value may end, which costs proofs seconds each time.
+// By hand, so that it is called: what is derived is opened wherever a value may end, which costs
+// proofs seconds each time.
 impl Drop for Cache {
     fn drop(self) {
         let Cache {
@@ -70,7 +72,11 @@ impl Model for Cache {
       versions = c.versions.items;
       stamps = c.stamps.items;
       values = c.valued;
-      room = record { versions = length c.spare_versions.items; stamps = length c.spare_stamps.items; values = length c.spare_values.items };
+      room = record {
+        versions = length c.spare_versions.items;
+        stamps = length c.spare_stamps.items;
+        values = length c.spare_values.items;
+      };
     } };
 }
 
@@ -134,7 +140,8 @@ fn without_mark(stamp: Option<Stamp>) -> Option<Stamp>
 // Takes all marks away.
 fn unmark(stamps: &mut [Option<Stamp>])
     ensures long { length stamps.new ≡ length stamps.old }
-    ensures each { (k : ℕ) → slice_index_or stamps.new k None ≡ unmarked_of (slice_index_or stamps.old k None) }
+    ensures each { (k : ℕ) → slice_index_or stamps.new k None
+        ≡ unmarked_of (slice_index_or stamps.old k None) }
 {
     for stamp in stamps.iter_mut() {
         *stamp = without_mark(*stamp);
@@ -169,7 +176,8 @@ fn place(source: Source) -> usize
 impl Cache {
     ghost use Rattle.fx_types.specs.ValueView.{view};
     ghost use Rattle.recalc.specs.Changes.{on_day, raised};
-    ghost use Rattle.recalc.specs.Kept.{IsInOrder, IsRoomFor, CacheRoom, source_index, stamp_of, cached_value, version_of};
+    ghost use Rattle.recalc.specs.Kept.{IsInOrder, IsRoomFor, CacheRoom, source_index, stamp_of};
+    ghost use Rattle.recalc.specs.Kept.{cached_value, version_of};
     ghost use Rattle.recalc.specs.Outcomes.{IsEmpty, IsEmptied, IsForgotten, IsRestarted, let_out};
     ghost use Rattle.recalc.specs.Carrying.{received, taken_from};
     ghost use Rattle.recalc.specs.Clearing.{AreUnmarked, is_marked_cell as is_marked_in, marked};
@@ -205,7 +213,8 @@ impl Cache {
 
     /// Makes room beside what is kept for what will be kept of an edited app.
     pub fn make_room(&mut self, app: &App) -> Result<(), Memory>
-        ensures made { IfOk result (λ _. (r : CacheRoom) × IsRoomFor app.now r × (self.new ≡ record self.old { room = r })) }
+        ensures made { IfOk result (λ _. (r : CacheRoom) × IsRoomFor app.now r
+            × (self.new ≡ record self.old { room = r })) }
         ensures stopped { OnErr result (self.new ≡ self.old) }
     {
         let count = app.cells.len();
@@ -311,7 +320,8 @@ impl Cache {
         is_mark(self.stamp(cell))
     }
 
-    /// Marks a cell, where there is one of this number, by a stamp that none is given: numbers run out before.
+    /// Marks a cell, where there is one of this number, by a stamp that none is given: numbers run
+    /// out before.
     pub(crate) fn mark(&mut self, cell: u32)
         ensures { self.new ≡ marked self.old cell }
     {
@@ -343,7 +353,8 @@ impl Cache {
         self.confirm(cell, moved);
     }
 
-    /// Nothing is kept any more, in the room for so many cells, which is used up. What was kept comes out. It takes no memory.
+    /// Nothing is kept any more, in the room for so many cells, which is used up. What was kept
+    /// comes out. It takes no memory.
     pub(crate) fn restart(&mut self, count: usize) -> Cache
         requires stamps { count ≤ self.old.room.stamps }
         requires values { count ≤ self.old.room.values }

@@ -1,13 +1,16 @@
 // What is kept goes over to an edited app.
-ghost use Rattle.std.specs.Prelude.{◌≡◌, ◌↔◌, ◌+◌, ◌<◌, ℕ, IfNone, IfOk, IfSome, IsFalse, IsSome, IsTrue, None, Some, length, slice_index, true};
+ghost use Rattle.std.specs.Prelude.{◌≡◌, ◌↔◌, ◌+◌, ◌<◌, ℕ, IfNone, IfOk, IfSome, IsFalse, IsSome};
+ghost use Rattle.std.specs.Prelude.{IsTrue, None, Some, length, slice_index, true};
 ghost use Rattle.fx_core.specs.Reads.{IsAmong};
 ghost use Rattle.fx_core.specs.declared.sources.Source.{Source as Src};
 ghost use Rattle.recalc.specs.app_cells.Leaning.{cell_behind as behind};
 ghost use Rattle.recalc.specs.app_semantics.Fresh.{reads_table as reads_any};
-ghost use Rattle.recalc.specs.app_semantics.Needed.{is_alone as is_alone_in, stands_alone as is_by_itself};
+ghost use Rattle.recalc.specs.app_semantics.Needed.{is_alone as is_alone_in};
+ghost use Rattle.recalc.specs.app_semantics.Needed.{stands_alone as is_by_itself};
 ghost use Rattle.recalc.specs.app_semantics.Sound.{IsSoundApp};
 ghost use Rattle.recalc.specs.Filling.{IsFilling};
-ghost use Rattle.recalc.specs.Carrying.{AreOldCells, AreOldPlaces, IsCarried, IsCarriedAt, IsEditOf, IsLeft, IsOldCell};
+ghost use Rattle.recalc.specs.Carrying.{AreOldCells, AreOldPlaces, IsCarried, IsCarriedAt};
+ghost use Rattle.recalc.specs.Carrying.{IsEditOf, IsLeft, IsOldCell};
 ghost use Rattle.recalc.specs.Kept.{IsInOrder, IsRoomFor, CacheState, stamp_of};
 
 use crate::app_cells::{App, CellInfo};
@@ -23,7 +26,8 @@ use std::alloc::Global;
 
 // Whether two formulas have values by themselves, and both read tables or none does.
 fn are_both_alone(before: &CellInfo, after: &CellInfo) -> bool
-    ensures { IsTrue result ↔ ((is_by_itself before.now ≡ true) × (is_by_itself after.now ≡ true) × (reads_any after.now.reads ≡ reads_any before.now.reads)) }
+    ensures { IsTrue result ↔ ((is_by_itself before.now ≡ true) × (is_by_itself after.now ≡ true)
+        × (reads_any after.now.reads ≡ reads_any before.now.reads)) }
 {
     let reads = after.reads.as_slice();
     let were = before.reads.as_slice();
@@ -66,8 +70,9 @@ fn old_cell(old: &App, new: &App, places: &[Option<usize>], cell: usize) -> Opti
     }
 }
 
-/// For each cell of an edited app the one of the app before, where that is the same: it has the same address, type and tree,
-/// and what the tree reads has the same names. It is found once for all caches.
+/// For each cell of an edited app the one of the app before, where that is the same: it has the
+/// same address, type and tree, and what the tree reads has the same names. It is found once for
+/// all caches.
 pub fn old_cells(alloc: Global, old: &App, new: &App) -> Result<Vec<Option<usize>>, Memory>
     ensures { IfOk result (λ v. AreOldCells old.now new.now v.items) }
 {
@@ -83,16 +88,20 @@ pub fn old_cells(alloc: Global, old: &App, new: &App) -> Result<Vec<Option<usize
 impl Cache {
     // Whether a cell has no value by itself, or is kept.
     fn is_had(&self, app: &App, cell: u32) -> bool
-        ensures yes { IsTrue result → is_alone_in app.now.cells cell ≡ true → IsSome (stamp_of self.now cell) }
-        ensures no { IsFalse result → (is_alone_in app.now.cells cell ≡ true) × (stamp_of self.now cell ≡ None) }
+        ensures yes { IsTrue result → is_alone_in app.now.cells cell ≡ true
+            → IsSome (stamp_of self.now cell) }
+        ensures no { IsFalse result → (is_alone_in app.now.cells cell ≡ true)
+            × (stamp_of self.now cell ≡ None) }
     {
         !is_alone(app, cell) || self.stamp(cell).is_some()
     }
 
     // The same of the cell on which leans who reads a source.
     fn is_had_behind(&self, app: &App, source: Source) -> bool
-        ensures yes { IsTrue result → (d : ℕ) → behind app.now.names source ≡ Some d → is_alone_in app.now.cells d ≡ true → IsSome (stamp_of self.now d) }
-        ensures no { IsFalse result → (d : ℕ) × (behind app.now.names source ≡ Some d) × (is_alone_in app.now.cells d ≡ true) × (stamp_of self.now d ≡ None) }
+        ensures yes { IsTrue result → (d : ℕ) → behind app.now.names source ≡ Some d
+            → is_alone_in app.now.cells d ≡ true → IsSome (stamp_of self.now d) }
+        ensures no { IsFalse result → (d : ℕ) × (behind app.now.names source ≡ Some d)
+            × (is_alone_in app.now.cells d ≡ true) × (stamp_of self.now d ≡ None) }
     {
         match cell_behind(&app.names, source) {
             Some(cell) => self.is_had(app, cell),
@@ -102,8 +111,12 @@ impl Cache {
 
     // The same of all cells on which leans who reads these sources.
     fn are_had(&self, app: &App, sources: &[Source]) -> bool
-        ensures yes { IsTrue result → (s : Src) (d : ℕ) → IsAmong s sources.now → behind app.now.names s ≡ Some d → is_alone_in app.now.cells d ≡ true → IsSome (stamp_of self.now d) }
-        ensures no { IsFalse result → (s : Src) × (d : ℕ) × IsAmong s sources.now × (behind app.now.names s ≡ Some d) × (is_alone_in app.now.cells d ≡ true) × (stamp_of self.now d ≡ None) }
+        ensures yes { IsTrue result → (s : Src) (d : ℕ) → IsAmong s sources.now
+            → behind app.now.names s ≡ Some d → is_alone_in app.now.cells d ≡ true
+            → IsSome (stamp_of self.now d) }
+        ensures no { IsFalse result → (s : Src) × (d : ℕ) × IsAmong s sources.now
+            × (behind app.now.names s ≡ Some d) × (is_alone_in app.now.cells d ≡ true)
+            × (stamp_of self.now d ≡ None) }
     {
         for source in sources {
             if !self.is_had_behind(app, *source) {
@@ -113,8 +126,8 @@ impl Cache {
         true
     }
 
-    // Keeps here what another cache keeps of a cell under its number there, if it stands and all is kept here on which the formula
-    // leans.
+    // Keeps here what another cache keeps of a cell under its number there, if it stands and all is
+    // kept here on which the formula leans.
     fn carry_cell(&mut self, from: &mut Cache, old: &App, new: &App, cell: u32, was: u32)
         requires was_sound { IsSoundApp old.now }
         requires was_in_order { IsInOrder old.now from.old }
@@ -153,15 +166,18 @@ impl Cache {
         requires room { length self.old.stamps ≡ length new.now.cells }
         requires values { length self.old.values.cells ≡ length new.now.cells }
         requires blank { stamp_of self.old cell ≡ None }
-        ensures { (before : CacheState) (i : ℕ) → i < length new.now.order → slice_index new.now.order i ≡ cell → IsFilling old.now new.now before from.old i self.old → IsFilling old.now new.now before from.new (i + 1) self.new }
+        ensures { (before : CacheState) (i : ℕ) → i < length new.now.order
+            → slice_index new.now.order i ≡ cell
+            → IsFilling old.now new.now before from.old i self.old
+            → IsFilling old.now new.now before from.new (i + 1) self.new }
     {
         if let Some(was) = place_at(cells, cell as usize) {
             self.carry_cell(from, old, new, cell, was as u32);
         }
     }
 
-    /// What is kept goes over to an edited app, as far as the edit leaves it, and the room is used up. `cells` are the old cells
-    /// that the edit left. It takes no memory.
+    /// What is kept goes over to an edited app, as far as the edit leaves it, and the room is used
+    /// up. `cells` are the old cells that the edit left. It takes no memory.
     pub fn carry(&mut self, old: &App, new: &App, cells: &[Option<usize>])
         requires was_sound { IsSoundApp old.now }
         requires sound { IsSoundApp new.now }

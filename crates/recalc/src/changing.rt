@@ -41,12 +41,14 @@ impl Cache {
         self.raise(source);
     }
 
-    /// Says that a source of the app has changed. The values of the cells that reach it don't stand any more, and all others do as
-    /// before, unless the numbers ran out. What is kept of the cells that reach a cell goes. It takes no memory.
+    /// Says that a source of the app has changed. The values of the cells that reach it don't stand
+    /// any more, and all others do as before, unless the numbers ran out. What is kept of the cells
+    /// that reach a cell goes. It takes no memory.
     pub fn touched(&mut self, app: &App, source: Source)
         requires { is_cell source ≡ false → source_index source < length self.old.versions }
         ensures told { (a : AnApp) → is_cell source ≡ false → IsTouched a source self.old self.new }
-        ensures cell { (k : ℕ) → source ≡ Cell k → IsSoundApp app.now → IsInOrder app.now self.old → IsCellTouched app.now k self.old self.new }
+        ensures cell { (k : ℕ) → source ≡ Cell k → IsSoundApp app.now → IsInOrder app.now self.old
+            → IsCellTouched app.now k self.old self.new }
     {
         match source {
             Source::Cell(cell) => self.touch_cell(app, cell),
@@ -57,7 +59,8 @@ impl Cache {
     /// Says that another day has begun: `Today()` has changed.
     pub fn turn(&mut self, day: Value)
         requires { source_index Today < length self.old.versions }
-        ensures { (told : CacheState) × ((a : AnApp) → IsTouched a Today self.old told) × (self.new ≡ on_day told (view day)) }
+        ensures { (told : CacheState) × ((a : AnApp) → IsTouched a Today self.old told)
+            × (self.new ≡ on_day told (view day)) }
     {
         self.tell(Source::Today);
         self.set_day(day);

@@ -10,7 +10,8 @@ use fx_types::values::{Fields, Value};
 use fx_types::words::Words;
 use std::alloc::Global;
 
-/// The chosen row of these items, or blank where there is none. An error in their place is the answer.
+/// The chosen row of these items, or blank where there is none. An error in their place is the
+/// answer.
 #[tactic(auto, using(crate::proofs::Selecting::selected_is))]
 pub(crate) fn selection(
     alloc: Global,

@@ -17,8 +17,10 @@ use fx_core::Source;
 impl Cache {
     // Whether the cell is marked on which leans who reads a source.
     fn is_marked_behind(&self, app: &App, source: Source) -> bool
-        ensures yes { IsTrue result → (d : ℕ) × (behind app.now.names source ≡ Some d) × (is_marked_in self.now d ≡ true) }
-        ensures no { IsFalse result → (d : ℕ) → behind app.now.names source ≡ Some d → is_marked_in self.now d ≡ true → ⊥ }
+        ensures yes { IsTrue result → (d : ℕ) × (behind app.now.names source ≡ Some d)
+            × (is_marked_in self.now d ≡ true) }
+        ensures no { IsFalse result → (d : ℕ) → behind app.now.names source ≡ Some d
+            → is_marked_in self.now d ≡ true → ⊥ }
     {
         match cell_behind(&app.names, source) {
             Some(cell) => self.is_marked(cell),
@@ -28,8 +30,10 @@ impl Cache {
 
     // Whether one of the cells is marked on which leans who reads these sources.
     fn is_any_marked(&self, app: &App, sources: &[Source]) -> bool
-        ensures yes { IsTrue result → (s : Src) × (d : ℕ) × IsAmong s sources.now × (behind app.now.names s ≡ Some d) × (is_marked_in self.now d ≡ true) }
-        ensures no { IsFalse result → (s : Src) (d : ℕ) → IsAmong s sources.now → behind app.now.names s ≡ Some d → is_marked_in self.now d ≡ true → ⊥ }
+        ensures yes { IsTrue result → (s : Src) × (d : ℕ) × IsAmong s sources.now
+            × (behind app.now.names s ≡ Some d) × (is_marked_in self.now d ≡ true) }
+        ensures no { IsFalse result → (s : Src) (d : ℕ) → IsAmong s sources.now
+            → behind app.now.names s ≡ Some d → is_marked_in self.now d ≡ true → ⊥ }
     {
         for source in sources {
             if self.is_marked_behind(app, *source) {
@@ -41,7 +45,8 @@ impl Cache {
 
     // Whether a cell leans on one that is marked.
     fn leans_on_marked(&self, app: &App, cell: u32) -> bool
-        ensures { IsTrue result ↔ ((i : Info) × (d : ℕ) × (slice_get app.now.cells cell ≡ Some i) × LeansOn app.now.names i d × (is_marked_in self.now d ≡ true)) }
+        ensures { IsTrue result ↔ ((i : Info) × (d : ℕ) × (slice_get app.now.cells cell ≡ Some i)
+            × LeansOn app.now.names i d × (is_marked_in self.now d ≡ true)) }
     {
         match app.cells.get(cell as usize) {
             Some(info) => self.is_any_marked(app, info.reads.as_slice()),
@@ -58,9 +63,11 @@ impl Cache {
         }
     }
 
-    // Takes the stamps of the cells away that reach one. By the order each stands behind those on which it leans.
+    // Takes the stamps of the cells away that reach one. By the order each stands behind those on
+    // which it leans.
     fn clear(&mut self, app: &App, cell: u32)
-        ensures { IsSoundApp app.now → IsInOrder app.now self.old → HasNumbersLeft self.old.last → AreCleared app.now cell self.old self.new }
+        ensures { IsSoundApp app.now → IsInOrder app.now self.old → HasNumbersLeft self.old.last
+            → AreCleared app.now cell self.old self.new }
     {
         let order = app.order.as_slice();
         for number in order {
@@ -71,7 +78,8 @@ impl Cache {
 
     /// Says that a cell has changed. What is kept of the cells that reach it goes.
     pub(crate) fn touch_cell(&mut self, app: &App, cell: u32)
-        ensures { IsSoundApp app.now → IsInOrder app.now self.old → IsCellTouched app.now cell self.old self.new }
+        ensures { IsSoundApp app.now → IsInOrder app.now self.old
+            → IsCellTouched app.now cell self.old self.new }
     {
         self.make_numbers();
         self.clear(app, cell);

@@ -1,5 +1,6 @@
 // Which cells have to be brought up to date.
-ghost use Rattle.std.specs.Prelude.{◌≡◌, ◌⊎◌, ◌<◌, ℕ, IfOk, IsFalse, IsTrue, Some, false, length, slice_get, true};
+ghost use Rattle.std.specs.Prelude.{◌≡◌, ◌⊎◌, ◌<◌, ℕ, IfOk, IsFalse, IsTrue, Some, false, length};
+ghost use Rattle.std.specs.Prelude.{slice_get, true};
 ghost use Rattle.std.specs.List.{Contains};
 ghost use Rattle.fx_core.specs.Reads.{IsAmong};
 ghost use Rattle.fx_core.specs.declared.sources.Source.{Source as Src};
@@ -22,7 +23,8 @@ fn mark(marks: &mut [bool], cell: u32)
     ensures long { length marks.new ≡ length marks.old }
     ensures still { (k : ℕ) → is_marked marks.old k ≡ true → is_marked marks.new k ≡ true }
     ensures there { cell < length marks.old → is_marked marks.new cell ≡ true }
-    ensures only { (k : ℕ) → is_marked marks.new k ≡ true → (is_marked marks.old k ≡ true) ⊎ (k ≡ cell) }
+    ensures only { (k : ℕ) → is_marked marks.new k ≡ true
+        → (is_marked marks.old k ≡ true) ⊎ (k ≡ cell) }
 {
     let place = cell as usize;
     if place >= marks.len() {
@@ -36,7 +38,8 @@ fn mark_all(marks: &mut [bool], cells: &[u32])
     requires { (k : ℕ) → Contains cells.now k → k < length marks.old }
     ensures long { length marks.new ≡ length marks.old }
     ensures there { (k : ℕ) → Contains cells.now k → is_marked marks.new k ≡ true }
-    ensures only { (k : ℕ) → is_marked marks.new k ≡ true → (is_marked marks.old k ≡ true) ⊎ Contains cells.now k }
+    ensures only { (k : ℕ) → is_marked marks.new k ≡ true
+        → (is_marked marks.old k ≡ true) ⊎ Contains cells.now k }
 {
     for cell in cells {
         mark(marks, *cell);
@@ -48,8 +51,11 @@ fn mark_behind(app: &App, source: Source, marks: &mut [bool])
     requires { length marks.old ≡ length app.now.cells }
     ensures long { length marks.new ≡ length marks.old }
     ensures still { (k : ℕ) → is_marked marks.old k ≡ true → is_marked marks.new k ≡ true }
-    ensures there { (d : ℕ) → behind app.now.names source ≡ Some d → is_alone_in app.now.cells d ≡ true → is_marked marks.new d ≡ true }
-    ensures only { (k : ℕ) → is_marked marks.new k ≡ true → (is_marked marks.old k ≡ true) ⊎ ((behind app.now.names source ≡ Some k) × (is_alone_in app.now.cells k ≡ true)) }
+    ensures there { (d : ℕ) → behind app.now.names source ≡ Some d
+        → is_alone_in app.now.cells d ≡ true → is_marked marks.new d ≡ true }
+    ensures only { (k : ℕ) → is_marked marks.new k ≡ true
+        → (is_marked marks.old k ≡ true) ⊎ ((behind app.now.names source ≡ Some k)
+        × (is_alone_in app.now.cells k ≡ true)) }
 {
     if let Some(cell) = cell_behind(&app.names, source) {
         if is_alone(app, cell) {
@@ -63,8 +69,11 @@ fn mark_leaned(app: &App, sources: &[Source], marks: &mut [bool])
     requires { length marks.old ≡ length app.now.cells }
     ensures long { length marks.new ≡ length marks.old }
     ensures still { (k : ℕ) → is_marked marks.old k ≡ true → is_marked marks.new k ≡ true }
-    ensures there { (s : Src) (d : ℕ) → IsAmong s sources.now → behind app.now.names s ≡ Some d → is_alone_in app.now.cells d ≡ true → is_marked marks.new d ≡ true }
-    ensures only { (k : ℕ) → is_marked marks.new k ≡ true → (is_marked marks.old k ≡ true) ⊎ ((s : Src) × IsAmong s sources.now × (behind app.now.names s ≡ Some k) × (is_alone_in app.now.cells k ≡ true)) }
+    ensures there { (s : Src) (d : ℕ) → IsAmong s sources.now → behind app.now.names s ≡ Some d
+        → is_alone_in app.now.cells d ≡ true → is_marked marks.new d ≡ true }
+    ensures only { (k : ℕ) → is_marked marks.new k ≡ true
+        → (is_marked marks.old k ≡ true) ⊎ ((s : Src) × IsAmong s sources.now
+        × (behind app.now.names s ≡ Some k) × (is_alone_in app.now.cells k ≡ true)) }
 {
     for source in sources {
         mark_behind(app, *source, marks);
@@ -75,7 +84,8 @@ fn mark_leaned(app: &App, sources: &[Source], marks: &mut [bool])
 pub(crate) fn is_due(app: &App, cache: &Cache, marks: &[bool], cell: u32) -> bool
     requires sound { IsSoundApp app.now }
     requires order { IsInOrder app.now cache.now }
-    ensures yes { IsTrue result → (is_marked marks.now cell ≡ true) × (IsClean app.now cache.now cell → ⊥) }
+    ensures yes { IsTrue result → (is_marked marks.now cell ≡ true)
+        × (IsClean app.now cache.now cell → ⊥) }
     ensures no { IsFalse result → is_marked marks.now cell ≡ true → IsClean app.now cache.now cell }
 {
     let place = cell as usize;

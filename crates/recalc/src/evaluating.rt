@@ -52,9 +52,9 @@ pub fn end_of(stop: Stop) -> KeeperEnd
     }
 }
 
-/// The value of a formula that doesn't act, over the values of cells, a session, a day and the rows of tables, and over the
-/// item of a gallery where it sees one. The keeper is asked where the formula reads a table, and else left alone. `Failed` only
-/// where it counted a fault.
+/// The value of a formula that doesn't act, over the values of cells, a session, a day and the rows
+/// of tables, and over the item of a gallery where it sees one. The keeper is asked where the
+/// formula reads a table, and else left alone. `Failed` only where it counted a fault.
 #[tactic(auto, using(crate::proofs::Asked::read_none, crate::proofs::Asked::read_on))]
 pub(crate) fn formula_value<K: Keeper, L: Ledger>(
     alloc: Global,
@@ -75,13 +75,18 @@ pub(crate) fn formula_value<K: Keeper, L: Ledger>(
     requires fits { CellsFit app.now (cell_value (map view values.now)) }
     requires item { IsItemFit (option_map view item) (item_context app.now.names info.now.cell.item) }
     requires day { (moment : ℕ) × IsToday moment (view day.now) }
-    requires shaped { reads_any info.now.reads ≡ true → K.shaped keeper.old ≡ Some app.now.names.schema }
-    ensures value { IfOk result (λ v. (moment : ℕ) (tables : ToldRows) → IsToday moment (view day.now) → IsHeardOf (K.told keeper.new) tables →
-        IsValueOf (present app.now session.now tables moment) (cell_value (map view values.now)) (option_map view item) info.now (view v)) }
+    requires shaped { reads_any info.now.reads ≡ true
+        → K.shaped keeper.old ≡ Some app.now.names.schema }
+    ensures value { IfOk result (λ v. (moment : ℕ) (tables : ToldRows)
+        → IsToday moment (view day.now) → IsHeardOf (K.told keeper.new) tables →
+        IsValueOf (present app.now session.now tables moment) (cell_value (map view values.now))
+        (option_map view item) info.now (view v)) }
     ensures fits { IfOk result (λ v. fits_in (view v) (shape info.now.ty) ≡ true) }
     ensures steps { IfOk result (λ v. steps.new ≡ steps.old + 1) }
-    ensures visits { IfOk result (λ _. (moment : ℕ) → IsToday moment (view day.now) → WhereTold (K.told keeper.new) (λ rows.
-        AtMost (FormulaVisits app.now session.now rows moment (cell_value (map view values.now)) (option_map view item) info.now) (K.visited keeper.old) (K.visited keeper.new))) }
+    ensures visits { IfOk result (λ _. (moment : ℕ) → IsToday moment (view day.now)
+        → WhereTold (K.told keeper.new) (λ rows.
+        AtMost (FormulaVisits app.now session.now rows moment (cell_value (map view values.now))
+        (option_map view item) info.now) (K.visited keeper.old) (K.visited keeper.new))) }
     ensures read { HasRead K.Keeper keeper.old keeper.new }
     ensures cause { HasCause K.Keeper keeper.old keeper.new result }
     ensures alone { reads_any info.now.reads ≡ false → keeper.new ≡ keeper.old }
@@ -114,8 +119,10 @@ fn value_alone<L: Ledger>(
     requires fits { CellsFit app.now (cell_value (map view values.now)) }
     requires item { IsItemFit (option_map view item) (item_context app.now.names info.now.cell.item) }
     requires day { (moment : ℕ) × IsToday moment (view day.now) }
-    ensures value { IfOk result (λ v. (moment : ℕ) (tables : ToldRows) → IsToday moment (view day.now) →
-        IsValueOf (present app.now session.now tables moment) (cell_value (map view values.now)) (option_map view item) info.now (view v)) }
+    ensures value { IfOk result (λ v. (moment : ℕ) (tables : ToldRows)
+        → IsToday moment (view day.now) →
+        IsValueOf (present app.now session.now tables moment) (cell_value (map view values.now))
+        (option_map view item) info.now (view v)) }
     ensures fits { IfOk result (λ v. fits_in (view v) (shape info.now.ty) ≡ true) }
     ensures steps { IfOk result (λ v. steps.new ≡ steps.old + 1) }
 {
@@ -167,12 +174,16 @@ fn value_over_rows<'a, K: Keeper, L: Ledger>(
     requires item { IsItemFit (option_map view item) (item_context app.now.names info.now.cell.item) }
     requires day { (moment : ℕ) × IsToday moment (view day.now) }
     requires shaped { K.shaped keeper.old ≡ Some app.now.names.schema }
-    ensures value { IfOk result (λ v. (moment : ℕ) (tables : ToldRows) → IsToday moment (view day.now) → IsHeardOf (K.told keeper.new) tables →
-        IsValueOf (present app.now session.now tables moment) (cell_value (map view values.now)) (option_map view item) info.now (view v)) }
+    ensures value { IfOk result (λ v. (moment : ℕ) (tables : ToldRows)
+        → IsToday moment (view day.now) → IsHeardOf (K.told keeper.new) tables →
+        IsValueOf (present app.now session.now tables moment) (cell_value (map view values.now))
+        (option_map view item) info.now (view v)) }
     ensures fits { IfOk result (λ v. fits_in (view v) (shape info.now.ty) ≡ true) }
     ensures steps { IfOk result (λ v. steps.new ≡ steps.old + 1) }
-    ensures visits { IfOk result (λ _. (moment : ℕ) → IsToday moment (view day.now) → WhereTold (K.told keeper.new) (λ rows.
-        AtMost (FormulaVisits app.now session.now rows moment (cell_value (map view values.now)) (option_map view item) info.now) (K.visited keeper.old) (K.visited keeper.new))) }
+    ensures visits { IfOk result (λ _. (moment : ℕ) → IsToday moment (view day.now)
+        → WhereTold (K.told keeper.new) (λ rows.
+        AtMost (FormulaVisits app.now session.now rows moment (cell_value (map view values.now))
+        (option_map view item) info.now) (K.visited keeper.old) (K.visited keeper.new))) }
     ensures read { HasRead K.Keeper keeper.old keeper.new }
     ensures cause { HasCause K.Keeper keeper.old keeper.new result }
 {

@@ -19,8 +19,8 @@ pub fn id_name(alloc: Global) -> Result<Words, Memory>
     Ok(Words::of(alloc, "ID")?)
 }
 
-/// An item's id: its `ID` where that is a whole number from 1 to 4,294,967,295. `id` is the name of the column that numbers
-/// rows.
+/// An item's id: its `ID` where that is a whole number from 1 to 4,294,967,295. `id` is the name of
+/// the column that numbers rows.
 pub fn item_id(row: &Fields, id: &Words) -> Option<u32>
     requires { id.now ≡ id_name_of }
     ensures { result ≡ item_id_of row.now }

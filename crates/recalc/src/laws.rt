@@ -5,7 +5,8 @@ ghost use Rattle.recalc.specs.Visits.{OneCellVisits};
 use crate::app_semantics::one_fresh_at;
 use crate::fx_semantics::one_value;
 
-/// A law, and no work: how many rows evaluating a cell visits is one number, where all that its app reads is told.
+/// A law, and no work: how many rows evaluating a cell visits is one number, where all that its app
+/// reads is told.
 pub fn cell_visits_are_one()
     ensures { OneCellVisits }
 {
@@ -13,8 +14,8 @@ pub fn cell_visits_are_one()
     one_fresh_at();
 }
 
-/// A law, and no work: how many rows evaluating a formula of a template for an item visits is one number, where all that its app
-/// reads is told.
+/// A law, and no work: how many rows evaluating a formula of a template for an item visits is one
+/// number, where all that its app reads is told.
 pub fn item_visits_are_one()
     ensures { OneItemVisits }
 {

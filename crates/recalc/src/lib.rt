@@ -1,5 +1,5 @@
-//! The values of an app's formulas over a session, a day and the rows of a keeper: all of them evaluated afresh, or kept for a session
-//! until something changes on which they stand.
+//! The values of an app's formulas over a session, a day and the rows of a keeper: all of them
+//! evaluated afresh, or kept for a session until something changes on which they stand.
 #![tactic(auto)]
 
 mod cache;

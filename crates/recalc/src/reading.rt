@@ -17,8 +17,8 @@ use session_state::Session;
 use std::alloc::Global;
 use std::sync::ledger::Ledger;
 
-/// What a formula reads, where there are no tables: the values of cells by their numbers, a session whose values fit, and the
-/// day.
+/// What a formula reads, where there are no tables: the values of cells by their numbers, a session
+/// whose values fit, and the day.
 #[derive(Drop)]
 pub(crate) struct Reading<'a> {
     pub(crate) alloc: Global,
@@ -35,9 +35,12 @@ pub(crate) struct Reading<'a> {
 }
 
 impl Env for Reading<'_> {
-    ghost fixed = { λ r. fixed_on r.names.now r.reads.now (told_by (view r.today.now) r.names.now r.session.now (map view r.values.now)) r.schema.now r.limit };
+    ghost fixed = { λ r. fixed_on r.names.now r.reads.now
+        (told_by (view r.today.now) r.names.now r.session.now (map view r.values.now)) r.schema.now
+        r.limit };
 
-    ghost told = { λ r. Some (told_values (told_by (view r.today.now) r.names.now r.session.now (map view r.values.now))) };
+    ghost told = { λ r. Some (told_values (told_by (view r.today.now) r.names.now r.session.now
+        (map view r.values.now))) };
 
     ghost marks = { λ r. no_marks };
 

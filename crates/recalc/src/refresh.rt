@@ -1,5 +1,6 @@
 // Cells are brought up to date.
-ghost use Rattle.std.specs.Prelude.{◌≡◌, ◌≢◌, ◌+◌, ◌<◌, ◌≤◌, ◌^◌, ◌↔◌, ℕ, IfOk, IfSome, IsErrOf, IsNone, IsTrue, [], OnErr, OnOk, Some, length, slice_get, true};
+ghost use Rattle.std.specs.Prelude.{◌≡◌, ◌≢◌, ◌+◌, ◌<◌, ◌≤◌, ◌^◌, ◌↔◌, ℕ, IfOk, IfSome, IsErrOf};
+ghost use Rattle.std.specs.Prelude.{IsNone, IsTrue, [], OnErr, OnOk, Some, length, slice_get, true};
 ghost use Rattle.std.specs.List.{Contains};
 ghost use Rattle.fx_types.specs.ValueView.{view};
 ghost use Rattle.fx_scalar.specs.ScalarFunctions.{IsToday};
@@ -12,13 +13,15 @@ ghost use Rattle.recalc.specs.app_semantics.Sound.{IsSoundApp};
 ghost use Rattle.row_keeper.specs.Over.{HasCause};
 ghost use Rattle.row_keeper.specs.declared.keeper.KeeperEnd.TheVariants.{Failed};
 ghost use Rattle.recalc.specs.Changes.{StaysCleanExcept};
-ghost use Rattle.recalc.specs.Kept.{HasNumbersLeft, IsClean, IsInOrder, IsUnmoved, Leans, stamp_of, cached_value};
+ghost use Rattle.recalc.specs.Kept.{HasNumbersLeft, IsClean, IsInOrder, IsUnmoved, Leans, stamp_of};
+ghost use Rattle.recalc.specs.Kept.{cached_value};
 ghost use Rattle.recalc.specs.Needing.{AreMarked, is_marked};
 ghost use Rattle.recalc.specs.Outcomes.{IsRightOver};
 ghost use Rattle.recalc.specs.declared.stamps.Stamp.{Stamp};
 ghost use Rattle.fx_eval.specs.Visits.{AtMost};
 ghost use Rattle.recalc.specs.Visits.{CellVisits, MayVisit, VisitsPerCell, WhereTold};
-ghost use Rattle.recalc.specs.Steps.{IsBrought, IsBroughtIf, IsCellCutOff, KeepsClean, MayStep, MayStepIf, OncePerCell, WasMoved};
+ghost use Rattle.recalc.specs.Steps.{IsBrought, IsBroughtIf, IsCellCutOff, KeepsClean, MayStep};
+ghost use Rattle.recalc.specs.Steps.{MayStepIf, OncePerCell, WasMoved};
 
 use crate::Steps;
 use crate::app_cells::{App, CellInfo};
@@ -40,8 +43,8 @@ impl Cache {
         same(&self.values().as_slice()[cell as usize], value)
     }
 
-    // Since when a value that a cell gets is what it is: since when the kept one is, if that is the same, and else from the
-    // next number on.
+    // Since when a value that a cell gets is what it is: since when the kept one is, if that is the
+    // same, and else from the next number on.
     fn since(&self, cell: u32, value: &Value) -> u64
         requires room { self.now.last + 1 < 2 ^ 64 }
         requires there { cell < length self.now.values.cells }
@@ -63,7 +66,8 @@ impl Cache {
     // Since when a kept value is what it is, where nothing moved that its formula names.
     fn still_since(&self, app: &App, cell: u32, info: &CellInfo) -> Option<u64>
         requires { slice_get app.now.cells cell ≡ Some info.now }
-        ensures some { IfSome result (λ n. (e : Stamp) × (stamp_of self.now cell ≡ Some e) × (n ≡ e.moved) × IsUnmoved app.now self.now info.now e.checked) }
+        ensures some { IfSome result (λ n. (e : Stamp) × (stamp_of self.now cell ≡ Some e)
+            × (n ≡ e.moved) × IsUnmoved app.now self.now info.now e.checked) }
         ensures none { IsNone result → IsCellCutOff app.now self.now self.now cell → ⊥ }
     {
         let stamp = self.stamp(cell)?;
@@ -97,11 +101,15 @@ impl Cache {
         requires unclean { IsClean app.now self.old cell → ⊥ }
         requires leans { (d : ℕ) → Leans app.now cell d → IsClean app.now self.old d }
         ensures order { IsInOrder app.now self.new }
-        ensures right { IsRightOver app.now session.now (K.told keeper.old) moment self.old → IsRightOver app.now session.now (K.told keeper.new) moment self.new }
+        ensures right { IsRightOver app.now session.now (K.told keeper.old) moment self.old
+            → IsRightOver app.now session.now (K.told keeper.new) moment self.new }
         ensures brought { OnOk result (IsBrought app.now cell self.old self.new) }
-        ensures stepped { OnOk result ((steps.new ≡ steps.old + 1) × (self.new.last ≡ self.old.last + 1)) }
-        ensures visits { IsRightOver app.now session.now (K.told keeper.old) moment self.old → OnOk result (WhereTold (K.told keeper.new) (λ rows.
-            AtMost (CellVisits app.now session.now rows moment cell) (K.visited keeper.old) (K.visited keeper.new))) }
+        ensures stepped { OnOk result ((steps.new ≡ steps.old + 1)
+            × (self.new.last ≡ self.old.last + 1)) }
+        ensures visits { IsRightOver app.now session.now (K.told keeper.old) moment self.old
+            → OnOk result (WhereTold (K.told keeper.new) (λ rows.
+            AtMost (CellVisits app.now session.now rows moment cell) (K.visited keeper.old)
+            (K.visited keeper.new))) }
         ensures stopped { OnErr result (self.new ≡ self.old) }
         ensures read { HasRead K.Keeper keeper.old keeper.new }
         ensures cause { HasCause K.Keeper keeper.old keeper.new result }
@@ -116,7 +124,8 @@ impl Cache {
         Ok(())
     }
 
-    // Brings a cell up to date whose value doesn't stand, where the values of all stand on which it leans.
+    // Brings a cell up to date whose value doesn't stand, where the values of all stand on which it
+    // leans.
     #[tactic(auto, using(crate::proofs::Asked::read_none, crate::proofs::Asked::read_on))]
     fn renew<K: Keeper, L: Ledger>(
         &mut self,
@@ -140,11 +149,14 @@ impl Cache {
         requires unclean { IsClean app.now self.old cell → ⊥ }
         requires leans { (d : ℕ) → Leans app.now cell d → IsClean app.now self.old d }
         ensures order { IsInOrder app.now self.new }
-        ensures right { IsRightOver app.now session.now (K.told keeper.old) moment self.old → IsRightOver app.now session.now (K.told keeper.new) moment self.new }
+        ensures right { IsRightOver app.now session.now (K.told keeper.old) moment self.old
+            → IsRightOver app.now session.now (K.told keeper.new) moment self.new }
         ensures brought { OnOk result (IsBrought app.now cell self.old self.new) }
         ensures ticks { OnOk result (MayStep app.now cell self.old self.new steps.old steps.new) }
-        ensures visits { IsRightOver app.now session.now (K.told keeper.old) moment self.old → OnOk result (WhereTold (K.told keeper.new) (λ rows.
-            MayVisit app.now session.now rows moment cell steps.old steps.new (K.visited keeper.old) (K.visited keeper.new))) }
+        ensures visits { IsRightOver app.now session.now (K.told keeper.old) moment self.old
+            → OnOk result (WhereTold (K.told keeper.new) (λ rows.
+            MayVisit app.now session.now rows moment cell steps.old steps.new (K.visited keeper.old)
+            (K.visited keeper.new))) }
         ensures stopped { OnErr result (self.new ≡ self.old) }
         ensures read { HasRead K.Keeper keeper.old keeper.new }
         ensures cause { HasCause K.Keeper keeper.old keeper.new result }
@@ -182,13 +194,18 @@ impl Cache {
         requires marks { length marks.now ≡ length app.now.cells }
         requires alone { is_marked marks.now cell ≡ true → is_alone_in app.now.cells cell ≡ true }
         requires room { self.old.last + 1 < 2 ^ 64 }
-        requires leans { is_marked marks.now cell ≡ true → (IsClean app.now self.old cell → ⊥) → (d : ℕ) → Leans app.now cell d → IsClean app.now self.old d }
+        requires leans { is_marked marks.now cell ≡ true → (IsClean app.now self.old cell → ⊥)
+            → (d : ℕ) → Leans app.now cell d → IsClean app.now self.old d }
         ensures order { IsInOrder app.now self.new }
-        ensures right { IsRightOver app.now session.now (K.told keeper.old) moment self.old → IsRightOver app.now session.now (K.told keeper.new) moment self.new }
+        ensures right { IsRightOver app.now session.now (K.told keeper.old) moment self.old
+            → IsRightOver app.now session.now (K.told keeper.new) moment self.new }
         ensures brought { OnOk result (IsBroughtIf app.now marks.now cell self.old self.new) }
-        ensures ticks { OnOk result (MayStepIf app.now marks.now cell self.old self.new steps.old steps.new) }
-        ensures visits { IsRightOver app.now session.now (K.told keeper.old) moment self.old → OnOk result (WhereTold (K.told keeper.new) (λ rows.
-            MayVisit app.now session.now rows moment cell steps.old steps.new (K.visited keeper.old) (K.visited keeper.new))) }
+        ensures ticks { OnOk result (MayStepIf app.now marks.now cell self.old self.new steps.old
+            steps.new) }
+        ensures visits { IsRightOver app.now session.now (K.told keeper.old) moment self.old
+            → OnOk result (WhereTold (K.told keeper.new) (λ rows.
+            MayVisit app.now session.now rows moment cell steps.old steps.new (K.visited keeper.old)
+            (K.visited keeper.new))) }
         ensures stopped { OnErr result (self.new ≡ self.old) }
         ensures read { HasRead K.Keeper keeper.old keeper.new }
         ensures cause { HasCause K.Keeper keeper.old keeper.new result }
@@ -240,12 +257,16 @@ impl Cache {
         requires room { HasNumbersLeft self.old.last }
         requires marks { AreMarked app.now self.old roots.now marks.now }
         ensures order { IsInOrder app.now self.new }
-        ensures right { IsRightOver app.now session.now (K.told keeper.old) moment self.old → IsRightOver app.now session.now (K.told keeper.new) moment self.new }
+        ensures right { IsRightOver app.now session.now (K.told keeper.old) moment self.old
+            → IsRightOver app.now session.now (K.told keeper.new) moment self.new }
         ensures left { KeepsClean app.now self.old self.new }
         ensures made { OnOk result ((k : ℕ) → Contains roots.now k → IsClean app.now self.new k) }
-        ensures ticks { OnOk result (OncePerCell app.now roots.now self.old self.new steps.old steps.new) }
-        ensures visits { IsRightOver app.now session.now (K.told keeper.old) moment self.old → OnOk result (WhereTold (K.told keeper.new) (λ rows.
-            VisitsPerCell app.now session.now rows moment roots.now self.old self.new steps.old steps.new (K.visited keeper.old) (K.visited keeper.new))) }
+        ensures ticks { OnOk result (OncePerCell app.now roots.now self.old self.new steps.old
+            steps.new) }
+        ensures visits { IsRightOver app.now session.now (K.told keeper.old) moment self.old
+            → OnOk result (WhereTold (K.told keeper.new) (λ rows.
+            VisitsPerCell app.now session.now rows moment roots.now self.old self.new steps.old
+            steps.new (K.visited keeper.old) (K.visited keeper.new))) }
         ensures slow { OnOk result (self.new.last + steps.old ≤ self.old.last + steps.new) }
         ensures read { HasRead K.Keeper keeper.old keeper.new }
         ensures cause { HasCause K.Keeper keeper.old keeper.new result }
@@ -260,10 +281,11 @@ impl Cache {
         Ok(())
     }
 
-    /// Brings these cells up to date, and all that they need. What is clean stays so, and no cell is evaluated more than once, none
-    /// that was clean, and none of which nothing moved that it names. No more rows are visited than evaluating these cells visits. Where few numbers were left, all is evaluated that is
-    /// needed. Where nothing is evaluated, the keeper is left alone. `Failed` only where it counted a fault; what is kept is right
-    /// also then.
+    /// Brings these cells up to date, and all that they need. What is clean stays so, and no cell
+    /// is evaluated more than once, none that was clean, and none of which nothing moved that it
+    /// names. No more rows are visited than evaluating these cells visits. Where few numbers were
+    /// left, all is evaluated that is needed. Where nothing is evaluated, the keeper is left alone.
+    /// `Failed` only where it counted a fault; what is kept is right also then.
     #[tactic(auto, using(crate::proofs::Asked::read_none, crate::proofs::Asked::read_on))]
     pub fn refresh<K: Keeper, L: Ledger>(
         &mut self,
@@ -282,17 +304,24 @@ impl Cache {
         requires order { IsInOrder app.now self.old }
         requires roots { (k : ℕ) → Contains roots.now k → is_alone_in app.now.cells k ≡ true }
         ensures order { IsInOrder app.now self.new }
-        ensures right { IsRightOver app.now session.now (K.told keeper.old) moment self.old → IsRightOver app.now session.now (K.told keeper.new) moment self.new }
+        ensures right { IsRightOver app.now session.now (K.told keeper.old) moment self.old
+            → IsRightOver app.now session.now (K.told keeper.new) moment self.new }
         ensures day { self.new.values.day ≡ self.old.values.day }
         ensures made { OnOk result ((k : ℕ) → Contains roots.now k → IsClean app.now self.new k) }
-        ensures fresh { IsRightOver app.now session.now (K.told keeper.old) moment self.old → OnOk result ((tables : ToldRows) (k : ℕ) → IsHeardOf (K.told keeper.new) tables → Contains roots.now k →
+        ensures fresh { IsRightOver app.now session.now (K.told keeper.old) moment self.old
+            → OnOk result ((tables : ToldRows) (k : ℕ) → IsHeardOf (K.told keeper.new) tables
+            → Contains roots.now k →
             IsFreshAt (present app.now session.now tables moment) (cached_value self.new) k) }
         ensures left { HasNumbersLeft self.old.last → KeepsClean app.now self.old self.new }
         ensures but { StaysCleanExcept app.now [] self.old self.new }
-        ensures ticks { HasNumbersLeft self.old.last → OnOk result (OncePerCell app.now roots.now self.old self.new steps.old steps.new) }
-        ensures visits { IsRightOver app.now session.now (K.told keeper.old) moment self.old → HasNumbersLeft self.old.last → OnOk result (WhereTold (K.told keeper.new) (λ rows.
-            VisitsPerCell app.now session.now rows moment roots.now self.old self.new steps.old steps.new (K.visited keeper.old) (K.visited keeper.new))) }
-        ensures slow { HasNumbersLeft self.old.last → OnOk result (self.new.last + steps.old ≤ self.old.last + steps.new) }
+        ensures ticks { HasNumbersLeft self.old.last
+            → OnOk result (OncePerCell app.now roots.now self.old self.new steps.old steps.new) }
+        ensures visits { IsRightOver app.now session.now (K.told keeper.old) moment self.old
+            → HasNumbersLeft self.old.last → OnOk result (WhereTold (K.told keeper.new) (λ rows.
+            VisitsPerCell app.now session.now rows moment roots.now self.old self.new steps.old
+            steps.new (K.visited keeper.old) (K.visited keeper.new))) }
+        ensures slow { HasNumbersLeft self.old.last
+            → OnOk result (self.new.last + steps.old ≤ self.old.last + steps.new) }
         ensures read { HasRead K.Keeper keeper.old keeper.new }
         ensures cause { HasCause K.Keeper keeper.old keeper.new result }
         ensures alone { ReadsNone app.now → keeper.new ≡ keeper.old }

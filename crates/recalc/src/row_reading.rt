@@ -1,4 +1,5 @@
-// The environment of a formula that reads tables: what the sources that it reads are worth, and the tables of a keeper.
+// The environment of a formula that reads tables: what the sources that it reads are worth, and the
+// tables of a keeper.
 ghost use Rattle.std.specs.Prelude.{◌≡◌, Some, map, option_map};
 ghost use Rattle.std.proofs.Math.Bool.{Bool-set};
 ghost use Rattle.app_semantics.specs.Holding.{HoldsFitting};
@@ -22,8 +23,8 @@ use session_state::Session;
 use std::alloc::Global;
 use std::sync::ledger::Ledger;
 
-/// What a formula reads: the values of cells by their numbers, a session whose values fit, the day, and the tables of a keeper
-/// that is shaped by the schema of the names.
+/// What a formula reads: the values of cells by their numbers, a session whose values fit, the day,
+/// and the tables of a keeper that is shaped by the schema of the names.
 #[derive(Drop)]
 pub(crate) struct RowReading<'a, K: Keeper> {
     pub(crate) alloc: Global,
@@ -53,9 +54,12 @@ pub fn stop_of(end: KeeperEnd) -> Stop
 impl<K: Keeper> Env for RowReading<'_, K> {
     ghost Beside = { KeeperState };
 
-    ghost fixed = { λ r. fixed_over r.names.now r.reads.now (told_by (view r.today.now) r.names.now r.session.now (map view r.values.now)) r.limit (loans_of r.keeper.ghost_name (K.loan r.keeper.now)) (K.in_transaction r.keeper.now) };
+    ghost fixed = { λ r. fixed_over r.names.now r.reads.now
+        (told_by (view r.today.now) r.names.now r.session.now (map view r.values.now)) r.limit
+        (loans_of r.keeper.ghost_name (K.loan r.keeper.now)) (K.in_transaction r.keeper.now) };
 
-    ghost told = { λ r. option_map (told_over (view r.today.now) r.names.now r.session.now (map view r.values.now) (K.began r.keeper.now)) (K.told r.keeper.now) };
+    ghost told = { λ r. option_map (told_over (view r.today.now) r.names.now r.session.now
+        (map view r.values.now) (K.began r.keeper.now)) (K.told r.keeper.now) };
 
     ghost marks = { λ r. K.marks r.keeper.now };
 

@@ -84,7 +84,9 @@ fn unset_at(names: &Names, control: u32) -> Value
 
 // The value of an input's default.
 fn default_of(alloc: Global, names: &Names, values: &[Value], control: u32) -> Result<Value, Memory>
-    ensures { IfOk result (λ v. view v ≡ spec.cell_value_or (cell_value (map view values.now)) (spec.unset_value (slice_get names.now.controls control)) (leaning.default_cell names.now control)) }
+    ensures { IfOk result (λ v. view v ≡ spec.cell_value_or (cell_value (map view values.now))
+        (spec.unset_value (slice_get names.now.controls control))
+        (leaning.default_cell names.now control)) }
 {
     match default_cell(names, control) {
         Some(cell) => value_of(alloc, values, cell),
@@ -114,7 +116,8 @@ pub(crate) fn input(
     control: u32,
 ) -> Result<Value, Memory>
     requires { Holds session.now (source.Input control) }
-    ensures { IfOk result (λ v. view v ≡ spec.input_of names.now session.now (cell_value (map view values.now)) control) }
+    ensures { IfOk result (λ v. view v ≡ spec.input_of names.now session.now
+        (cell_value (map view values.now)) control) }
 {
     match session.get(Source::Input(control))? {
         Value::Blank => default_of(alloc, names, values, control),
@@ -129,7 +132,8 @@ pub(crate) fn items(
     values: &[Value],
     gallery: u32,
 ) -> Result<Value, Memory>
-    ensures { IfOk result (λ v. view v ≡ spec.items_of names.now (cell_value (map view values.now)) gallery) }
+    ensures { IfOk result (λ v. view v ≡ spec.items_of names.now (cell_value (map view values.now))
+        gallery) }
 {
     match cell_of_property(names, gallery, "Items") {
         Some(cell) => value_of(alloc, values, cell),
@@ -145,7 +149,8 @@ pub(crate) fn chosen_item(
     values: &[Value],
     gallery: u32,
 ) -> Result<Value, Memory>
-    ensures { IfOk result (λ v. view v ≡ spec.selected_of names.now session.now (cell_value (map view values.now)) gallery) }
+    ensures { IfOk result (λ v. view v ≡ spec.selected_of names.now session.now
+        (cell_value (map view values.now)) gallery) }
 {
     let items = items(alloc, names, values, gallery)?;
     selection(alloc, session.chosen(gallery), &items)

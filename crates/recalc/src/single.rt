@@ -26,8 +26,8 @@ use std::alloc::Global;
 use std::sync::ledger::Ledger;
 
 impl Cache {
-    /// The value of a cell that has one by itself. It is kept, and clean from now on. `Failed` only where the keeper counted a
-    /// fault; what is kept is right also then.
+    /// The value of a cell that has one by itself. It is kept, and clean from now on. `Failed` only
+    /// where the keeper counted a fault; what is kept is right also then.
     #[tactic(auto, using(crate::proofs::Asked::read_none, crate::proofs::Asked::read_on))]
     pub fn value_of<K: Keeper, L: Ledger>(
         &mut self,
@@ -46,18 +46,24 @@ impl Cache {
         requires order { IsInOrder app.now self.old }
         requires alone { is_alone_in app.now.cells cell ≡ true }
         ensures order { IsInOrder app.now self.new }
-        ensures right { IsRightOver app.now session.now (K.told keeper.old) moment self.old → IsRightOver app.now session.now (K.told keeper.new) moment self.new }
+        ensures right { IsRightOver app.now session.now (K.told keeper.old) moment self.old
+            → IsRightOver app.now session.now (K.told keeper.new) moment self.new }
         ensures day { self.new.values.day ≡ self.old.values.day }
         ensures value { IfOk result (λ v. view v ≡ value_in self.new cell) }
         ensures made { OnOk result (IsClean app.now self.new cell) }
-        ensures fresh { IsRightOver app.now session.now (K.told keeper.old) moment self.old → OnOk result ((tables : ToldRows) → IsHeardOf (K.told keeper.new) tables →
+        ensures fresh { IsRightOver app.now session.now (K.told keeper.old) moment self.old
+            → OnOk result ((tables : ToldRows) → IsHeardOf (K.told keeper.new) tables →
             IsFreshAt (present app.now session.now tables moment) (value_in self.new) cell) }
         ensures left { HasNumbersLeft self.old.last → KeepsClean app.now self.old self.new }
         ensures but { StaysCleanExcept app.now [] self.old self.new }
-        ensures ticks { HasNumbersLeft self.old.last → OnOk result (OncePerCell app.now (cell ∷ []) self.old self.new steps.old steps.new) }
-        ensures visits { IsRightOver app.now session.now (K.told keeper.old) moment self.old → HasNumbersLeft self.old.last → OnOk result (WhereTold (K.told keeper.new) (λ rows.
-            VisitsPerCell app.now session.now rows moment (cell ∷ []) self.old self.new steps.old steps.new (K.visited keeper.old) (K.visited keeper.new))) }
-        ensures slow { HasNumbersLeft self.old.last → OnOk result (self.new.last + steps.old ≤ self.old.last + steps.new) }
+        ensures ticks { HasNumbersLeft self.old.last
+            → OnOk result (OncePerCell app.now (cell ∷ []) self.old self.new steps.old steps.new) }
+        ensures visits { IsRightOver app.now session.now (K.told keeper.old) moment self.old
+            → HasNumbersLeft self.old.last → OnOk result (WhereTold (K.told keeper.new) (λ rows.
+            VisitsPerCell app.now session.now rows moment (cell ∷ []) self.old self.new steps.old
+            steps.new (K.visited keeper.old) (K.visited keeper.new))) }
+        ensures slow { HasNumbersLeft self.old.last
+            → OnOk result (self.new.last + steps.old ≤ self.old.last + steps.new) }
         ensures read { HasRead K.Keeper keeper.old keeper.new }
         ensures cause { HasCause K.Keeper keeper.old keeper.new result }
         ensures alone { ReadsNone app.now → keeper.new ≡ keeper.old }

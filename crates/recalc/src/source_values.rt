@@ -13,7 +13,8 @@ use fx_types::Value;
 use session_state::Session;
 use std::alloc::Global;
 
-/// The value of a source, where cells have these values: of one that is a session's own where the session holds it.
+/// The value of a source, where cells have these values: of one that is a session's own where the
+/// session holds it.
 #[tactic(auto, using(crate::proofs::Tellings::own_held, crate::proofs::Tellings::own_input))]
 pub fn given_value(
     alloc: Global,
@@ -25,7 +26,8 @@ pub fn given_value(
 ) -> Result<Value, Memory>
     requires held { IsOwn source → Holds session.now source }
     requires no_table { (k : ℕ) → source ≡ Table k → ⊥ }
-    ensures { IfOk result (λ v. view v ≡ told_by (view today.now) names.now session.now (map view values.now) source) }
+    ensures { IfOk result (λ v. view v ≡ told_by (view today.now) names.now session.now
+        (map view values.now) source) }
 {
     match source {
         Source::Cell(cell) => value_of(alloc, values, cell),

@@ -34,16 +34,20 @@ pub(crate) fn is_alone(app: &App, cell: u32) -> bool
 impl Cache {
     // Whether a source that is no cell last changed at a number or before.
     fn is_unchanged(&self, source: Source, number: u64) -> bool
-        ensures yes { IsTrue result → is_cell_of source ≡ false → version_of self.now source ≤ number }
-        ensures no { IsFalse result → (is_cell_of source ≡ false) × (number < version_of self.now source) }
+        ensures yes { IsTrue result → is_cell_of source ≡ false
+            → version_of self.now source ≤ number }
+        ensures no { IsFalse result → (is_cell_of source ≡ false)
+            × (number < version_of self.now source) }
     {
         is_cell(source) || self.version(source) <= number
     }
 
     // The same of each of these sources.
     fn are_unchanged(&self, sources: &[Source], number: u64) -> bool
-        ensures yes { IsTrue result → (s : Src) → is_cell_of s ≡ false → IsAmong s sources.now → version_of self.now s ≤ number }
-        ensures no { IsFalse result → (s : Src) × (is_cell_of s ≡ false) × IsAmong s sources.now × (number < version_of self.now s) }
+        ensures yes { IsTrue result → (s : Src) → is_cell_of s ≡ false → IsAmong s sources.now
+            → version_of self.now s ≤ number }
+        ensures no { IsFalse result → (s : Src) × (is_cell_of s ≡ false) × IsAmong s sources.now
+            × (number < version_of self.now s) }
     {
         for source in sources {
             if !self.is_unchanged(*source, number) {
@@ -64,10 +68,13 @@ impl Cache {
         }
     }
 
-    // The same of the cell on which leans who reads a source. One that has no value by itself never gets another.
+    // The same of the cell on which leans who reads a source. One that has no value by itself never
+    // gets another.
     fn is_settled_behind(&self, app: &App, source: Source, number: u64) -> bool
-        ensures yes { IsTrue result → (d : ℕ) → behind app.now.names source ≡ Some d → is_alone_in app.now.cells d ≡ true → IsSettled self.now d number }
-        ensures no { IsFalse result → (d : ℕ) × (behind app.now.names source ≡ Some d) × (is_alone_in app.now.cells d ≡ true) × (IsSettled self.now d number → ⊥) }
+        ensures yes { IsTrue result → (d : ℕ) → behind app.now.names source ≡ Some d
+            → is_alone_in app.now.cells d ≡ true → IsSettled self.now d number }
+        ensures no { IsFalse result → (d : ℕ) × (behind app.now.names source ≡ Some d)
+            × (is_alone_in app.now.cells d ≡ true) × (IsSettled self.now d number → ⊥) }
     {
         match cell_behind(&app.names, source) {
             Some(cell) => !is_alone(app, cell) || self.is_settled(cell, number),
@@ -77,8 +84,12 @@ impl Cache {
 
     // The same of all cells on which leans who reads these sources.
     fn are_settled(&self, app: &App, sources: &[Source], number: u64) -> bool
-        ensures yes { IsTrue result → (s : Src) (d : ℕ) → IsAmong s sources.now → behind app.now.names s ≡ Some d → is_alone_in app.now.cells d ≡ true → IsSettled self.now d number }
-        ensures no { IsFalse result → (s : Src) × (d : ℕ) × IsAmong s sources.now × (behind app.now.names s ≡ Some d) × (is_alone_in app.now.cells d ≡ true) × (IsSettled self.now d number → ⊥) }
+        ensures yes { IsTrue result → (s : Src) (d : ℕ) → IsAmong s sources.now
+            → behind app.now.names s ≡ Some d → is_alone_in app.now.cells d ≡ true
+            → IsSettled self.now d number }
+        ensures no { IsFalse result → (s : Src) × (d : ℕ) × IsAmong s sources.now
+            × (behind app.now.names s ≡ Some d) × (is_alone_in app.now.cells d ≡ true)
+            × (IsSettled self.now d number → ⊥) }
     {
         for source in sources {
             if !self.is_settled_behind(app, *source, number) {

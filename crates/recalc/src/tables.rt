@@ -45,14 +45,16 @@ pub fn table_value<K: Keeper>(
     requires lawful { IsLawfulSchema schema.now }
     requires shaped { K.shaped keeper.old ≡ Some schema.now }
     requires table { IsSome (slice_get schema.now.tables table) }
-    ensures value { IfOk result (λ v. IsTableValue schema.now.tables (rows_told (K.told keeper.new)) table (view v)) }
+    ensures value { IfOk result (λ v. IsTableValue schema.now.tables (rows_told (K.told keeper.new))
+        table (view v)) }
     ensures told { Becomes K.Keeper keeper.old keeper.new Stays }
     ensures began { BeganStays K.Keeper keeper.old keeper.new }
     ensures cause { HasCause K.Keeper keeper.old keeper.new result }
     ensures shaped { K.shaped keeper.new ≡ K.shaped keeper.old }
     ensures mode { K.in_transaction keeper.new ≡ K.in_transaction keeper.old }
     ensures visited { K.visited keeper.old ≤ K.visited keeper.new }
-    ensures most { IfSome (rows_told (K.told keeper.new)) (λ rows. K.visited keeper.new ≤ K.visited keeper.old + length (rows_at rows table)) }
+    ensures most { IfSome (rows_told (K.told keeper.new))
+        (λ rows. K.visited keeper.new ≤ K.visited keeper.old + length (rows_at rows table)) }
     ensures loan { K.loan keeper.new ≡ K.loan keeper.old }
 {
     // Called for what it says: rows that stand by rising numbers are asked in that order.

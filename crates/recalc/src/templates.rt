@@ -1,11 +1,13 @@
 //! Whether controls are visible, and the properties of controls in galleries for an item.
-ghost use Rattle.std.specs.Prelude.{◌≡◌, ◌+◌, ℕ, true, IfOk, Some, codes, map, option_map, slice_get, unwrap_or};
+ghost use Rattle.std.specs.Prelude.{◌≡◌, ◌+◌, ℕ, true, IfOk, Some, codes, map, option_map};
+ghost use Rattle.std.specs.Prelude.{slice_get, unwrap_or};
 ghost use Rattle.app_semantics.specs.app_cells.Leaning as leaning;
 ghost use Rattle.app_semantics.specs.app_cells.declared.app.CellInfo.{CellInfo as Info};
 ghost use Rattle.app_semantics.specs.Fresh.{IsValueOf};
 ghost use Rattle.app_semantics.specs.Holding.{HoldsFitting};
 ghost use Rattle.app_semantics.specs.Present.{present};
-ghost use Rattle.app_semantics.specs.Properties.{IsPropertyForItem, is_true as is_true_of, is_visible as is_visible_of};
+ghost use Rattle.app_semantics.specs.Properties.{IsPropertyForItem, is_true as is_true_of};
+ghost use Rattle.app_semantics.specs.Properties.{is_visible as is_visible_of};
 ghost use Rattle.app_semantics.specs.Sound.{IsSoundApp};
 ghost use Rattle.fx_types.specs.ValueView.{view};
 ghost use Rattle.fx_types.specs.Values.{Data, blank, boolean};
@@ -51,8 +53,8 @@ pub fn is_visible(names: &Names, values: &[Value], control: u32) -> bool
     }
 }
 
-/// Whether a control in a gallery is visible for an item of it, in one step where `Visible` is written. `Failed` only where the keeper counted a
-/// fault.
+/// Whether a control in a gallery is visible for an item of it, in one step where `Visible` is
+/// written. `Failed` only where the keeper counted a fault.
 #[tactic(auto, using(crate::proofs::Asked::read_none))]
 pub fn is_visible_for_item<K: Keeper, L: Ledger>(
     alloc: Global,
@@ -72,11 +74,18 @@ pub fn is_visible_for_item<K: Keeper, L: Ledger>(
     requires stands { StandsIn app.now.names control gallery }
     requires item { IsItemFit (Some (record_of row.now)) (item_context app.now.names (Some gallery)) }
     requires shaped { K.shaped keeper.old ≡ Some app.now.names.schema }
-    ensures shows { IfOk result (λ b. (moment : ℕ) (tables : ToldRows) → IsToday moment valued.now.day → IsHeardOf (K.told keeper.new) tables →
-        (v : Data) × IsPropertyForItem (present app.now session.now tables moment) (value_of valued.now) (record_of row.now) control (codes "Visible") (boolean true) v × (b ≡ is_true_of v)) }
-    ensures steps { IfOk result (λ b. steps.new ≡ steps.old + steps_of (leaning.cell_of_property app.now.names control (codes "Visible"))) }
-    ensures visits { IfOk result (λ _. (moment : ℕ) → IsToday moment valued.now.day → WhereTold (K.told keeper.new) (λ rows.
-        AtMost (ItemVisits app.now session.now rows moment (value_of valued.now) (record_of row.now) (leaning.cell_of_property app.now.names control (codes "Visible"))) (K.visited keeper.old) (K.visited keeper.new))) }
+    ensures shows { IfOk result (λ b. (moment : ℕ) (tables : ToldRows)
+        → IsToday moment valued.now.day → IsHeardOf (K.told keeper.new) tables →
+        (v : Data) × IsPropertyForItem (present app.now session.now tables moment)
+        (value_of valued.now) (record_of row.now) control (codes "Visible") (boolean true) v
+        × (b ≡ is_true_of v)) }
+    ensures steps { IfOk result (λ b. steps.new
+        ≡ steps.old + steps_of (leaning.cell_of_property app.now.names control (codes "Visible"))) }
+    ensures visits { IfOk result (λ _. (moment : ℕ) → IsToday moment valued.now.day
+        → WhereTold (K.told keeper.new) (λ rows.
+        AtMost (ItemVisits app.now session.now rows moment (value_of valued.now) (record_of row.now)
+        (leaning.cell_of_property app.now.names control (codes "Visible"))) (K.visited keeper.old)
+        (K.visited keeper.new))) }
     ensures read { HasRead K.Keeper keeper.old keeper.new }
     ensures cause { HasCause K.Keeper keeper.old keeper.new result }
 {
@@ -87,8 +96,8 @@ pub fn is_visible_for_item<K: Keeper, L: Ledger>(
     Ok(is_true(Some(&visible)))
 }
 
-/// The value of a property of a control in a gallery for an item of it, in one step, and another where it isn't written, in
-/// none. `Failed` only where the keeper counted a fault.
+/// The value of a property of a control in a gallery for an item of it, in one step, and another
+/// where it isn't written, in none. `Failed` only where the keeper counted a fault.
 #[tactic(auto, using(crate::proofs::Asked::read_none))]
 pub fn property_for_item<K: Keeper, L: Ledger>(
     alloc: Global,
@@ -107,14 +116,21 @@ pub fn property_for_item<K: Keeper, L: Ledger>(
     requires holds { HoldsFitting app.now.names session.now }
     requires fits { CellsFit app.now (value_of valued.now) }
     requires day { (moment : ℕ) × IsToday moment valued.now.day }
-    requires property { IsTemplateProperty app.now gallery (leaning.cell_of_property app.now.names control name.now) }
+    requires property { IsTemplateProperty app.now gallery
+        (leaning.cell_of_property app.now.names control name.now) }
     requires item { IsItemFit (Some (record_of row.now)) (item_context app.now.names (Some gallery)) }
     requires shaped { K.shaped keeper.old ≡ Some app.now.names.schema }
-    ensures shows { IfOk result (λ v. (moment : ℕ) (tables : ToldRows) → IsToday moment valued.now.day → IsHeardOf (K.told keeper.new) tables →
-        IsPropertyForItem (present app.now session.now tables moment) (value_of valued.now) (record_of row.now) control name.now (view unwritten) (view v)) }
-    ensures steps { IfOk result (λ v. steps.new ≡ steps.old + steps_of (leaning.cell_of_property app.now.names control name.now)) }
-    ensures visits { IfOk result (λ _. (moment : ℕ) → IsToday moment valued.now.day → WhereTold (K.told keeper.new) (λ rows.
-        AtMost (ItemVisits app.now session.now rows moment (value_of valued.now) (record_of row.now) (leaning.cell_of_property app.now.names control name.now)) (K.visited keeper.old) (K.visited keeper.new))) }
+    ensures shows { IfOk result (λ v. (moment : ℕ) (tables : ToldRows)
+        → IsToday moment valued.now.day → IsHeardOf (K.told keeper.new) tables →
+        IsPropertyForItem (present app.now session.now tables moment) (value_of valued.now)
+        (record_of row.now) control name.now (view unwritten) (view v)) }
+    ensures steps { IfOk result (λ v. steps.new
+        ≡ steps.old + steps_of (leaning.cell_of_property app.now.names control name.now)) }
+    ensures visits { IfOk result (λ _. (moment : ℕ) → IsToday moment valued.now.day
+        → WhereTold (K.told keeper.new) (λ rows.
+        AtMost (ItemVisits app.now session.now rows moment (value_of valued.now) (record_of row.now)
+        (leaning.cell_of_property app.now.names control name.now)) (K.visited keeper.old)
+        (K.visited keeper.new))) }
     ensures read { HasRead K.Keeper keeper.old keeper.new }
     ensures cause { HasCause K.Keeper keeper.old keeper.new result }
 {
@@ -146,11 +162,16 @@ fn cell_for_item<K: Keeper, L: Ledger>(
     requires cell { IsTemplateProperty app.now gallery (Some cell) }
     requires item { IsItemFit (Some (record_of row.now)) (item_context app.now.names (Some gallery)) }
     requires shaped { K.shaped keeper.old ≡ Some app.now.names.schema }
-    ensures shows { IfOk result (λ v. (moment : ℕ) (tables : ToldRows) → IsToday moment valued.now.day → IsHeardOf (K.told keeper.new) tables →
-        (c : Info) × (slice_get app.now.cells cell ≡ Some c) × IsValueOf (present app.now session.now tables moment) (value_of valued.now) (Some (record_of row.now)) c (view v)) }
+    ensures shows { IfOk result (λ v. (moment : ℕ) (tables : ToldRows)
+        → IsToday moment valued.now.day → IsHeardOf (K.told keeper.new) tables →
+        (c : Info) × (slice_get app.now.cells cell ≡ Some c)
+        × IsValueOf (present app.now session.now tables moment) (value_of valued.now)
+        (Some (record_of row.now)) c (view v)) }
     ensures steps { IfOk result (λ v. steps.new ≡ steps.old + 1) }
-    ensures visits { IfOk result (λ _. (moment : ℕ) → IsToday moment valued.now.day → WhereTold (K.told keeper.new) (λ rows.
-        AtMost (ItemVisits app.now session.now rows moment (value_of valued.now) (record_of row.now) (Some cell)) (K.visited keeper.old) (K.visited keeper.new))) }
+    ensures visits { IfOk result (λ _. (moment : ℕ) → IsToday moment valued.now.day
+        → WhereTold (K.told keeper.new) (λ rows.
+        AtMost (ItemVisits app.now session.now rows moment (value_of valued.now) (record_of row.now)
+        (Some cell)) (K.visited keeper.old) (K.visited keeper.new))) }
     ensures read { HasRead K.Keeper keeper.old keeper.new }
     ensures cause { HasCause K.Keeper keeper.old keeper.new result }
 {

@@ -1,11 +1,15 @@
 // Whether trees of an edited app are the ones that they were.
-ghost use Rattle.std.specs.Prelude.{◌≡◌, ◌↔◌, ℕ, IfOk, IsTrue, MatchOption, None, Some, slice_index_or};
+ghost use Rattle.std.specs.Prelude.{◌≡◌, ◌↔◌, ℕ, IfOk, IsTrue, MatchOption, None, Some};
+ghost use Rattle.std.specs.Prelude.{slice_index_or};
 ghost use Rattle.fx_types.specs.TypeView.{shape};
-ghost use Rattle.fx_core.specs.Term.{all, cons, term_field_names, nil, field_terms as parts_of_fields};
+ghost use Rattle.fx_core.specs.Term.{all, cons, term_field_names, nil};
+ghost use Rattle.fx_core.specs.Term.{field_terms as parts_of_fields};
 ghost use Rattle.fx_core.specs.Reads.{IsAmong};
 ghost use Rattle.fx_core.specs.declared.sources.Source.{Source as Src};
 ghost use Rattle.recalc.specs.app_cells.Leaning.{cell_behind as behind};
-ghost use Rattle.recalc.specs.Carrying.{AreOldPlaces, IsOldBehind, IsOldOne, IsOldPart, IsOldSource, IsOldTop, IsOldTree, IsPast, subtree_at, subtrees, top_of};
+ghost use Rattle.recalc.specs.Carrying.{AreOldPlaces, IsOldBehind, IsOldOne, IsOldPart};
+ghost use Rattle.recalc.specs.Carrying.{IsOldSource, IsOldTop, IsOldTree, IsPast, subtree_at};
+ghost use Rattle.recalc.specs.Carrying.{subtrees, top_of};
 ghost use Rattle.recalc.specs.Carrying as carrying;
 ghost use Rattle.session_state.specs.Carrying as session_carrying;
 
@@ -96,7 +100,8 @@ fn is_old_behind(
     was: Source,
 ) -> bool
     requires { AreOldPlaces old.now new.now places.now }
-    ensures { IsTrue result ↔ IsOldBehind old.now new.now (behind new.now.names source) (behind old.now.names was) }
+    ensures { IsTrue result ↔ IsOldBehind old.now new.now (behind new.now.names source)
+        (behind old.now.names was) }
 {
     match (
         cell_behind(&new.names, source),
@@ -119,7 +124,8 @@ fn is_old_variable(old: &Names, new: &Names, variable: u32, one: u32) -> bool
 // Whether a collection of an edited app was this one.
 #[tactic(auto, using(crate::proofs::Finding::place_tells))]
 fn is_old_collection(old: &Names, new: &Names, collection: u32, one: u32) -> bool
-    ensures { IsTrue result ↔ (session_carrying.collection_was old.now new.now collection ≡ Some one) }
+    ensures { IsTrue result ↔ (session_carrying.collection_was old.now new.now collection
+        ≡ Some one) }
 {
     is_place(one as usize, collection_was(old, new, collection as usize))
 }
@@ -167,7 +173,8 @@ fn is_old_read(
     were: &[Source],
 ) -> bool
     requires { AreOldPlaces old.now new.now places.now }
-    ensures { IsTrue result ↔ ((r : Src) × IsAmong r were.now × IsOldSource old.now new.now source r) }
+    ensures { IsTrue result ↔ ((r : Src) × IsAmong r were.now
+        × IsOldSource old.now new.now source r) }
 {
     for was in were {
         if is_old_source(old, new, places, source, *was) {
@@ -186,7 +193,8 @@ pub(crate) fn are_old_reads(
     were: &[Source],
 ) -> bool
     requires { AreOldPlaces old.now new.now places.now }
-    ensures { IsTrue result ↔ ((x : Src) → IsAmong x sources.now → (r : Src) × IsAmong r were.now × IsOldSource old.now new.now x r) }
+    ensures { IsTrue result ↔ ((x : Src) → IsAmong x sources.now
+        → (r : Src) × IsAmong r were.now × IsOldSource old.now new.now x r) }
 {
     for source in sources {
         if !is_old_read(old, new, places, *source, were) {
@@ -229,10 +237,12 @@ fn have_same_names(fields: &CoreFields, others: &CoreFields) -> bool
     true
 }
 
-// Whether what stands at the top of a tree of an edited app is what stood there, a source by its name. No part is looked at.
+// Whether what stands at the top of a tree of an edited app is what stood there, a source by its
+// name. No part is looked at.
 fn is_old_top(old: &App, new: &App, places: &[Option<usize>], tree: &Core, was: &Core) -> bool
     requires { AreOldPlaces old.now new.now places.now }
-    ensures { IsTrue result ↔ IsOldTop (IsOldSource old.now new.now) (top_of tree.now) (top_of was.now) }
+    ensures { IsTrue result ↔ IsOldTop (IsOldSource old.now new.now) (top_of tree.now)
+        (top_of was.now) }
 {
     match &tree.node {
         CoreNode::Const(a) => matches!(&was.node, CoreNode::Const(b) if same(a, b)),
@@ -263,7 +273,8 @@ fn is_old_top(old: &App, new: &App, places: &[Option<usize>], tree: &Core, was: 
 
 // The tree at a place among trees, counted from 0.
 fn listed_part(parts: &CoreArgs, place: usize) -> Option<&Core>
-    ensures { MatchOption result (subtree_at (all parts.now) place ≡ None) (λ t. subtree_at (all parts.now) place ≡ Some t.now) }
+    ensures { MatchOption result (subtree_at (all parts.now) place ≡ None)
+        (λ t. subtree_at (all parts.now) place ≡ Some t.now) }
 {
     parts.get(place)
 }
@@ -271,7 +282,8 @@ fn listed_part(parts: &CoreArgs, place: usize) -> Option<&Core>
 // The same among fields.
 #[tactic(auto, using(crate::proofs::Parts::field_found, crate::proofs::Parts::field_end))]
 fn field_part(fields: &CoreFields, place: usize) -> Option<&Core>
-    ensures { MatchOption result (subtree_at (parts_of_fields fields.now) place ≡ None) (λ t. subtree_at (parts_of_fields fields.now) place ≡ Some t.now) }
+    ensures { MatchOption result (subtree_at (parts_of_fields fields.now) place ≡ None)
+        (λ t. subtree_at (parts_of_fields fields.now) place ≡ Some t.now) }
 {
     match fields.get(place) {
         Some((_, part)) => Some(part),
@@ -281,14 +293,16 @@ fn field_part(fields: &CoreFields, place: usize) -> Option<&Core>
 
 // The same of a tree alone.
 fn only_part(part: &Core, place: usize) -> Option<&Core>
-    ensures { MatchOption result (subtree_at (cons part.now nil) place ≡ None) (λ t. subtree_at (cons part.now nil) place ≡ Some t.now) }
+    ensures { MatchOption result (subtree_at (cons part.now nil) place ≡ None)
+        (λ t. subtree_at (cons part.now nil) place ≡ Some t.now) }
 {
     if place == 0 { Some(part) } else { None }
 }
 
 // The same of two trees.
 fn either_part<'a>(first: &'a Core, second: &'a Core, place: usize) -> Option<&'a Core>
-    ensures { MatchOption result (subtree_at (cons first.now (cons second.now nil)) place ≡ None) (λ t. subtree_at (cons first.now (cons second.now nil)) place ≡ Some t.now) }
+    ensures { MatchOption result (subtree_at (cons first.now (cons second.now nil)) place ≡ None)
+        (λ t. subtree_at (cons first.now (cons second.now nil)) place ≡ Some t.now) }
 {
     if place == 0 {
         Some(first)
@@ -299,7 +313,8 @@ fn either_part<'a>(first: &'a Core, second: &'a Core, place: usize) -> Option<&'
 
 // The same of a tree before others.
 fn headed_part<'a>(head: &'a Core, parts: &'a CoreArgs, place: usize) -> Option<&'a Core>
-    ensures { MatchOption result (subtree_at (cons head.now (all parts.now)) place ≡ None) (λ t. subtree_at (cons head.now (all parts.now)) place ≡ Some t.now) }
+    ensures { MatchOption result (subtree_at (cons head.now (all parts.now)) place ≡ None)
+        (λ t. subtree_at (cons head.now (all parts.now)) place ≡ Some t.now) }
 {
     if place == 0 {
         Some(head)
@@ -310,7 +325,8 @@ fn headed_part<'a>(head: &'a Core, parts: &'a CoreArgs, place: usize) -> Option<
 
 // The tree at a place under another.
 fn part(tree: &Core, place: usize) -> Option<&Core>
-    ensures { MatchOption result (subtree_at (subtrees tree.now) place ≡ None) (λ t. subtree_at (subtrees tree.now) place ≡ Some t.now) }
+    ensures { MatchOption result (subtree_at (subtrees tree.now) place ≡ None)
+        (λ t. subtree_at (subtrees tree.now) place ≡ Some t.now) }
 {
     match &tree.node {
         CoreNode::Const(_)
@@ -362,7 +378,8 @@ fn last_place(tree: &Core) -> usize
     }
 }
 
-/// Whether a tree of an edited app is this one of before, the sources by their names. None is that acts.
+/// Whether a tree of an edited app is this one of before, the sources by their names. None is that
+/// acts.
 #[cycle(is_old_tree)]
 pub(crate) fn is_old_tree(
     old: &App,
@@ -397,7 +414,8 @@ fn is_old_part(
     place: usize,
 ) -> bool
     requires { AreOldPlaces old.now new.now places.now }
-    ensures { IsTrue result ↔ IsOldPart (IsOldSource old.now new.now) (subtree_at (subtrees tree.now) place) (subtree_at (subtrees was.now) place) }
+    ensures { IsTrue result ↔ IsOldPart (IsOldSource old.now new.now)
+        (subtree_at (subtrees tree.now) place) (subtree_at (subtrees was.now) place) }
 {
     match (part(tree, place), part(was, place)) {
         (Some(one), Some(other)) => is_old_tree(old, new, places, one, other),

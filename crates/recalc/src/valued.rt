@@ -1,5 +1,6 @@
 //! The values of an app's formulas.
-ghost use Rattle.std.specs.Prelude.{◌≡◌, ◌≢◌, ◌+◌, ◌<◌, ◌≤◌, ℕ, false, true, IfOk, IsErrOf, OnOk, Option, Some, if◌then◌else◌, length, map, replicate, slice_get};
+ghost use Rattle.std.specs.Prelude.{◌≡◌, ◌≢◌, ◌+◌, ◌<◌, ◌≤◌, ℕ, false, true, IfOk, IsErrOf, OnOk};
+ghost use Rattle.std.specs.Prelude.{Option, Some, if◌then◌else◌, length, map, replicate, slice_get};
 ghost use Rattle.std.specs.List.{count_by};
 ghost use Rattle.app_semantics.specs.app_cells.declared.app.CellInfo.{CellInfo as Info};
 ghost use Rattle.app_semantics.specs.Fresh.{IsCellValue, IsFresh, IsValueOf};
@@ -32,7 +33,8 @@ use std::marker::Model;
 use std::mem;
 use std::sync::ledger::Ledger;
 
-/// The value of each cell of an app, by its number, and the day. Of a formula that acts, or that sees an item, it is blank.
+/// The value of each cell of an app, by its number, and the day. Of a formula that acts, or that
+/// sees an item, it is blank.
 #[derive(Drop)]
 pub struct Valued {
     values: Vec<Value>,
@@ -54,7 +56,8 @@ impl Model for Valued {
 }
 
 impl Valued {
-    ghost use Rattle.std.specs.Prelude.{◌≡◌, ◌+◌, ◌<◌, ℕ, false, true, IfOk, IsErrOf, None, Some, length, map, replicate, slice_get, slice_set};
+    ghost use Rattle.std.specs.Prelude.{◌≡◌, ◌+◌, ◌<◌, ℕ, false, true, IfOk, IsErrOf, None, Some};
+    ghost use Rattle.std.specs.Prelude.{length, map, replicate, slice_get, slice_set};
     ghost use Rattle.app_semantics.specs.Fresh.{IsCellValue, IsValueOf};
     ghost use Rattle.app_semantics.specs.Holding.{HoldsFitting};
     ghost use Rattle.app_semantics.specs.Needed.{stands_alone as is_by_itself};
@@ -135,7 +138,8 @@ impl Valued {
         session_sources::value_of(alloc, self.values.as_slice(), cell)
     }
 
-    /// The value of an input: the user's, else that of the formula of its default, else that of its kind.
+    /// The value of an input: the user's, else that of the formula of its default, else that of its
+    /// kind.
     pub fn input(
         &self,
         alloc: Global,
@@ -144,7 +148,8 @@ impl Valued {
         control: u32,
     ) -> Result<Value, Memory>
         requires { Holds session.now (source.Input control) }
-        ensures { IfOk result (λ v. view v ≡ input_of names.now session.now (value_of self.now) control) }
+        ensures { IfOk result (λ v. view v ≡ input_of names.now session.now (value_of self.now)
+            control) }
     {
         session_sources::input(alloc, names, session, self.values.as_slice(), control)
     }
@@ -156,8 +161,8 @@ impl Valued {
         session_sources::items(alloc, names, self.values.as_slice(), gallery)
     }
 
-    /// The value of a formula that has one by itself, over those of the cells on which it leans, in one step. `Failed` only
-    /// where the keeper counted a fault.
+    /// The value of a formula that has one by itself, over those of the cells on which it leans, in
+    /// one step. `Failed` only where the keeper counted a fault.
     pub fn by_itself<K: Keeper, L: Ledger>(
         &self,
         alloc: Global,
@@ -174,12 +179,16 @@ impl Valued {
         requires cell { (k : ℕ) × (slice_get app.now.cells k ≡ Some info.now) }
         requires alone { is_by_itself info.now ≡ true }
         requires asks { CanAsk app.now (K.shaped keeper.old) }
-        ensures value { IfOk result (λ v. (moment : ℕ) (tables : ToldRows) → IsToday moment self.now.day → IsHeardOf (K.told keeper.new) tables →
-            IsCellValue (present app.now session.now tables moment) (value_of self.now) info.now (view v)) }
+        ensures value { IfOk result (λ v. (moment : ℕ) (tables : ToldRows)
+            → IsToday moment self.now.day → IsHeardOf (K.told keeper.new) tables →
+            IsCellValue (present app.now session.now tables moment) (value_of self.now) info.now
+            (view v)) }
         ensures fits { IfOk result (λ v. fits_in (view v) (shape info.now.ty) ≡ true) }
         ensures steps { IfOk result (λ v. steps.new ≡ steps.old + 1) }
-        ensures visits { IfOk result (λ _. (moment : ℕ) → IsToday moment self.now.day → WhereTold (K.told keeper.new) (λ rows.
-            AtMost (FormulaVisits app.now session.now rows moment (value_of self.now) None info.now) (K.visited keeper.old) (K.visited keeper.new))) }
+        ensures visits { IfOk result (λ _. (moment : ℕ) → IsToday moment self.now.day
+            → WhereTold (K.told keeper.new) (λ rows.
+            AtMost (FormulaVisits app.now session.now rows moment (value_of self.now) None info.now)
+            (K.visited keeper.old) (K.visited keeper.new))) }
         ensures read { HasRead K.Keeper keeper.old keeper.new }
         ensures cause { HasCause K.Keeper keeper.old keeper.new result }
         ensures alone { ReadsNone app.now → keeper.new ≡ keeper.old }
@@ -190,8 +199,8 @@ impl Valued {
         formula_value(alloc, app, session, keeper, values, day, info, None, steps)
     }
 
-    /// The value of a formula of a template for an item of its gallery, in one step. `Failed` only where the keeper counted a
-    /// fault.
+    /// The value of a formula of a template for an item of its gallery, in one step. `Failed` only
+    /// where the keeper counted a fault.
     pub fn in_item<K: Keeper, L: Ledger>(
         &self,
         alloc: Global,
@@ -210,12 +219,16 @@ impl Valued {
         requires quiet { info.now.cell.acts ≡ false }
         requires item { IsItemFit (Some (view item)) (item_context app.now.names info.now.cell.item) }
         requires shaped { K.shaped keeper.old ≡ Some app.now.names.schema }
-        ensures value { IfOk result (λ v. (moment : ℕ) (tables : ToldRows) → IsToday moment self.now.day → IsHeardOf (K.told keeper.new) tables →
-            IsValueOf (present app.now session.now tables moment) (value_of self.now) (Some (view item)) info.now (view v)) }
+        ensures value { IfOk result (λ v. (moment : ℕ) (tables : ToldRows)
+            → IsToday moment self.now.day → IsHeardOf (K.told keeper.new) tables →
+            IsValueOf (present app.now session.now tables moment) (value_of self.now)
+            (Some (view item)) info.now (view v)) }
         ensures fits { IfOk result (λ v. fits_in (view v) (shape info.now.ty) ≡ true) }
         ensures steps { IfOk result (λ v. steps.new ≡ steps.old + 1) }
-        ensures visits { IfOk result (λ _. (moment : ℕ) → IsToday moment self.now.day → WhereTold (K.told keeper.new) (λ rows.
-            AtMost (FormulaVisits app.now session.now rows moment (value_of self.now) (Some (view item)) info.now) (K.visited keeper.old) (K.visited keeper.new))) }
+        ensures visits { IfOk result (λ _. (moment : ℕ) → IsToday moment self.now.day
+            → WhereTold (K.told keeper.new) (λ rows.
+            AtMost (FormulaVisits app.now session.now rows moment (value_of self.now)
+            (Some (view item)) info.now) (K.visited keeper.old) (K.visited keeper.new))) }
         ensures read { HasRead K.Keeper keeper.old keeper.new }
         ensures cause { HasCause K.Keeper keeper.old keeper.new result }
     {
@@ -234,9 +247,9 @@ impl Valued {
     }
 }
 
-/// The fresh values of an app's formulas over a session and the rows of a keeper, at a moment in seconds since 1970-01-01
-/// UTC. Each formula that has a value by itself is evaluated once. Where none reads a table, the keeper is left alone.
-/// `Failed` only where it counted a fault.
+/// The fresh values of an app's formulas over a session and the rows of a keeper, at a moment in
+/// seconds since 1970-01-01 UTC. Each formula that has a value by itself is evaluated once. Where
+/// none reads a table, the keeper is left alone. `Failed` only where it counted a fault.
 #[tactic(auto, using(crate::proofs::Asked::read_none, crate::proofs::Asked::read_on))]
 pub fn evaluate<K: Keeper, L: Ledger>(
     alloc: Global,
@@ -249,11 +262,13 @@ pub fn evaluate<K: Keeper, L: Ledger>(
     requires sound { IsSoundApp app.now }
     requires holds { HoldsFitting app.now.names session.now }
     requires asks { CanAsk app.now (K.shaped keeper.old) }
-    ensures fresh { IfOk result (λ v. (tables : ToldRows) → IsHeardOf (K.told keeper.new) tables → IsFresh (present app.now session.now tables moment) (value_of v)) }
+    ensures fresh { IfOk result (λ v. (tables : ToldRows) → IsHeardOf (K.told keeper.new) tables
+        → IsFresh (present app.now session.now tables moment) (value_of v)) }
     ensures long { IfOk result (λ v. length v.cells ≡ length app.now.cells) }
     ensures fits { IfOk result (λ v. CellsFit app.now (value_of v)) }
     ensures day { IfOk result (λ v. IsToday moment v.day) }
-    ensures steps { IfOk result (λ v. steps.new ≡ steps.old + count_by (is_alone app.now.cells) app.now.order) }
+    ensures steps { IfOk result (λ v. steps.new
+        ≡ steps.old + count_by (is_alone app.now.cells) app.now.order) }
     ensures read { HasRead K.Keeper keeper.old keeper.new }
     ensures cause { HasCause K.Keeper keeper.old keeper.new result }
     ensures alone { ReadsNone app.now → keeper.new ≡ keeper.old }
@@ -278,11 +293,13 @@ fn keep_values<K: Keeper, L: Ledger>(
     requires holds { HoldsFitting app.now.names session.now }
     requires day { (moment : ℕ) × IsToday moment (view day.now) }
     requires asks { CanAsk app.now (K.shaped keeper.old) }
-    ensures fresh { IfOk result (λ v. (moment : ℕ) (tables : ToldRows) → IsToday moment (view day.now) → IsHeardOf (K.told keeper.new) tables →
+    ensures fresh { IfOk result (λ v. (moment : ℕ) (tables : ToldRows)
+        → IsToday moment (view day.now) → IsHeardOf (K.told keeper.new) tables →
         IsFresh (present app.now session.now tables moment) (cell_value (map view v.items))) }
     ensures long { IfOk result (λ v. length v.items ≡ length app.now.cells) }
     ensures fits { IfOk result (λ v. CellsFit app.now (cell_value (map view v.items))) }
-    ensures steps { IfOk result (λ v. steps.new ≡ steps.old + count_by (is_alone app.now.cells) app.now.order) }
+    ensures steps { IfOk result (λ v. steps.new
+        ≡ steps.old + count_by (is_alone app.now.cells) app.now.order) }
     ensures read { HasRead K.Keeper keeper.old keeper.new }
     ensures cause { HasCause K.Keeper keeper.old keeper.new result }
     ensures alone { ReadsNone app.now → keeper.new ≡ keeper.old }
@@ -344,7 +361,8 @@ pub fn stands_alone(info: &CellInfo) -> bool
     !info.cell.acts && info.cell.item.is_none()
 }
 
-// Keeps the value of a cell whose value is still blank, where the cells on which it leans have theirs.
+// Keeps the value of a cell whose value is still blank, where the cells on which it leans have
+// theirs.
 #[tactic(auto, using(crate::proofs::Asked::read_none, crate::proofs::Asked::read_on))]
 fn keep_value<K: Keeper, L: Ledger>(
     alloc: Global,
@@ -366,10 +384,15 @@ fn keep_value<K: Keeper, L: Ledger>(
     requires asks { CanAsk app.now (K.shaped keeper.old) }
     ensures long { OnOk result (length values.new.items ≡ length app.now.cells) }
     ensures fits { OnOk result (CellsFit app.now (cell_value (map view values.new.items))) }
-    ensures others { OnOk result ((k : ℕ) → k ≢ number → cell_value (map view values.new.items) k ≡ cell_value (map view values.old.items) k) }
-    ensures value { OnOk result ((moment : ℕ) (tables : ToldRows) (c : Info) → IsToday moment (view day.now) → IsHeardOf (K.told keeper.new) tables → slice_get app.now.cells number ≡ Some c →
-        IsCellValue (present app.now session.now tables moment) (cell_value (map view values.old.items)) c (cell_value (map view values.new.items) number)) }
-    ensures steps { OnOk result (steps.new ≡ steps.old + (if is_alone app.now.cells number then 1 else 0)) }
+    ensures others { OnOk result ((k : ℕ) → k ≢ number
+        → cell_value (map view values.new.items) k ≡ cell_value (map view values.old.items) k) }
+    ensures value { OnOk result ((moment : ℕ) (tables : ToldRows) (c : Info)
+        → IsToday moment (view day.now) → IsHeardOf (K.told keeper.new) tables
+        → slice_get app.now.cells number ≡ Some c →
+        IsCellValue (present app.now session.now tables moment)
+        (cell_value (map view values.old.items)) c (cell_value (map view values.new.items) number)) }
+    ensures steps { OnOk result (steps.new ≡ steps.old
+        + (if is_alone app.now.cells number then 1 else 0)) }
     ensures read { HasRead K.Keeper keeper.old keeper.new }
     ensures cause { HasCause K.Keeper keeper.old keeper.new result }
     ensures alone { ReadsNone app.now → keeper.new ≡ keeper.old }
@@ -407,9 +430,13 @@ fn keep_formula<K: Keeper, L: Ledger>(
     requires asks { CanAsk app.now (K.shaped keeper.old) }
     ensures long { OnOk result (length values.new.items ≡ length app.now.cells) }
     ensures fits { OnOk result (CellsFit app.now (cell_value (map view values.new.items))) }
-    ensures others { OnOk result ((k : ℕ) → k ≢ number → cell_value (map view values.new.items) k ≡ cell_value (map view values.old.items) k) }
-    ensures value { OnOk result ((moment : ℕ) (tables : ToldRows) → IsToday moment (view day.now) → IsHeardOf (K.told keeper.new) tables →
-        IsCellValue (present app.now session.now tables moment) (cell_value (map view values.old.items)) info.now (cell_value (map view values.new.items) number)) }
+    ensures others { OnOk result ((k : ℕ) → k ≢ number
+        → cell_value (map view values.new.items) k ≡ cell_value (map view values.old.items) k) }
+    ensures value { OnOk result ((moment : ℕ) (tables : ToldRows) → IsToday moment (view day.now)
+        → IsHeardOf (K.told keeper.new) tables →
+        IsCellValue (present app.now session.now tables moment)
+        (cell_value (map view values.old.items)) info.now
+        (cell_value (map view values.new.items) number)) }
     ensures steps { OnOk result (steps.new ≡ steps.old + (if is_by_itself info.now then 1 else 0)) }
     ensures read { HasRead K.Keeper keeper.old keeper.new }
     ensures cause { HasCause K.Keeper keeper.old keeper.new result }

@@ -1,5 +1,8 @@
--- The lines of a table as they are now: those that are kept, with what a transaction has made of them.
-use Rattle.std.specs.Prelude.{◌≡◌, ℕ, suc, ◌+◌, ◌-◌, ◌≤◌, ◌<◌, ◌==◌, nat_le, Bool, true, false, if◌then◌else◌, List, [], ◌∷◌, ◌++◌, filter, flat_map, length, map, Option, None, Some, IfSome, option_map, slice_get, Vec}
+-- The lines of a table as they are now: those that are kept, with what a transaction has made of
+-- them.
+use Rattle.std.specs.Prelude.{◌≡◌, ℕ, suc, ◌+◌, ◌-◌, ◌≤◌, ◌<◌, ◌==◌, nat_le, Bool, true, false}
+use Rattle.std.specs.Prelude.{if◌then◌else◌, List, [], ◌∷◌, ◌++◌, filter, flat_map, length, map}
+use Rattle.std.specs.Prelude.{Option, None, Some, IfSome, option_map, slice_get, Vec}
 use Rattle.std.specs.BTreeMap.{get}
 use Rattle.std.specs.Borrow.{Bor}
 use Rattle.std.specs.List.{AllByRecursion}
@@ -16,7 +19,8 @@ use Rattle.row_changes.specs.declared.table.TableChanges.{TableChanges}
 abbrev pub bytes_in : Option (Vec ℕ Global) → Option (List ℕ)
 bytes_in body = option_map (λ v. v.items) body
 
--- a change of a row's line: the body that it had as the transaction began, and the one that it has now, if any
+-- a change of a row's line: the body that it had as the transaction began, and the one that it has
+-- now, if any
 abbrev pub LineChange : Type 0
 LineChange = List ℕ × Option (List ℕ)
 
@@ -46,7 +50,8 @@ body_of_added t place = body_among (slice_get t.added.items place)
 
 -- the rows that were there have the numbers given till then
 abbrev pub made_of : TableChanges → ℕ → Option (Option (List ℕ))
-made_of t id = if nat_le id t.first then made_of_kept t id else Some (body_of_added t (id - t.first - 1))
+made_of t id = if nat_le id t.first then made_of_kept t id else Some
+    (body_of_added t (id - t.first - 1))
 
 abbrev pub last_of : TableChanges → ℕ
 last_of t = t.first + length t.added.items
@@ -85,14 +90,15 @@ shown_lines xs = map shown_line xs
 
 -- each line that is kept as it is now, and then those that were added
 abbrev pub overlay : TableChanges → LinesOf → LinesOf
-overlay t kept = flat_map (λ x. line_now (made_of_kept t x.0) x) kept ++ lines_from (suc t.first) t.added.items
+overlay t kept = flat_map (λ x. line_now (made_of_kept t x.0) x) kept
+    ++ lines_from (suc t.first) t.added.items
 
 -- the body of the line of a number, if there is one
 abbrev pub body_at : ℕ → LinesOf → Option (List ℕ)
 body_at id xs = lookup (λ n. n == id) xs
 
--- The changes are ones of these kept lines: the lines have numbers that were given till the transaction began, and each
--- changed one has the body that it is told to have had.
+-- The changes are ones of these kept lines: the lines have numbers that were given till the
+-- transaction began, and each changed one has the body that it is told to have had.
 pub record AreOf (kept : LinesOf) (t : TableChanges) : Type 0 where
   pub rising : IsAscending (λ (a b : ℕ × List ℕ). a.0 < b.0) kept
   pub given : AllByRecursion (λ (x : ℕ × List ℕ). x.0 ≤ t.first) kept

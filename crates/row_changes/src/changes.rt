@@ -1,9 +1,11 @@
-// What a transaction has made of a table. It is written to the database at its end alone: a statement that fails in a
-// transaction of the database may undo all of it.
-ghost use Rattle.std.specs.Prelude.{◌≡◌, ℕ, ◌+◌, ◌-◌, ◌<◌, ◌≤◌, ◌==◌, ◌^◌, if◌then◌else◌, [], None, Some, IfOk, OnErr, OnOk, length, set};
+// What a transaction has made of a table. It is written to the database at its end alone: a
+// statement that fails in a transaction of the database may undo all of it.
+ghost use Rattle.std.specs.Prelude.{◌≡◌, ℕ, ◌+◌, ◌-◌, ◌<◌, ◌≤◌, ◌==◌, ◌^◌, if◌then◌else◌, [], None};
+ghost use Rattle.std.specs.Prelude.{Some, IfOk, OnErr, OnOk, length, set};
 ghost use Rattle.sql_meanings.specs.Lines.{LinesOf};
 ghost use Rattle.row_changes.specs.Moves.{Adds, HasNone, IsSame, Puts, changed_to};
-ghost use Rattle.row_changes.specs.Overlay.{AreOf, body_of_added, bytes_in, change_at, last_of, made_of, overlay, shown};
+ghost use Rattle.row_changes.specs.Overlay.{AreOf, body_of_added, bytes_in, change_at, last_of};
+ghost use Rattle.row_changes.specs.Overlay.{made_of, overlay, shown};
 
 use crate::table::{Change, Made, TableChanges};
 use fx_base::Memory;
@@ -103,7 +105,9 @@ impl TableChanges {
         was: &[u8],
         now: Option<Vec<u8>>,
     ) -> Result<(), Memory>
-        ensures ok { OnOk result ((q : ℕ) → change_at self.new q ≡ (if q == id then Some (changed_to was.now (bytes_in now) (change_at self.old id)) else change_at self.old q)) }
+        ensures ok { OnOk result ((q : ℕ) → change_at self.new q
+            ≡ (if q == id then Some (changed_to was.now (bytes_in now) (change_at self.old id)) else
+            change_at self.old q)) }
         ensures first { self.new.first ≡ self.old.first }
         ensures added { self.new.added.items ≡ self.old.added.items }
         ensures err { OnErr result (self.new.changed.entries ≡ self.old.changed.entries) }
@@ -120,7 +124,8 @@ impl TableChanges {
     /// Ends the transaction with its changes.
     pub fn settle(&mut self)
         ensures none { HasNone self.new (last_of self.old) }
-        ensures changes { (kept : LinesOf) → AreOf kept self.old → AreOf (overlay self.old kept) self.new }
+        ensures changes { (kept : LinesOf) → AreOf kept self.old
+            → AreOf (overlay self.old kept) self.new }
     {
         let last = self.last();
         self.clear();

@@ -6,7 +6,8 @@ pub fn made_tells()
     ensures { MadeTells }
 {}
 
-/// A law, and no work: the lines of a table are those that are kept and have not changed, and those that were made.
+/// A law, and no work: the lines of a table are those that are kept and have not changed, and those
+/// that were made.
 pub fn parts_tell()
     ensures { PartsTell }
 {}

@@ -1,4 +1,5 @@
-//! What a transaction makes of the rows of tables, as lines beside those that are kept: nothing of it is written yet.
+//! What a transaction makes of the rows of tables, as lines beside those that are kept: nothing of
+//! it is written yet.
 #![tactic(auto)]
 
 mod changes;

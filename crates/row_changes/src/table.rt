@@ -27,12 +27,14 @@ pub struct TableChanges {
     pub first: u32,
     /// The rows that were there and have changed, by their numbers.
     pub changed: BTreeMap<u32, Change>,
-    /// The bodies of the rows that were put since, by rising numbers behind the first; None where one is gone again.
+    /// The bodies of the rows that were put since, by rising numbers behind the first; None where
+    /// one is gone again.
     pub added: Vec<Option<Vec<u8>>>,
     ghost bounded: { first + length added.items < 2 ^ 32 },
 }
 
-// By hand, so that it is called: what is derived is opened wherever a value may end, which costs proofs seconds each time.
+// By hand, so that it is called: what is derived is opened wherever a value may end, which costs
+// proofs seconds each time.
 impl Drop for TableChanges {
     fn drop(self) {
         let TableChanges {

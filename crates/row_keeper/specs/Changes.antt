@@ -1,5 +1,6 @@
 -- How calls change the tables, and what they answer.
-use Rattle.std.specs.Prelude.{◌≡◌, ◌≢◌, ℕ, ◌+◌, ◌≤◌, Bool, true, false, List, length, Option, Some, None, IfSome, IsSomeAnd}
+use Rattle.std.specs.Prelude.{◌≡◌, ◌≢◌, ℕ, ◌+◌, ◌≤◌, Bool, true, false, List, length, Option, Some}
+use Rattle.std.specs.Prelude.{None, IfSome, IsSomeAnd}
 use Rattle.std.specs.List.{list_any}
 use Rattle.fx_types.specs.Values.{Data}
 use Rattle.fx_types.specs.declared.aggregates.Totals.{Totals}
@@ -10,7 +11,8 @@ use Rattle.row_queries.specs.TableRows.{rows_at}
 use Rattle.row_queries.specs.declared.queries.Query.{Query}
 use Rattle.row_queries.specs.declared.rows.RowList.{RowList}
 use Rattle.row_keeper.specs.RowRules.{rule_of}
-use Rattle.row_keeper.specs.Tables.{Tables, filled_tables, has_id, rows_of_tables, state_at, with_cells, with_row, with_state, without_row}
+use Rattle.row_keeper.specs.Tables.{Tables, filled_tables, has_id, rows_of_tables, state_at}
+use Rattle.row_keeper.specs.Tables.{with_cells, with_row, with_state, without_row}
 use Rattle.row_keeper.specs.declared.rows.Put.{Put}
 use Rattle.row_keeper.specs.declared.rows.Put.TheVariants.{Id, NoRow, Refused}
 use Rattle.row_keeper.specs.declared.rows.RowRule.{RowRule}
@@ -18,32 +20,39 @@ use Rattle.row_keeper.specs.declared.rows.RowRule.TheVariants.{Required, Unique,
 
 -- ---- the tables, where they are told
 
--- another schema is kept, and nothing changes; or none or this one is, and the tables become those of the schema, which
--- is kept from then on
+-- another schema is kept, and nothing changes; or none or this one is, and the tables become those
+-- of the schema, which is kept from then on
 abbrev pub Shapes : Schema → Option Schema → Tables → Tables → Type 0
 Shapes schema (Some other) a b = (a.kept ≡ Some other) × (other ≢ schema) × (b ≡ a)
-Shapes schema None a b = IfSome a.kept (λ s. s ≡ schema) × (b ≡ record { kept = Some schema; states = filled_tables schema.tables a.states })
+Shapes schema None a b = IfSome a.kept (λ s. s ≡ schema)
+    × (b ≡ record { kept = Some schema; states = filled_tables schema.tables a.states })
 
 -- a new row gets the next number, or is refused by the first rule that it breaks
 abbrev pub Inserts : List Column → ℕ → List Data → Put → Tables → Tables → Type 0
 Inserts columns table cells (Id id) a b =
     (rule_of columns a.states table None cells ≡ None) × (id ≡ (state_at a.states table).last + 1)
     × (b ≡ with_state a table (with_row cells (state_at a.states table)))
-Inserts columns table cells (Refused r) a b = (rule_of columns a.states table None cells ≡ Some r) × (b ≡ a)
+Inserts columns table cells (Refused r) a b = (rule_of columns a.states table None cells ≡ Some r)
+    × (b ≡ a)
 Inserts columns table cells NoRow a b = ⊥
 
--- a row gets these cells, or there is none of this number, or they are refused by the first rule that they break
+-- a row gets these cells, or there is none of this number, or they are refused by the first rule
+-- that they break
 abbrev pub Replaces : List Column → ℕ → ℕ → List Data → Put → Tables → Tables → Type 0
 Replaces columns table id cells (Id n) a b =
-    (n ≡ id) × (list_any (has_id id) (state_at a.states table).rows ≡ true) × (rule_of columns a.states table (Some id) cells ≡ None)
+    (n ≡ id) × (list_any (has_id id) (state_at a.states table).rows ≡ true)
+    × (rule_of columns a.states table (Some id) cells ≡ None)
     × (b ≡ with_state a table (with_cells id cells (state_at a.states table)))
-Replaces columns table id cells NoRow a b = (list_any (has_id id) (state_at a.states table).rows ≡ false) × (b ≡ a)
+Replaces columns table id cells NoRow a b = (list_any (has_id id) (state_at a.states table).rows
+    ≡ false) × (b ≡ a)
 Replaces columns table id cells (Refused r) a b =
-    (list_any (has_id id) (state_at a.states table).rows ≡ true) × (rule_of columns a.states table (Some id) cells ≡ Some r) × (b ≡ a)
+    (list_any (has_id id) (state_at a.states table).rows ≡ true)
+    × (rule_of columns a.states table (Some id) cells ≡ Some r) × (b ≡ a)
 
 -- a row was there, and is taken out; or there was none, and nothing changes
 abbrev pub Removes : ℕ → ℕ → Bool → Tables → Tables → Type 0
-Removes table id true a b = (list_any (has_id id) (state_at a.states table).rows ≡ true) × (b ≡ with_state a table (without_row id (state_at a.states table)))
+Removes table id true a b = (list_any (has_id id) (state_at a.states table).rows ≡ true)
+    × (b ≡ with_state a table (without_row id (state_at a.states table)))
 Removes table id false a b = (list_any (has_id id) (state_at a.states table).rows ≡ false) × (b ≡ a)
 
 -- this is what a query gives, and nothing changes
@@ -54,7 +63,8 @@ abbrev pub CountsQuery : Query → ℕ → Tables → Tables → Type 0
 CountsQuery q n a b = IsCounted q (rows_at (rows_of_tables a.states) q.table) n × (b ≡ a)
 
 abbrev pub TotalsUp : Query → ℕ → Totals → Tables → Tables → Type 0
-TotalsUp q column totals a b = IsTotalled q (rows_at (rows_of_tables a.states) q.table) column totals × (b ≡ a)
+TotalsUp q column totals a b = IsTotalled q (rows_at (rows_of_tables a.states) q.table) column
+    totals × (b ≡ a)
 
 -- ---- the answers, told or not
 

@@ -1,5 +1,6 @@
 -- The columns that an index covers, and the entries of rows.
-use Rattle.std.specs.Prelude.{◌≡◌, ℕ, ◌+◌, ◌<◌, ◌==◌, ◌&&◌, ◌||◌, Bool, false, bytes_eq, cond, List, [], ◌∷◌, map, Option, None, Some}
+use Rattle.std.specs.Prelude.{◌≡◌, ℕ, ◌+◌, ◌<◌, ◌==◌, ◌&&◌, ◌||◌, Bool, false, bytes_eq, cond, List}
+use Rattle.std.specs.Prelude.{[], ◌∷◌, map, Option, None, Some}
 use Rattle.std.specs.List.{list_any}
 use Rattle.std.specs.Option.{is_some}
 use Rattle.fx_types.specs.Values.{Data}
@@ -16,7 +17,8 @@ use Rattle.row_keeper.specs.declared.row_slots.Slot.{Slot}
 -- the numbers of the columns that are indexed or unique, where the first is numbered k
 abbrev pub indexed_from : ℕ → List Column → List ℕ
 indexed_from k [] = []
-indexed_from k (c ∷ cs) = cond (c.indexed || c.unique) (k ∷ indexed_from (k + 1) cs) (indexed_from (k + 1) cs)
+indexed_from k (c ∷ cs) = cond (c.indexed || c.unique) (k ∷ indexed_from (k + 1) cs)
+    (indexed_from (k + 1) cs)
 
 -- `ID` is always indexed
 abbrev pub covered_of : List Column → List ℕ
@@ -42,7 +44,8 @@ has_entry q (Some cells) = bytes_eq (key_at q.1 cells q.0.0) q.0.1
 abbrev pub Agrees : List ℕ → List (ℕ × Slot) → List (((ℕ × List ℕ) × ℕ) × Mark) → Type 0
 Agrees covered rows es =
     ((q : (ℕ × List ℕ) × ℕ) → now_in es q ≡ (covers covered q.0.0 && has_entry q (now_at rows q.1)))
-    × ((q : (ℕ × List ℕ) × ℕ) → then_in es q ≡ (covers covered q.0.0 && has_entry q (then_at rows q.1)))
+    × ((q : (ℕ × List ℕ) × ℕ) → then_in es q ≡ (covers covered q.0.0
+    && has_entry q (then_at rows q.1)))
 
 -- no number above the last has a row
 abbrev pub NoneAbove : ℕ → (ℕ → Option (List Data)) → Type 0

@@ -1,5 +1,6 @@
 -- What an index tells: for the keys of a column, the numbers of the rows that have them.
-use Rattle.std.specs.Prelude.{◌≡◌, ℕ, ◌+◌, ◌==◌, ◌&&◌, Bool, true, false, bytes_eq, cond, not, List, [], ◌∷◌, ◌++◌, filter, map, Option, None, Some}
+use Rattle.std.specs.Prelude.{◌≡◌, ℕ, ◌+◌, ◌==◌, ◌&&◌, Bool, true, false, bytes_eq, cond, not, List}
+use Rattle.std.specs.Prelude.{[], ◌∷◌, ◌++◌, filter, map, Option, None, Some}
 use Rattle.std.specs.List.{list_any}
 use Rattle.std.specs.Map.{lookup}
 use Rattle.std.specs.BTreeMap.{is_at}
@@ -20,7 +21,8 @@ Entries = List (((ℕ × List ℕ) × ℕ) × Mark)
 
 -- entries go by their columns, their keys, and then by the rows
 abbrev pub entry_cmp : (ℕ × List ℕ) × ℕ → (ℕ × List ℕ) × ℕ → Ordering
-entry_cmp a b = ordering_then (ordering_then (nat_cmp a.0.0 b.0.0) (slice_cmp nat_cmp a.0.1 b.0.1)) (nat_cmp a.1 b.1)
+entry_cmp a b = ordering_then (ordering_then (nat_cmp a.0.0 b.0.0) (slice_cmp nat_cmp a.0.1 b.0.1))
+    (nat_cmp a.1 b.1)
 
 -- two entries are the same
 abbrev pub is_entry : (ℕ × List ℕ) × ℕ → (ℕ × List ℕ) × ℕ → Bool
@@ -48,16 +50,19 @@ abbrev pub mark_at : List (((ℕ × List ℕ) × ℕ) × Mark) → (ℕ × List 
 mark_at es q = lookup (is_at (entry_cmp q)) es
 
 -- an entry has a mark and is noted as touched, so that it can be marked without memory
-abbrev pub HasEntryRoom : List ((ℕ × List ℕ) × ℕ) → List (((ℕ × List ℕ) × ℕ) × Mark) → (ℕ × List ℕ) × ℕ → Type 0
+abbrev pub HasEntryRoom : List ((ℕ × List ℕ) × ℕ) → List (((ℕ × List ℕ) × ℕ) × Mark)
+    → (ℕ × List ℕ) × ℕ → Type 0
 HasEntryRoom touched es q = (is_entry_among touched q ≡ true) × (is_some (mark_at es q) ≡ true)
 
 -- entries other than these are as they were as the transaction began
 abbrev pub OtherEntriesStand : List ((ℕ × List ℕ) × ℕ) → List (((ℕ × List ℕ) × ℕ) × Mark) → Type 0
-OtherEntriesStand touched es = (q : (ℕ × List ℕ) × ℕ) → is_entry_among touched q ≡ false → now_in es q ≡ then_in es q
+OtherEntriesStand touched es = (q : (ℕ × List ℕ) × ℕ) → is_entry_among touched q ≡ false
+    → now_in es q ≡ then_in es q
 
 -- a mark after the end of a transaction, with its change or without
 abbrev pub mark_at_end : Bool → Mark → Mark
-mark_at_end with_changes m = cond with_changes (record { was = m.is; is = m.is }) (record { was = m.was; is = m.was })
+mark_at_end with_changes m = cond with_changes (record { was = m.is; is = m.is })
+    (record { was = m.was; is = m.was })
 
 -- a mark of no entry
 abbrev pub is_no_entry : Option Mark → Bool

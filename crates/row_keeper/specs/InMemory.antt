@@ -6,7 +6,8 @@ use Rattle.row_keeper.specs.StoreView.{StoreView, no_store}
 use Rattle.row_keeper.specs.declared.keeper.KeeperEnd.{KeeperEnd}
 use Rattle.row_keeper.specs.declared.keeper.KeeperEnd.TheVariants.{Memory as OutOfMemory, Failed}
 
--- the name that was attached, if any, what is kept, how many rows have been visited, and which calls are to fail
+-- the name that was attached, if any, what is kept, how many rows have been visited, and which
+-- calls are to fail
 pub record InMemory : Type 0 where
   pub name : Option (List ℕ)
   pub store : StoreView
@@ -34,6 +35,7 @@ EndsWithoutMemory fails (Some OutOfMemory) = ⊥
 EndsWithoutMemory fails None = fails ≡ false
 
 -- a call is counted, and ends so
-pub record EndsByPlan (Ends : Bool → Option KeeperEnd → Type 0) (old new : FaultPlan) (end : Option KeeperEnd) : Type 0 where
+pub record EndsByPlan (Ends : Bool → Option KeeperEnd → Type 0) (old new : FaultPlan)
+    (end : Option KeeperEnd) : Type 0 where
   pub counted : new ≡ with_call old
   pub ends : Ends (fails_next old) end

@@ -15,7 +15,8 @@ pub record IsPage (q : Query) (most : ℕ) : Type 0 where
 
 -- the first rows, at most so many, of those that a query asks
 abbrev pub AreFirstRows : Query → List Row → ℕ → List Row → Type 0
-AreFirstRows q rows most first = (asked : List Row) × AreAsked q rows asked × (first ≡ take most asked)
+AreFirstRows q rows most first = (asked : List Row) × AreAsked q rows asked
+    × (first ≡ take most asked)
 
 -- what a query gives, whose test is no error on a row, and for which so many rows were asked
 pub record QueryGives (q : Query) (rows given : List Row) (count : ℕ) : Type 0 where

@@ -1,5 +1,6 @@
 -- The rules that rows keep.
-use Rattle.std.specs.Prelude.{ℕ, ◌+◌, ◌==◌, Bool, true, false, not, ◌&&◌, ◌||◌, nat_le, nat_lt, cond, List, ◌∷◌, filter, length, sum_by, Option, Some, None, is_none}
+use Rattle.std.specs.Prelude.{ℕ, ◌+◌, ◌==◌, Bool, true, false, not, ◌&&◌, ◌||◌, nat_le, nat_lt}
+use Rattle.std.specs.Prelude.{cond, List, ◌∷◌, filter, length, sum_by, Option, Some, None, is_none}
 use Rattle.std.specs.List.{list_any}
 use Rattle.std.specs.Ordering.{is_eq}
 use Rattle.fx_types.specs.Values.{Data, blank}
@@ -30,23 +31,27 @@ lacks c k d = c.required && is_empty_value d
 abbrev pub has_value : ℕ → Data → Row → Bool
 has_value k d r = is_same_key (value_at (values_of r) k) d
 
--- the value of a unique column, the one of this number, stands in another row; blank may stand in many
+-- the value of a unique column, the one of this number, stands in another row; blank may stand in
+-- many
 abbrev pub repeats : List Row → Column → ℕ → Data → Bool
 repeats others c k d = c.unique && (not (is_blank d) && list_any (has_value k d) others)
 
--- the number of the first column that breaks a rule, where these cells stand in these columns, which are numbered
--- from k on
+-- the number of the first column that breaks a rule, where these cells stand in these columns,
+-- which are numbered from k on
 abbrev pub first_broken : (Column → ℕ → Data → Bool) → ℕ → List Column → List Data → Option ℕ
-first_broken breaks k (c ∷ cs) (d ∷ ds) = cond (breaks c k d) (Some k) (first_broken breaks (k + 1) cs ds)
+first_broken breaks k (c ∷ cs) (d ∷ ds) = cond (breaks c k d) (Some k)
+    (first_broken breaks (k + 1) cs ds)
 first_broken breaks k cs ds = None
 
 -- what the cells of a row weigh
 abbrev pub cells_weight : List Data → ℕ
 cells_weight cells = sum_by weight_of cells
 
--- a table takes no new row: it has 200,000 rows, all tables have 500,000, or its last number is the greatest
+-- a table takes no new row: it has 200,000 rows, all tables have 500,000, or its last number is the
+-- greatest
 abbrev pub is_table_full : TableState → ℕ → Bool
-is_table_full state all = nat_le 200000 (length state.rows) || (nat_le 500000 all || state.last == 4294967295)
+is_table_full state all = nat_le 200000 (length state.rows)
+    || (nat_le 500000 all || state.last == 4294967295)
 
 -- the rows of a table but the one of this number; a new row has none
 abbrev pub others : Option ℕ → List Row → List Row
@@ -68,8 +73,9 @@ abbrev pub first_of_two : Option RowRefusal → Option RowRefusal → Option Row
 first_of_two None b = b
 first_of_two (Some r) b = Some r
 
--- THE first rule that cells break in the row of this number of a table, or in a new one, where all tables have so many
--- rows: `required` and `unique` by columns, `size`, and `full` for new rows. `ID` is column 0.
+-- THE first rule that cells break in the row of this number of a table, or in a new one, where all
+-- tables have so many rows: `required` and `unique` by columns, `size`, and `full` for new rows.
+-- `ID` is column 0.
 abbrev pub rule_in : List Column → TableState → ℕ → Option ℕ → List Data → Option RowRefusal
 rule_in columns state all id cells =
     first_of_two (in_column Required (first_broken lacks 1 columns cells))
@@ -79,4 +85,5 @@ rule_in columns state all id cells =
 
 -- the same of one of several tables
 abbrev pub rule_of : List Column → List TableState → ℕ → Option ℕ → List Data → Option RowRefusal
-rule_of columns states table id cells = rule_in columns (state_at states table) (all_rows states) id cells
+rule_of columns states table id cells = rule_in columns (state_at states table) (all_rows states) id
+    cells

@@ -1,5 +1,6 @@
 -- The rules of columns, as an index is asked for them.
-use Rattle.std.specs.Prelude.{◌≡◌, true, false, ℕ, zero, suc, Bool, not, List, [], ◌∷◌, ◌++◌, Option, Some, None}
+use Rattle.std.specs.Prelude.{◌≡◌, true, false, ℕ, zero, suc, Bool, not, List, [], ◌∷◌, ◌++◌}
+use Rattle.std.specs.Prelude.{Option, Some, None}
 use Rattle.fx_types.specs.TypeView.{shape}
 use Rattle.fx_types.specs.Values.{Data}
 use Rattle.fx_core.specs.declared.schema.Column.{Column}

@@ -1,5 +1,6 @@
 -- Rows by their numbers, now and as the transaction began.
-use Rattle.std.specs.Prelude.{◌≡◌, ℕ, ◌==◌, Bool, true, false, cond, is_none, List, [], ◌∷◌, Option, None, Some}
+use Rattle.std.specs.Prelude.{◌≡◌, ℕ, ◌==◌, Bool, true, false, cond, is_none, List, [], ◌∷◌, Option}
+use Rattle.std.specs.Prelude.{None, Some}
 use Rattle.std.specs.List.{list_any}
 use Rattle.std.specs.Map.{lookup}
 use Rattle.std.specs.Option.{is_some}
@@ -84,7 +85,8 @@ is_unchanged (Some s) = is_unmade s.made
 
 -- slots of other numbers than these are as they were
 abbrev pub OtherSlotsStand : List ℕ → List (ℕ × Slot) → Type 0
-OtherSlotsStand touched rows = (i : ℕ) → has_number touched i ≡ false → is_unchanged (slot_at rows i) ≡ true
+OtherSlotsStand touched rows = (i : ℕ) → has_number touched i ≡ false
+    → is_unchanged (slot_at rows i) ≡ true
 
 -- a slot after the end of a transaction, with its change or without
 abbrev pub slot_at_end : Bool → Slot → Slot

@@ -3,7 +3,8 @@ use Rattle.std.specs.Prelude.{Bool, false, List, [], Option, None}
 use Rattle.fx_core.specs.declared.schema.Schema.{Schema}
 use Rattle.row_keeper.specs.Tables.{TableState, Tables}
 
--- the schema that is kept, if any, its tables now and as the transaction began, and whether one is begun
+-- the schema that is kept, if any, its tables now and as the transaction began, and whether one is
+-- begun
 pub record StoreView : Type 0 where
   pub schema : Option Schema
   pub now : List TableState

@@ -1,5 +1,7 @@
 -- The tables that are kept.
-use Rattle.std.specs.Prelude.{ℕ, ◌+◌, ◌^◌, ◌<◌, ◌≤◌, ◌==◌, cond, List, [], ◌∷◌, ◌++◌, map, filter, set, length, sum_by, not, Bool, Option, Some, None, option_map, slice_get, unwrap_or}
+use Rattle.std.specs.Prelude.{ℕ, ◌+◌, ◌^◌, ◌<◌, ◌≤◌, ◌==◌, cond, List, [], ◌∷◌, ◌++◌, map, filter}
+use Rattle.std.specs.Prelude.{set, length, sum_by, not, Bool, Option, Some, None, option_map}
+use Rattle.std.specs.Prelude.{slice_get, unwrap_or}
 use Rattle.std.specs.List.{All}
 use Rattle.fx_types.specs.Values.{Data}
 use Rattle.fx_core.specs.declared.schema.Column.{Column}
@@ -57,11 +59,18 @@ has_id id r = r.id == id
 
 -- with a row more, under the next number
 abbrev pub with_row : List Data → TableState → TableState
-with_row cells s = record { rows = s.rows ++ record { id = s.last + 1; cells = cells } ∷ []; last = s.last + 1 }
+with_row cells s = record {
+  rows = s.rows ++ record { id = s.last + 1; cells = cells } ∷ [];
+  last = s.last + 1;
+}
 
 -- with these cells in the row of this number
 abbrev pub with_cells : ℕ → List Data → TableState → TableState
-with_cells id cells s = record { rows = map (λ (r : Row). cond (has_id id r) (record { id = r.id; cells = cells }) r) s.rows; last = s.last }
+with_cells id cells s = record {
+  rows = map (λ (r : Row). cond (has_id id r)
+      (record { id = r.id; cells = cells }) r) s.rows;
+  last = s.last;
+}
 
 -- without the row of this number; the number isn't given again
 abbrev pub without_row : ℕ → TableState → TableState
@@ -77,7 +86,8 @@ filled_tables [] states = []
 filled_tables (t ∷ ts) [] = no_rows ∷ filled_tables ts []
 filled_tables (t ∷ ts) (s ∷ ss) = s ∷ filled_tables ts ss
 
--- the rows fit the table, stand by rising numbers, and the last number that was given isn't below any and has 32 bits
+-- the rows fit the table, stand by rising numbers, and the last number that was given isn't below
+-- any and has 32 bits
 pub record IsStateOf (t : TableShape) (s : TableState) : Type 0 where
   pub fit : All (IsRowOf t) s.rows
   pub rising : AreInIdOrder s.rows

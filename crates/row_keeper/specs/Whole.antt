@@ -25,7 +25,8 @@ pub record IsTallied (rows : List (ℕ × Slot)) (last count first first_count :
   pub few : count ≤ 200000
   pub few_then : first_count ≤ 200000
 
-pub record IsWholeIndex (columns : List Column) (covered : List ℕ) (rows : List (ℕ × Slot)) (es : List (((ℕ × List ℕ) × ℕ) × Mark)) (last count first first_count : ℕ) : Type 0 where
+pub record IsWholeIndex (columns : List Column) (covered : List ℕ) (rows : List (ℕ × Slot))
+    (es : List (((ℕ × List ℕ) × ℕ) × Mark)) (last count first first_count : ℕ) : Type 0 where
   pub narrow : length columns ≤ 63
   pub covered_is : covered ≡ covered_of columns
   pub agrees : Agrees covered rows es

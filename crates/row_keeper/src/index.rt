@@ -1,10 +1,16 @@
-// An index: an ordered map from the keys of columns, with the numbers of the rows that have them, to marks.
-ghost use Rattle.std.specs.Prelude.{◌≡◌, ℕ, ◌-◌, ◌<◌, ◌^◌, ◌||◌, ◌++◌, ◌≤◌, cond, true, [], IfOk, OnOk, filter, length, option_map, take};
+// An index: an ordered map from the keys of columns, with the numbers of the rows that have them,
+// to marks.
+ghost use Rattle.std.specs.Prelude.{◌≡◌, ℕ, ◌-◌, ◌<◌, ◌^◌, ◌||◌, ◌++◌, ◌≤◌, cond, true, [], IfOk};
+ghost use Rattle.std.specs.Prelude.{OnOk, filter, length, option_map, take};
 ghost use Rattle.std.specs.BTreeMap.{IsOrdered};
 ghost use Rattle.std.specs.BTreeSet as set;
 ghost use Rattle.std.specs.Option.{is_some};
 ghost use Rattle.std.specs.Ordering.{nat_cmp};
-ghost use Rattle.row_keeper.specs.Entries.{IndexEntry as EntryValue, HasEntryRoom, OtherEntriesStand, among, mark_at_end, end_key, entry_ended, entry_cmp, hits, hits_in, ids_in, ids_of, is_entry, is_no_entry, is_entry_among, lies_at, mark_at, now_in, then_in, while_entry};
+ghost use Rattle.row_keeper.specs.Entries.{IndexEntry as EntryValue, HasEntryRoom};
+ghost use Rattle.row_keeper.specs.Entries.{OtherEntriesStand, among, mark_at_end, end_key};
+ghost use Rattle.row_keeper.specs.Entries.{entry_ended, entry_cmp, hits, hits_in, ids_in, ids_of};
+ghost use Rattle.row_keeper.specs.Entries.{is_entry, is_no_entry, is_entry_among, lies_at, mark_at};
+ghost use Rattle.row_keeper.specs.Entries.{now_in, then_in, while_entry};
 
 use fx_base::Memory;
 use row_queries::{Key, KeyRange};
@@ -27,7 +33,8 @@ pub struct Mark {
 pub struct Index {
     pub entries: BTreeMap<((u16, Key), u32), Mark>,
     /// The entries that the transaction may have changed, some of them more than once.
-    // An entry is noted before it changes, so that neither end of a transaction takes memory, and looks at these alone.
+    // An entry is noted before it changes, so that neither end of a transaction takes memory, and
+    // looks at these alone.
     pub touched: Vec<((u16, Key), u32)>,
     ghost kept: { OtherEntriesStand touched.items entries.entries },
 }
@@ -53,8 +60,10 @@ fn make_mark(
     entry: &Entry,
 ) -> Result<(), Memory>
     ensures now { (q : EntryValue) → now_in entries.new.entries q ≡ now_in entries.old.entries q }
-    ensures then { (q : EntryValue) → then_in entries.new.entries q ≡ then_in entries.old.entries q }
-    ensures more { (q : EntryValue) → is_some (mark_at entries.old.entries q) ≡ true → is_some (mark_at entries.new.entries q) ≡ true }
+    ensures then { (q : EntryValue) → then_in entries.new.entries q
+        ≡ then_in entries.old.entries q }
+    ensures more { (q : EntryValue) → is_some (mark_at entries.old.entries q) ≡ true
+        → is_some (mark_at entries.new.entries q) ≡ true }
     ensures room { OnOk result (is_some (mark_at entries.new.entries entry.now) ≡ true) }
 {
     let entry = copy_entry(alloc, entry)?;
@@ -95,7 +104,9 @@ impl Mark {
 
 /// Ends a transaction in the mark of an entry, if it has one.
 fn end_mark(entries: &mut BTreeMap<((u16, Key), u32), Mark>, entry: &Entry, with_changes: bool)
-    ensures { (q : EntryValue) → mark_at entries.new.entries q ≡ cond (is_entry entry.now q) (option_map (mark_at_end with_changes) (mark_at entries.old.entries q)) (mark_at entries.old.entries q) }
+    ensures { (q : EntryValue) → mark_at entries.new.entries q
+        ≡ cond (is_entry entry.now q) (option_map (mark_at_end with_changes)
+        (mark_at entries.old.entries q)) (mark_at entries.old.entries q) }
 {
     if let Some(mark) = entries.get_mut(entry) {
         mark.end(with_changes);
@@ -114,7 +125,9 @@ fn is_void(entries: &BTreeMap<((u16, Key), u32), Mark>, entry: &Entry) -> bool
 
 /// Takes out an entry whose mark is that of no row.
 fn drop_mark(entries: &mut BTreeMap<((u16, Key), u32), Mark>, entry: &Entry)
-    ensures { (q : EntryValue) → mark_at entries.new.entries q ≡ cond (is_entry entry.now q) (while_entry (mark_at entries.old.entries q)) (mark_at entries.old.entries q) }
+    ensures { (q : EntryValue) → mark_at entries.new.entries q
+        ≡ cond (is_entry entry.now q) (while_entry (mark_at entries.old.entries q))
+        (mark_at entries.old.entries q) }
 {
     if is_void(entries, entry) {
         entries.remove(entry);
@@ -123,7 +136,9 @@ fn drop_mark(entries: &mut BTreeMap<((u16, Key), u32), Mark>, entry: &Entry)
 
 /// Ends a transaction at an entry.
 fn end_at(entries: &mut BTreeMap<((u16, Key), u32), Mark>, entry: &Entry, with_changes: bool)
-    ensures { (q : EntryValue) → mark_at entries.new.entries q ≡ cond (is_entry entry.now q) (entry_ended with_changes (mark_at entries.old.entries q)) (mark_at entries.old.entries q) }
+    ensures { (q : EntryValue) → mark_at entries.new.entries q
+        ≡ cond (is_entry entry.now q) (entry_ended with_changes (mark_at entries.old.entries q))
+        (mark_at entries.old.entries q) }
 {
     end_mark(entries, entry, with_changes);
     drop_mark(entries, entry);
@@ -131,7 +146,9 @@ fn end_at(entries: &mut BTreeMap<((u16, Key), u32), Mark>, entry: &Entry, with_c
 
 /// Ends a transaction at the entries that it touched, and takes no memory.
 fn end_all(entries: &mut BTreeMap<((u16, Key), u32), Mark>, touched: &[Entry], with_changes: bool)
-    ensures { (q : EntryValue) → mark_at entries.new.entries q ≡ cond (is_entry_among touched.now q) (entry_ended with_changes (mark_at entries.old.entries q)) (mark_at entries.old.entries q) }
+    ensures { (q : EntryValue) → mark_at entries.new.entries q
+        ≡ cond (is_entry_among touched.now q)
+        (entry_ended with_changes (mark_at entries.old.entries q)) (mark_at entries.old.entries q) }
 {
     for entry in touched {
         end_at(entries, entry, with_changes);
@@ -151,7 +168,8 @@ impl Index {
     /// Notes an entry as touched.
     fn touch(&mut self, alloc: Global, entry: &Entry) -> Result<(), Memory>
         ensures entries { self.new.entries ≡ self.old.entries }
-        ensures more { (q : EntryValue) → is_entry_among self.old.touched.items q ≡ true → is_entry_among self.new.touched.items q ≡ true }
+        ensures more { (q : EntryValue) → is_entry_among self.old.touched.items q ≡ true
+            → is_entry_among self.new.touched.items q ≡ true }
         ensures ok { OnOk result (is_entry_among self.new.touched.items entry.now ≡ true) }
     {
         self.touched.push(copy_entry(alloc, entry)?)?;
@@ -160,10 +178,15 @@ impl Index {
 
     /// Makes room for an entry, so that it can be marked without memory.
     pub fn make_room(&mut self, alloc: Global, entry: &Entry) -> Result<(), Memory>
-        ensures now { (q : EntryValue) → now_in self.new.entries.entries q ≡ now_in self.old.entries.entries q }
-        ensures then { (q : EntryValue) → then_in self.new.entries.entries q ≡ then_in self.old.entries.entries q }
-        ensures more { (q : EntryValue) → HasEntryRoom self.old.touched.items self.old.entries.entries q → HasEntryRoom self.new.touched.items self.new.entries.entries q }
-        ensures room { OnOk result (HasEntryRoom self.new.touched.items self.new.entries.entries entry.now) }
+        ensures now { (q : EntryValue) → now_in self.new.entries.entries q
+            ≡ now_in self.old.entries.entries q }
+        ensures then { (q : EntryValue) → then_in self.new.entries.entries q
+            ≡ then_in self.old.entries.entries q }
+        ensures more { (q : EntryValue) → HasEntryRoom self.old.touched.items
+            self.old.entries.entries q → HasEntryRoom self.new.touched.items
+            self.new.entries.entries q }
+        ensures room { OnOk result (HasEntryRoom self.new.touched.items self.new.entries.entries
+            entry.now) }
     {
         self.touch(alloc, entry)?;
         make_mark(alloc, &mut self.entries, entry)
@@ -172,9 +195,13 @@ impl Index {
     /// Marks an entry that has room as one of a row, or as none.
     pub fn mark(&mut self, entry: &Entry, is: bool)
         requires { HasEntryRoom self.old.touched.items self.old.entries.entries entry.now }
-        ensures now { (q : EntryValue) → now_in self.new.entries.entries q ≡ cond (is_entry entry.now q) is (now_in self.old.entries.entries q) }
-        ensures then { (q : EntryValue) → then_in self.new.entries.entries q ≡ then_in self.old.entries.entries q }
-        ensures room { (q : EntryValue) → HasEntryRoom self.old.touched.items self.old.entries.entries q → HasEntryRoom self.new.touched.items self.new.entries.entries q }
+        ensures now { (q : EntryValue) → now_in self.new.entries.entries q
+            ≡ cond (is_entry entry.now q) is (now_in self.old.entries.entries q) }
+        ensures then { (q : EntryValue) → then_in self.new.entries.entries q
+            ≡ then_in self.old.entries.entries q }
+        ensures room { (q : EntryValue) → HasEntryRoom self.old.touched.items
+            self.old.entries.entries q → HasEntryRoom self.new.touched.items
+            self.new.entries.entries q }
     {
         if let Some(mark) = self.entries.get_mut(entry) {
             mark.is = is;
@@ -183,10 +210,15 @@ impl Index {
 
     /// Makes room for entries.
     pub fn make_rooms(&mut self, alloc: Global, entries: &[Entry]) -> Result<(), Memory>
-        ensures now { (q : EntryValue) → now_in self.new.entries.entries q ≡ now_in self.old.entries.entries q }
-        ensures then { (q : EntryValue) → then_in self.new.entries.entries q ≡ then_in self.old.entries.entries q }
-        ensures more { (q : EntryValue) → HasEntryRoom self.old.touched.items self.old.entries.entries q → HasEntryRoom self.new.touched.items self.new.entries.entries q }
-        ensures room { OnOk result ((q : EntryValue) → is_entry_among entries.now q ≡ true → HasEntryRoom self.new.touched.items self.new.entries.entries q) }
+        ensures now { (q : EntryValue) → now_in self.new.entries.entries q
+            ≡ now_in self.old.entries.entries q }
+        ensures then { (q : EntryValue) → then_in self.new.entries.entries q
+            ≡ then_in self.old.entries.entries q }
+        ensures more { (q : EntryValue) → HasEntryRoom self.old.touched.items
+            self.old.entries.entries q → HasEntryRoom self.new.touched.items
+            self.new.entries.entries q }
+        ensures room { OnOk result ((q : EntryValue) → is_entry_among entries.now q ≡ true
+            → HasEntryRoom self.new.touched.items self.new.entries.entries q) }
     {
         for entry in entries {
             self.make_room(alloc, entry)?;
@@ -196,10 +228,15 @@ impl Index {
 
     /// Marks entries that have room as those of a row, or of none.
     pub fn mark_all(&mut self, entries: &[Entry], is: bool)
-        requires { (q : EntryValue) → is_entry_among entries.now q ≡ true → HasEntryRoom self.old.touched.items self.old.entries.entries q }
-        ensures now { (q : EntryValue) → now_in self.new.entries.entries q ≡ cond (is_entry_among entries.now q) is (now_in self.old.entries.entries q) }
-        ensures then { (q : EntryValue) → then_in self.new.entries.entries q ≡ then_in self.old.entries.entries q }
-        ensures room { (q : EntryValue) → HasEntryRoom self.old.touched.items self.old.entries.entries q → HasEntryRoom self.new.touched.items self.new.entries.entries q }
+        requires { (q : EntryValue) → is_entry_among entries.now q ≡ true
+            → HasEntryRoom self.old.touched.items self.old.entries.entries q }
+        ensures now { (q : EntryValue) → now_in self.new.entries.entries q
+            ≡ cond (is_entry_among entries.now q) is (now_in self.old.entries.entries q) }
+        ensures then { (q : EntryValue) → then_in self.new.entries.entries q
+            ≡ then_in self.old.entries.entries q }
+        ensures room { (q : EntryValue) → HasEntryRoom self.old.touched.items
+            self.old.entries.entries q → HasEntryRoom self.new.touched.items
+            self.new.entries.entries q }
     {
         for entry in entries {
             self.mark(entry, is);
@@ -208,8 +245,10 @@ impl Index {
 
     /// Ends a transaction without its changes, and takes no memory.
     pub fn restore(&mut self)
-        ensures now { (q : EntryValue) → now_in self.new.entries.entries q ≡ then_in self.old.entries.entries q }
-        ensures then { (q : EntryValue) → then_in self.new.entries.entries q ≡ then_in self.old.entries.entries q }
+        ensures now { (q : EntryValue) → now_in self.new.entries.entries q
+            ≡ then_in self.old.entries.entries q }
+        ensures then { (q : EntryValue) → then_in self.new.entries.entries q
+            ≡ then_in self.old.entries.entries q }
     {
         end_all(&mut self.entries, &self.touched, false);
         self.touched.clear();
@@ -217,8 +256,10 @@ impl Index {
 
     /// Ends a transaction with its changes, and takes no memory.
     pub fn settle(&mut self)
-        ensures now { (q : EntryValue) → now_in self.new.entries.entries q ≡ now_in self.old.entries.entries q }
-        ensures then { (q : EntryValue) → then_in self.new.entries.entries q ≡ now_in self.old.entries.entries q }
+        ensures now { (q : EntryValue) → now_in self.new.entries.entries q
+            ≡ now_in self.old.entries.entries q }
+        ensures then { (q : EntryValue) → then_in self.new.entries.entries q
+            ≡ now_in self.old.entries.entries q }
     {
         end_all(&mut self.entries, &self.touched, true);
         self.touched.clear();
@@ -233,7 +274,9 @@ impl Index {
         found: &mut BTreeSet<u32>,
     ) -> Result<(), Memory>
         requires { column < 2 ^ 16 - 1 }
-        ensures { OnOk result ((i : ℕ) → set.contains nat_cmp found.new i ≡ (set.contains nat_cmp found.old i || hits column range.now self.now.entries.entries i)) }
+        ensures { OnOk result ((i : ℕ) → set.contains nat_cmp found.new i
+            ≡ (set.contains nat_cmp found.old i
+            || hits column range.now self.now.entries.entries i)) }
     {
         let low = ((column, copy_key(alloc, &range.from)?), 0);
         let high = (end_of(alloc, column, range)?, 0);
@@ -245,7 +288,8 @@ impl Index {
         }
     }
 
-    /// Adds the numbers of the rows with an entry of a column in a range, by their keys, until there are so many.
+    /// Adds the numbers of the rows with an entry of a column in a range, by their keys, until
+    /// there are so many.
     fn add_first_hits(
         &self,
         alloc: Global,
@@ -256,7 +300,9 @@ impl Index {
     ) -> Result<(), Memory>
         requires column { column < 2 ^ 16 - 1 }
         requires few { length found.old.items ≤ most }
-        ensures { OnOk result (found.new.items ≡ take most (found.old.items ++ ids_of (filter (lies_at column range.now) self.now.entries.entries))) }
+        ensures { OnOk result (found.new.items
+            ≡ take most (found.old.items ++ ids_of
+            (filter (lies_at column range.now) self.now.entries.entries))) }
     {
         let low = ((column, copy_key(alloc, &range.from)?), 0);
         let high = (end_of(alloc, column, range)?, 0);
@@ -267,7 +313,8 @@ impl Index {
         }
     }
 
-    /// The numbers of the first rows, at most so many, with an entry of a column in the ranges: range by range, by their keys.
+    /// The numbers of the first rows, at most so many, with an entry of a column in the ranges:
+    /// range by range, by their keys.
     pub fn first_hits(
         &self,
         alloc: Global,
@@ -276,7 +323,8 @@ impl Index {
         most: usize,
     ) -> Result<Vec<u32>, Memory>
         requires { column < 2 ^ 16 - 1 }
-        ensures hits { IfOk result (λ v. v.items ≡ take most (ids_in column ranges.now self.now.entries.entries)) }
+        ensures hits { IfOk result (λ v. v.items
+            ≡ take most (ids_in column ranges.now self.now.entries.entries)) }
         ensures ordered { IsOrdered entry_cmp self.now.entries }
     {
         let _len = self.entries.len();
@@ -295,7 +343,8 @@ impl Index {
         ranges: &[KeyRange],
     ) -> Result<BTreeSet<u32>, Memory>
         requires { column < 2 ^ 16 - 1 }
-        ensures hits { IfOk result (λ s. (i : ℕ) → set.contains nat_cmp s i ≡ hits_in column ranges.now self.now.entries.entries i) }
+        ensures hits { IfOk result (λ s. (i : ℕ)
+            → set.contains nat_cmp s i ≡ hits_in column ranges.now self.now.entries.entries i) }
         ensures ordered { IsOrdered entry_cmp self.now.entries }
     {
         // `len` is called for its clause, by which the map's keys are in order.
@@ -333,7 +382,8 @@ fn gather(
     range: Range<'_, ((u16, Key), u32), Mark>,
     found: &mut BTreeSet<u32>,
 ) -> Result<(), Memory>
-    ensures { OnOk result ((i : ℕ) → set.contains nat_cmp found.new i ≡ (set.contains nat_cmp found.old i || among range.entry i)) }
+    ensures { OnOk result ((i : ℕ) → set.contains nat_cmp found.new i
+        ≡ (set.contains nat_cmp found.old i || among range.entry i)) }
 {
     for (entry, mark) in range {
         if mark.is {

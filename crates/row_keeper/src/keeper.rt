@@ -1,6 +1,9 @@
 //! What keeps the rows of tables, with transactions.
-ghost use Rattle.row_keeper.specs.declared.keeper.KeeperEnd.TheVariants.{Memory as OutOfMemory, Failed as CallFailed};
-ghost use Rattle.std.specs.Prelude.{◌≡◌, ◌≢◌, ℕ, ◌≤◌, Bool, true, false, List, length, Option, Some, None, slice_get, IfNone, IfOk, IfSome, IsSome, IsSomeAnd, OnErr, OnOk};
+ghost use Rattle.row_keeper.specs.declared.keeper.KeeperEnd.TheVariants.{Memory as OutOfMemory};
+ghost use Rattle.row_keeper.specs.declared.keeper.KeeperEnd.TheVariants.{Failed as CallFailed};
+ghost use Rattle.std.specs.Prelude.{◌≡◌, ◌≢◌, ℕ, ◌≤◌, Bool, true, false, List, length, Option};
+ghost use Rattle.std.specs.Prelude.{Some, None, slice_get, IfNone, IfOk, IfSome, IsSome, IsSomeAnd};
+ghost use Rattle.std.specs.Prelude.{OnErr, OnOk};
 ghost use Rattle.std.specs.List.{All};
 ghost use Rattle.fx_base.specs.Silence.{MayFallSilent, IsLater, SilenceCause, Marks};
 ghost use Rattle.fx_base.specs.Telling.{Stays};
@@ -12,7 +15,8 @@ ghost use Rattle.row_queries.specs.RowTests.{HasNoFaults};
 ghost use Rattle.row_queries.specs.TableRows.{AreCellsOf, IsRowOf};
 ghost use Rattle.row_queries.specs.Visits.{VisitsAtLeast, VisitsTold};
 ghost use Rattle.row_keeper.specs.Causes.{HasCause, end_of};
-ghost use Rattle.row_keeper.specs.Changes.{CountsQuery, Inserts, IsInserted, IsReplaced, Removes, Replaces, Scans, Shapes, TotalsUp};
+ghost use Rattle.row_keeper.specs.Changes.{CountsQuery, Inserts, IsInserted, IsReplaced, Removes};
+ghost use Rattle.row_keeper.specs.Changes.{Replaces, Scans, Shapes, TotalsUp};
 ghost use Rattle.row_keeper.specs.Tables.{AreStatesOf, Tables, columns_at, rows_told, shapes_of};
 
 use crate::rows::Put;
@@ -55,11 +59,12 @@ impl<T: Drop> From<AllocFailed<T>> for KeeperEnd {
     }
 }
 
-/// A store of the rows of tables, with transactions. Tables and columns go by number, and `ID` is column 0.
+/// A store of the rows of tables, with transactions. Tables and columns go by number, and `ID` is
+/// column 0.
 ///
-/// A keeper may tell what it has. It falls silent only in a call in which its count of faults rose, or after a doubt has
-/// come up, and stays silent then. What it tells after a call that gave no answer is what it told before, unless
-/// the call says otherwise.
+/// A keeper may tell what it has. It falls silent only in a call in which its count of faults rose,
+/// or after a doubt has come up, and stays silent then. What it tells after a call that gave no
+/// answer is what it told before, unless the call says otherwise.
 pub trait Keeper {
     ghost use Rattle.row_keeper.specs.declared.keeper.KeeperEnd.{KeeperEnd};
 
@@ -102,9 +107,14 @@ pub trait Keeper {
     /// Attaches the store of a name. It comes first.
     fn attach(&mut self, name: &str) -> Result<(), KeeperEnd>
         requires idle { in_transaction self.old ≡ false }
-        ensures attached { OnOk result (MayFallSilent (SilenceCause (marks self.old) (marks self.new)) (λ _ n. n ≡ Some name.now) (attached self.old) (attached self.new)) }
+        ensures attached { OnOk result (MayFallSilent
+            (SilenceCause (marks self.old) (marks self.new)) (λ _ n. n ≡ Some name.now)
+            (attached self.old) (attached self.new)) }
         ensures promised { OnOk result (attaches self.old name.now self.new) }
-        ensures err { OnErr result (MayFallSilent (SilenceCause (marks self.old) (marks self.new)) Stays (told self.old) (told self.new) × MayFallSilent (SilenceCause (marks self.old) (marks self.new)) Stays (attached self.old) (attached self.new)) }
+        ensures err { OnErr result (MayFallSilent (SilenceCause (marks self.old) (marks self.new))
+            Stays (told self.old) (told self.new)
+            × MayFallSilent (SilenceCause (marks self.old) (marks self.new)) Stays
+            (attached self.old) (attached self.new)) }
         ensures shaped { OnErr result (shaped self.new ≡ shaped self.old) }
         ensures idle { in_transaction self.new ≡ false }
         ensures cause { HasCause (marks self.old) (marks self.new) result }
@@ -112,19 +122,24 @@ pub trait Keeper {
         ensures loan { loan self.new ≡ loan self.old }
         ensures ends { ends self.old self.new (end_of result) };
 
-    /// Makes the tables those of a schema, with the rows that are there. Where another schema is kept it answers that one
-    /// and changes nothing.
+    /// Makes the tables those of a schema, with the rows that are there. Where another schema is
+    /// kept it answers that one and changes nothing.
     fn shape(&mut self, schema: &Schema) -> Result<Option<Schema>, KeeperEnd>
         requires idle { in_transaction self.old ≡ false }
         requires lawful { IsLawfulSchema schema.now }
-        ensures tables { IfOk result (λ other. MayFallSilent (SilenceCause (marks self.old) (marks self.new)) (Shapes schema.now other) (told self.old) (told self.new)) }
+        ensures tables { IfOk result (λ other. MayFallSilent
+            (SilenceCause (marks self.old) (marks self.new)) (Shapes schema.now other)
+            (told self.old) (told self.new)) }
         ensures another { IfOk result (λ other. IfSome other (λ s. s ≢ schema.now)) }
-        ensures sound { IfOk result (λ other. IfNone other (IfSome (told self.new) (λ t. AreStatesOf schema.now.tables t.states))) }
+        ensures sound { IfOk result (λ other. IfNone other
+            (IfSome (told self.new) (λ t. AreStatesOf schema.now.tables t.states))) }
         ensures shaped { IfOk result (λ other. IfNone other (shaped self.new ≡ Some schema.now)) }
         ensures unshaped { IfOk result (λ other. IsSome other → shaped self.new ≡ shaped self.old) }
-        ensures err { OnErr result (MayFallSilent (SilenceCause (marks self.old) (marks self.new)) Stays (told self.old) (told self.new)) }
+        ensures err { OnErr result (MayFallSilent (SilenceCause (marks self.old) (marks self.new))
+            Stays (told self.old) (told self.new)) }
         ensures err_shaped { OnErr result (shaped self.new ≡ shaped self.old) }
-        ensures attached { MayFallSilent (SilenceCause (marks self.old) (marks self.new)) Stays (attached self.old) (attached self.new) }
+        ensures attached { MayFallSilent (SilenceCause (marks self.old) (marks self.new)) Stays
+            (attached self.old) (attached self.new) }
         ensures idle { in_transaction self.new ≡ false }
         ensures cause { HasCause (marks self.old) (marks self.new) result }
         ensures visited { visited self.old ≤ visited self.new }
@@ -134,10 +149,13 @@ pub trait Keeper {
     /// Begins a transaction.
     fn begin(&mut self) -> Result<(), KeeperEnd>
         requires idle { in_transaction self.old ≡ false }
-        ensures tables { MayFallSilent (SilenceCause (marks self.old) (marks self.new)) Stays (told self.old) (told self.new) }
-        ensures ok { OnOk result ((in_transaction self.new ≡ true) × (began self.new ≡ told self.new)) }
+        ensures tables { MayFallSilent (SilenceCause (marks self.old) (marks self.new)) Stays
+            (told self.old) (told self.new) }
+        ensures ok { OnOk result ((in_transaction self.new ≡ true)
+            × (began self.new ≡ told self.new)) }
         ensures err { OnErr result (in_transaction self.new ≡ false) }
-        ensures attached { MayFallSilent (SilenceCause (marks self.old) (marks self.new)) Stays (attached self.old) (attached self.new) }
+        ensures attached { MayFallSilent (SilenceCause (marks self.old) (marks self.new)) Stays
+            (attached self.old) (attached self.new) }
         ensures shaped { shaped self.new ≡ shaped self.old }
         ensures cause { HasCause (marks self.old) (marks self.new) result }
         ensures visited { visited self.old ≤ visited self.new }
@@ -147,12 +165,20 @@ pub trait Keeper {
     /// Puts a new row, or says which rule it breaks first.
     fn insert(&mut self, table: u16, cells: &Cells) -> Result<Put, KeeperEnd>
         requires begun { in_transaction self.old ≡ true }
-        requires fit { IsSomeAnd (slice_get (shapes_of (shaped self.old)) table) (λ t. AreCellsOf t.columns cells.now) }
-        ensures put { IfOk result (λ put. MayFallSilent (SilenceCause (marks self.old) (marks self.new)) (Inserts (columns_at (shapes_of (shaped self.old)) table) table cells.now put) (told self.old) (told self.new)) }
-        ensures sound { IfOk result (λ put. IsInserted (columns_at (shapes_of (shaped self.old)) table) put) }
-        ensures err { OnErr result (MayFallSilent (SilenceCause (marks self.old) (marks self.new)) Stays (told self.old) (told self.new)) }
-        ensures began { MayFallSilent (SilenceCause (marks self.old) (marks self.new)) Stays (began self.old) (began self.new) }
-        ensures attached { MayFallSilent (SilenceCause (marks self.old) (marks self.new)) Stays (attached self.old) (attached self.new) }
+        requires fit { IsSomeAnd (slice_get (shapes_of (shaped self.old)) table)
+            (λ t. AreCellsOf t.columns cells.now) }
+        ensures put { IfOk result (λ put. MayFallSilent
+            (SilenceCause (marks self.old) (marks self.new))
+            (Inserts (columns_at (shapes_of (shaped self.old)) table) table cells.now put)
+            (told self.old) (told self.new)) }
+        ensures sound { IfOk result (λ put. IsInserted
+            (columns_at (shapes_of (shaped self.old)) table) put) }
+        ensures err { OnErr result (MayFallSilent (SilenceCause (marks self.old) (marks self.new))
+            Stays (told self.old) (told self.new)) }
+        ensures began { MayFallSilent (SilenceCause (marks self.old) (marks self.new)) Stays
+            (began self.old) (began self.new) }
+        ensures attached { MayFallSilent (SilenceCause (marks self.old) (marks self.new)) Stays
+            (attached self.old) (attached self.new) }
         ensures shaped { shaped self.new ≡ shaped self.old }
         ensures mode { in_transaction self.new ≡ in_transaction self.old }
         ensures cause { HasCause (marks self.old) (marks self.new) result }
@@ -160,15 +186,24 @@ pub trait Keeper {
         ensures loan { loan self.new ≡ loan self.old }
         ensures ends { ends self.old self.new (end_of result) };
 
-    /// Puts other cells into a row, or says that there is none of this number, or which rule it would break first.
+    /// Puts other cells into a row, or says that there is none of this number, or which rule it
+    /// would break first.
     fn replace(&mut self, table: u16, id: u32, cells: &Cells) -> Result<Put, KeeperEnd>
         requires begun { in_transaction self.old ≡ true }
-        requires fit { IsSomeAnd (slice_get (shapes_of (shaped self.old)) table) (λ t. AreCellsOf t.columns cells.now) }
-        ensures put { IfOk result (λ put. MayFallSilent (SilenceCause (marks self.old) (marks self.new)) (Replaces (columns_at (shapes_of (shaped self.old)) table) table id cells.now put) (told self.old) (told self.new)) }
-        ensures sound { IfOk result (λ put. IsReplaced (columns_at (shapes_of (shaped self.old)) table) id put) }
-        ensures err { OnErr result (MayFallSilent (SilenceCause (marks self.old) (marks self.new)) Stays (told self.old) (told self.new)) }
-        ensures began { MayFallSilent (SilenceCause (marks self.old) (marks self.new)) Stays (began self.old) (began self.new) }
-        ensures attached { MayFallSilent (SilenceCause (marks self.old) (marks self.new)) Stays (attached self.old) (attached self.new) }
+        requires fit { IsSomeAnd (slice_get (shapes_of (shaped self.old)) table)
+            (λ t. AreCellsOf t.columns cells.now) }
+        ensures put { IfOk result (λ put. MayFallSilent
+            (SilenceCause (marks self.old) (marks self.new))
+            (Replaces (columns_at (shapes_of (shaped self.old)) table) table id cells.now put)
+            (told self.old) (told self.new)) }
+        ensures sound { IfOk result (λ put. IsReplaced
+            (columns_at (shapes_of (shaped self.old)) table) id put) }
+        ensures err { OnErr result (MayFallSilent (SilenceCause (marks self.old) (marks self.new))
+            Stays (told self.old) (told self.new)) }
+        ensures began { MayFallSilent (SilenceCause (marks self.old) (marks self.new)) Stays
+            (began self.old) (began self.new) }
+        ensures attached { MayFallSilent (SilenceCause (marks self.old) (marks self.new)) Stays
+            (attached self.old) (attached self.new) }
         ensures shaped { shaped self.new ≡ shaped self.old }
         ensures mode { in_transaction self.new ≡ in_transaction self.old }
         ensures cause { HasCause (marks self.old) (marks self.new) result }
@@ -180,10 +215,15 @@ pub trait Keeper {
     fn remove(&mut self, table: u16, id: u32) -> Result<bool, KeeperEnd>
         requires begun { in_transaction self.old ≡ true }
         requires table { IsSome (slice_get (shapes_of (shaped self.old)) table) }
-        ensures was { IfOk result (λ was. MayFallSilent (SilenceCause (marks self.old) (marks self.new)) (Removes table id was) (told self.old) (told self.new)) }
-        ensures err { OnErr result (MayFallSilent (SilenceCause (marks self.old) (marks self.new)) Stays (told self.old) (told self.new)) }
-        ensures began { MayFallSilent (SilenceCause (marks self.old) (marks self.new)) Stays (began self.old) (began self.new) }
-        ensures attached { MayFallSilent (SilenceCause (marks self.old) (marks self.new)) Stays (attached self.old) (attached self.new) }
+        ensures was { IfOk result (λ was. MayFallSilent
+            (SilenceCause (marks self.old) (marks self.new)) (Removes table id was) (told self.old)
+            (told self.new)) }
+        ensures err { OnErr result (MayFallSilent (SilenceCause (marks self.old) (marks self.new))
+            Stays (told self.old) (told self.new)) }
+        ensures began { MayFallSilent (SilenceCause (marks self.old) (marks self.new)) Stays
+            (began self.old) (began self.new) }
+        ensures attached { MayFallSilent (SilenceCause (marks self.old) (marks self.new)) Stays
+            (attached self.old) (attached self.new) }
         ensures shaped { shaped self.new ≡ shaped self.old }
         ensures mode { in_transaction self.new ≡ in_transaction self.old }
         ensures cause { HasCause (marks self.old) (marks self.new) result }
@@ -191,13 +231,16 @@ pub trait Keeper {
         ensures loan { loan self.new ≡ loan self.old }
         ensures ends { ends self.old self.new (end_of result) };
 
-    /// Ends the transaction with its changes. Where it gives no answer the transaction is ended too, and the tables are
-    /// those as it began.
+    /// Ends the transaction with its changes. Where it gives no answer the transaction is ended
+    /// too, and the tables are those as it began.
     fn commit(&mut self) -> Result<(), KeeperEnd>
         requires begun { in_transaction self.old ≡ true }
-        ensures ok { OnOk result (MayFallSilent (SilenceCause (marks self.old) (marks self.new)) Stays (told self.old) (told self.new)) }
-        ensures err { OnErr result (MayFallSilent (SilenceCause (marks self.old) (marks self.new)) Stays (began self.old) (told self.new)) }
-        ensures attached { MayFallSilent (SilenceCause (marks self.old) (marks self.new)) Stays (attached self.old) (attached self.new) }
+        ensures ok { OnOk result (MayFallSilent (SilenceCause (marks self.old) (marks self.new))
+            Stays (told self.old) (told self.new)) }
+        ensures err { OnErr result (MayFallSilent (SilenceCause (marks self.old) (marks self.new))
+            Stays (began self.old) (told self.new)) }
+        ensures attached { MayFallSilent (SilenceCause (marks self.old) (marks self.new)) Stays
+            (attached self.old) (attached self.new) }
         ensures shaped { shaped self.new ≡ shaped self.old }
         ensures idle { in_transaction self.new ≡ false }
         ensures cause { HasCause (marks self.old) (marks self.new) result }
@@ -205,11 +248,14 @@ pub trait Keeper {
         ensures loan { loan self.new ≡ loan self.old }
         ensures ends { commits self.old self.new (end_of result) };
 
-    /// Ends the transaction, and the tables are those as it began. Where it fails it counts a fault.
+    /// Ends the transaction, and the tables are those as it began. Where it fails it counts a
+    /// fault.
     fn back(&mut self)
         requires begun { in_transaction self.old ≡ true }
-        ensures tables { MayFallSilent (SilenceCause (marks self.old) (marks self.new)) Stays (began self.old) (told self.new) }
-        ensures attached { MayFallSilent (SilenceCause (marks self.old) (marks self.new)) Stays (attached self.old) (attached self.new) }
+        ensures tables { MayFallSilent (SilenceCause (marks self.old) (marks self.new)) Stays
+            (began self.old) (told self.new) }
+        ensures attached { MayFallSilent (SilenceCause (marks self.old) (marks self.new)) Stays
+            (attached self.old) (attached self.new) }
         ensures shaped { shaped self.new ≡ shaped self.old }
         ensures idle { in_transaction self.new ≡ false }
         ensures later { IsLater (marks self.old) (marks self.new) }
@@ -217,18 +263,28 @@ pub trait Keeper {
         ensures loan { loan self.new ≡ loan self.old }
         ensures ends { backs self.old self.new };
 
-    /// The rows that a query gives, or the first error of its test in the query's order: of some rows that the table can
-    /// hold, even where none are told.
+    /// The rows that a query gives, or the first error of its test in the query's order: of some
+    /// rows that the table can hold, even where none are told.
     fn scan(&mut self, query: &Query) -> Result<RowList, KeeperEnd>
         requires query { IsQuery (shapes_of (shaped self.old)) query.now }
-        ensures rows { IfOk result (λ answer. MayFallSilent (SilenceCause (marks self.old) (marks self.new)) (Scans query.now answer) (told self.old) (told self.new)) }
-        ensures answer { IfOk result (λ answer. IsScanAnswer (shapes_of (shaped self.old)) (rows_told (told self.new)) query.now answer) }
-        ensures fit { IfOk result (λ answer. IsSomeAnd (slice_get (shapes_of (shaped self.old)) query.now.table) (λ t. All (IsRowOf t) answer.rows)) }
-        ensures least { IfOk result (λ answer. VisitsAtLeast (length answer.rows) (visited self.old) (visited self.new)) }
-        ensures most { VisitsTold (rows_told (told self.old)) query.now (visited self.old) (visited self.new) }
-        ensures err { OnErr result (MayFallSilent (SilenceCause (marks self.old) (marks self.new)) Stays (told self.old) (told self.new)) }
-        ensures began { MayFallSilent (SilenceCause (marks self.old) (marks self.new)) Stays (began self.old) (began self.new) }
-        ensures attached { MayFallSilent (SilenceCause (marks self.old) (marks self.new)) Stays (attached self.old) (attached self.new) }
+        ensures rows { IfOk result (λ answer. MayFallSilent
+            (SilenceCause (marks self.old) (marks self.new)) (Scans query.now answer)
+            (told self.old) (told self.new)) }
+        ensures answer { IfOk result (λ answer. IsScanAnswer (shapes_of (shaped self.old))
+            (rows_told (told self.new)) query.now answer) }
+        ensures fit { IfOk result (λ answer. IsSomeAnd
+            (slice_get (shapes_of (shaped self.old)) query.now.table)
+            (λ t. All (IsRowOf t) answer.rows)) }
+        ensures least { IfOk result (λ answer. VisitsAtLeast (length answer.rows) (visited self.old)
+            (visited self.new)) }
+        ensures most { VisitsTold (rows_told (told self.old)) query.now (visited self.old)
+            (visited self.new) }
+        ensures err { OnErr result (MayFallSilent (SilenceCause (marks self.old) (marks self.new))
+            Stays (told self.old) (told self.new)) }
+        ensures began { MayFallSilent (SilenceCause (marks self.old) (marks self.new)) Stays
+            (began self.old) (began self.new) }
+        ensures attached { MayFallSilent (SilenceCause (marks self.old) (marks self.new)) Stays
+            (attached self.old) (attached self.new) }
         ensures shaped { shaped self.new ≡ shaped self.old }
         ensures mode { in_transaction self.new ≡ in_transaction self.old }
         ensures cause { HasCause (marks self.old) (marks self.new) result }
@@ -236,17 +292,24 @@ pub trait Keeper {
         ensures loan { loan self.new ≡ loan self.old }
         ensures ends { ends self.old self.new (end_of result) };
 
-    /// How many rows a query gives, whose test has no errors as constants: of some rows that the table can hold, even where
-    /// none are told.
+    /// How many rows a query gives, whose test has no errors as constants: of some rows that the
+    /// table can hold, even where none are told.
     fn count(&mut self, query: &Query) -> Result<u32, KeeperEnd>
         requires query { IsQuery (shapes_of (shaped self.old)) query.now }
         requires sound { HasNoFaults query.now.test }
-        ensures answer { IfOk result (λ n. IsCountAnswer (shapes_of (shaped self.old)) (rows_told (told self.new)) query.now n) }
-        ensures number { IfOk result (λ n. MayFallSilent (SilenceCause (marks self.old) (marks self.new)) (CountsQuery query.now n) (told self.old) (told self.new)) }
-        ensures most { VisitsTold (rows_told (told self.old)) query.now (visited self.old) (visited self.new) }
-        ensures err { OnErr result (MayFallSilent (SilenceCause (marks self.old) (marks self.new)) Stays (told self.old) (told self.new)) }
-        ensures began { MayFallSilent (SilenceCause (marks self.old) (marks self.new)) Stays (began self.old) (began self.new) }
-        ensures attached { MayFallSilent (SilenceCause (marks self.old) (marks self.new)) Stays (attached self.old) (attached self.new) }
+        ensures answer { IfOk result (λ n. IsCountAnswer (shapes_of (shaped self.old))
+            (rows_told (told self.new)) query.now n) }
+        ensures number { IfOk result (λ n. MayFallSilent
+            (SilenceCause (marks self.old) (marks self.new)) (CountsQuery query.now n)
+            (told self.old) (told self.new)) }
+        ensures most { VisitsTold (rows_told (told self.old)) query.now (visited self.old)
+            (visited self.new) }
+        ensures err { OnErr result (MayFallSilent (SilenceCause (marks self.old) (marks self.new))
+            Stays (told self.old) (told self.new)) }
+        ensures began { MayFallSilent (SilenceCause (marks self.old) (marks self.new)) Stays
+            (began self.old) (began self.new) }
+        ensures attached { MayFallSilent (SilenceCause (marks self.old) (marks self.new)) Stays
+            (attached self.old) (attached self.new) }
         ensures shaped { shaped self.new ≡ shaped self.old }
         ensures mode { in_transaction self.new ≡ in_transaction self.old }
         ensures cause { HasCause (marks self.old) (marks self.new) result }
@@ -254,18 +317,26 @@ pub trait Keeper {
         ensures loan { loan self.new ≡ loan self.old }
         ensures ends { ends self.old self.new (end_of result) };
 
-    /// What the values of a column of numbers that aren't blank come to, in the rows that a query gives, whose test has no
-    /// errors as constants: of some rows that the table can hold, even where none are told.
+    /// What the values of a column of numbers that aren't blank come to, in the rows that a query
+    /// gives, whose test has no errors as constants: of some rows that the table can hold, even
+    /// where none are told.
     fn total(&mut self, query: &Query, column: u16) -> Result<Totals, KeeperEnd>
         requires query { IsQuery (shapes_of (shaped self.old)) query.now }
         requires sound { HasNoFaults query.now.test }
         requires column { CanTotal (shapes_of (shaped self.old)) query.now column }
-        ensures answer { IfOk result (λ totals. IsTotalAnswer (shapes_of (shaped self.old)) (rows_told (told self.new)) query.now column totals) }
-        ensures totals { IfOk result (λ totals. MayFallSilent (SilenceCause (marks self.old) (marks self.new)) (TotalsUp query.now column totals) (told self.old) (told self.new)) }
-        ensures most { VisitsTold (rows_told (told self.old)) query.now (visited self.old) (visited self.new) }
-        ensures err { OnErr result (MayFallSilent (SilenceCause (marks self.old) (marks self.new)) Stays (told self.old) (told self.new)) }
-        ensures began { MayFallSilent (SilenceCause (marks self.old) (marks self.new)) Stays (began self.old) (began self.new) }
-        ensures attached { MayFallSilent (SilenceCause (marks self.old) (marks self.new)) Stays (attached self.old) (attached self.new) }
+        ensures answer { IfOk result (λ totals. IsTotalAnswer (shapes_of (shaped self.old))
+            (rows_told (told self.new)) query.now column totals) }
+        ensures totals { IfOk result (λ totals. MayFallSilent
+            (SilenceCause (marks self.old) (marks self.new)) (TotalsUp query.now column totals)
+            (told self.old) (told self.new)) }
+        ensures most { VisitsTold (rows_told (told self.old)) query.now (visited self.old)
+            (visited self.new) }
+        ensures err { OnErr result (MayFallSilent (SilenceCause (marks self.old) (marks self.new))
+            Stays (told self.old) (told self.new)) }
+        ensures began { MayFallSilent (SilenceCause (marks self.old) (marks self.new)) Stays
+            (began self.old) (began self.new) }
+        ensures attached { MayFallSilent (SilenceCause (marks self.old) (marks self.new)) Stays
+            (attached self.old) (attached self.new) }
         ensures shaped { shaped self.new ≡ shaped self.old }
         ensures mode { in_transaction self.new ≡ in_transaction self.old }
         ensures cause { HasCause (marks self.old) (marks self.new) result }
@@ -273,7 +344,8 @@ pub trait Keeper {
         ensures loan { loan self.new ≡ loan self.old }
         ensures ends { ends self.old self.new (end_of result) };
 
-    /// A law: where it doesn't tell its tables, it doesn't tell those either that it had as the transaction began.
+    /// A law: where it doesn't tell its tables, it doesn't tell those either that it had as the
+    /// transaction began.
     ghost quiet: { (k : Self) → told k ≡ None → began k ≡ None };
 
     /// A law: where it tells its tables, it tells those too.

@@ -45,11 +45,17 @@ impl Model for MemoryKeeper {
 
     ghost coded = { Prim.hlevel (codes, schema_row.coded, row_row.coded) };
 
-    ghost view = { λ k. record { name = option_map string_bytes k.name; store = k.store; visited = k.visited; plan = k.plan } };
+    ghost view = { λ k. record {
+      name = option_map string_bytes k.name;
+      store = k.store;
+      visited = k.visited;
+      plan = k.plan;
+    } };
 }
 
 impl MemoryKeeper {
-    /// No schema and no transaction. The calls that the plan names are to fail; `back` isn't counted.
+    /// No schema and no transaction. The calls that the plan names are to fail; `back` isn't
+    /// counted.
     pub fn new(alloc: Global, plan: FaultPlan) -> MemoryKeeper
         ensures { result ≡ unused plan }
     {
@@ -76,11 +82,14 @@ impl MemoryKeeper {
         self.plan.count()
     }
 
-    /// Passes over the numbers up to this one: no table gives one of them any more, once the transaction has ended with
-    /// its changes. So the end of the numbers can be tried.
+    /// Passes over the numbers up to this one: no table gives one of them any more, once the
+    /// transaction has ended with its changes. So the end of the numbers can be tried.
     pub fn skip_to(&mut self, number: u32)
         requires { self.old.store.is_begun ≡ true }
-        ensures { self.new ≡ record self.old { store = record self.old.store { now = map (numbers_passed number) self.old.store.now } } }
+        ensures { self.new ≡ record self.old {
+          store = record self.old.store
+              { now = map (numbers_passed number) self.old.store.now };
+        } }
     {
         self.store.skip_to(number);
     }
@@ -99,10 +108,16 @@ impl MemoryKeeper {
     fn page(&mut self, query: &Query, most: u32) -> Result<RowList, Memory>
         requires query { IsQuery (shapes_of self.old.store.schema) query.now }
         requires page { IsPage query.now most }
-        ensures rows { IfOk result (λ a. IsScanned query.now (rows_at (rows_of_tables self.old.store.now) query.now.table) a) }
-        ensures fit { IfOk result (λ a. IsSomeAnd (slice_get (shapes_of self.old.store.schema) query.now.table) (λ t. All (IsRowOf t) a.rows)) }
-        ensures least { IfOk result (λ a. VisitsAtLeast (length a.rows) self.old.visited self.new.visited) }
-        ensures most { VisitsItsRanges query.now (rows_at (rows_of_tables self.old.store.now) query.now.table) self.old.visited self.new.visited }
+        ensures rows { IfOk result (λ a. IsScanned query.now
+            (rows_at (rows_of_tables self.old.store.now) query.now.table) a) }
+        ensures fit { IfOk result (λ a. IsSomeAnd
+            (slice_get (shapes_of self.old.store.schema) query.now.table)
+            (λ t. All (IsRowOf t) a.rows)) }
+        ensures least { IfOk result (λ a. VisitsAtLeast (length a.rows) self.old.visited
+            self.new.visited) }
+        ensures most { VisitsItsRanges query.now
+            (rows_at (rows_of_tables self.old.store.now) query.now.table) self.old.visited
+            self.new.visited }
         ensures later { self.old.visited ≤ self.new.visited }
         ensures same { self.new ≡ record self.old { visited = self.new.visited } }
     {
@@ -117,10 +132,16 @@ impl MemoryKeeper {
     /// What a query answers, over all rows that it asks.
     fn answer_all(&mut self, query: &Query) -> Result<RowList, Memory>
         requires { IsQuery (shapes_of self.old.store.schema) query.now }
-        ensures rows { IfOk result (λ a. IsScanned query.now (rows_at (rows_of_tables self.old.store.now) query.now.table) a) }
-        ensures fit { IfOk result (λ a. IsSomeAnd (slice_get (shapes_of self.old.store.schema) query.now.table) (λ t. All (IsRowOf t) a.rows)) }
-        ensures least { IfOk result (λ a. VisitsAtLeast (length a.rows) self.old.visited self.new.visited) }
-        ensures most { VisitsItsRanges query.now (rows_at (rows_of_tables self.old.store.now) query.now.table) self.old.visited self.new.visited }
+        ensures rows { IfOk result (λ a. IsScanned query.now
+            (rows_at (rows_of_tables self.old.store.now) query.now.table) a) }
+        ensures fit { IfOk result (λ a. IsSomeAnd
+            (slice_get (shapes_of self.old.store.schema) query.now.table)
+            (λ t. All (IsRowOf t) a.rows)) }
+        ensures least { IfOk result (λ a. VisitsAtLeast (length a.rows) self.old.visited
+            self.new.visited) }
+        ensures most { VisitsItsRanges query.now
+            (rows_at (rows_of_tables self.old.store.now) query.now.table) self.old.visited
+            self.new.visited }
         ensures later { self.old.visited ≤ self.new.visited }
         ensures same { self.new ≡ record self.old { visited = self.new.visited } }
     {
@@ -131,10 +152,16 @@ impl MemoryKeeper {
     /// What a query answers.
     fn answer(&mut self, query: &Query) -> Result<RowList, Memory>
         requires { IsQuery (shapes_of self.old.store.schema) query.now }
-        ensures rows { IfOk result (λ a. IsScanned query.now (rows_at (rows_of_tables self.old.store.now) query.now.table) a) }
-        ensures fit { IfOk result (λ a. IsSomeAnd (slice_get (shapes_of self.old.store.schema) query.now.table) (λ t. All (IsRowOf t) a.rows)) }
-        ensures least { IfOk result (λ a. VisitsAtLeast (length a.rows) self.old.visited self.new.visited) }
-        ensures most { VisitsItsRanges query.now (rows_at (rows_of_tables self.old.store.now) query.now.table) self.old.visited self.new.visited }
+        ensures rows { IfOk result (λ a. IsScanned query.now
+            (rows_at (rows_of_tables self.old.store.now) query.now.table) a) }
+        ensures fit { IfOk result (λ a. IsSomeAnd
+            (slice_get (shapes_of self.old.store.schema) query.now.table)
+            (λ t. All (IsRowOf t) a.rows)) }
+        ensures least { IfOk result (λ a. VisitsAtLeast (length a.rows) self.old.visited
+            self.new.visited) }
+        ensures most { VisitsItsRanges query.now
+            (rows_at (rows_of_tables self.old.store.now) query.now.table) self.old.visited
+            self.new.visited }
         ensures later { self.old.visited ≤ self.new.visited }
         ensures same { self.new ≡ record self.old { visited = self.new.visited } }
     {
@@ -147,11 +174,17 @@ impl MemoryKeeper {
     /// The rows that a query asks, in its order. They are counted as visited.
     fn ask(&mut self, query: &Query) -> Result<Vec<Row>, Memory>
         requires { IsQuery (shapes_of self.old.store.schema) query.now }
-        ensures asked { IfOk result (λ rows. AreAsked query.now (rows_at (rows_of_tables self.old.store.now) query.now.table) rows.items) }
-        ensures fit { IfOk result (λ rows. IsSomeAnd (slice_get (shapes_of self.old.store.schema) query.now.table) (λ t. AllByRecursion (IsRowOf t) rows.items)) }
+        ensures asked { IfOk result (λ rows. AreAsked query.now
+            (rows_at (rows_of_tables self.old.store.now) query.now.table) rows.items) }
+        ensures fit { IfOk result (λ rows. IsSomeAnd
+            (slice_get (shapes_of self.old.store.schema) query.now.table)
+            (λ t. AllByRecursion (IsRowOf t) rows.items)) }
         ensures few { IfOk result (λ rows. length rows.items ≤ 200000) }
-        ensures least { IfOk result (λ rows. VisitsAtLeast (length rows.items) self.old.visited self.new.visited) }
-        ensures most { VisitsItsRanges query.now (rows_at (rows_of_tables self.old.store.now) query.now.table) self.old.visited self.new.visited }
+        ensures least { IfOk result (λ rows. VisitsAtLeast (length rows.items) self.old.visited
+            self.new.visited) }
+        ensures most { VisitsItsRanges query.now
+            (rows_at (rows_of_tables self.old.store.now) query.now.table) self.old.visited
+            self.new.visited }
         ensures later { self.old.visited ≤ self.new.visited }
         ensures same { self.new ≡ record self.old { visited = self.new.visited } }
     {
@@ -165,7 +198,8 @@ impl Keeper for MemoryKeeper {
     ghost use Rattle.std.specs.Prelude.{None, Some};
     ghost use Rattle.std.proofs.Common.{sym};
     ghost use Rattle.std.proofs.lemmas.Option.{none-some};
-    ghost use Rattle.row_keeper.specs.InMemory.{EndsAsPlanned, EndsWithoutMemory, EndsByPlan, memory_marks};
+    ghost use Rattle.row_keeper.specs.InMemory.{EndsAsPlanned, EndsWithoutMemory, EndsByPlan};
+    ghost use Rattle.row_keeper.specs.InMemory.{memory_marks};
     ghost use Rattle.row_keeper.specs.StoreView.{tables_now, tables_then};
 
     ghost told = { λ k. Some (tables_now k.store) };

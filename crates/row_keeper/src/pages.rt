@@ -21,7 +21,8 @@ pub struct Page {
     pub asked: usize,
 }
 
-/// How many rows a query takes, where it takes the first ones by their numbers and no constant of its test is an error.
+/// How many rows a query takes, where it takes the first ones by their numbers and no constant of
+/// its test is an error.
 pub fn page_size(query: &Query) -> Option<u32>
     ensures { IfSome result (λ n. IsPage query.now n) }
 {
@@ -51,8 +52,12 @@ fn give_first(
 ) -> Result<Option<Page>, Memory>
     requires query { IsQuery (shapes_of store.now.schema) query.now }
     requires page { IsPage query.now most }
-    ensures given { IfOk result (λ o. IfSome o (λ p. QueryGives query.now (rows_at (rows_of_tables store.now.now) query.now.table) p.rows.items p.asked)) }
-    ensures fit { IfOk result (λ o. IfSome o (λ p. IsSomeAnd (slice_get (shapes_of store.now.schema) query.now.table) (λ t. All (IsRowOf t) p.rows.items))) }
+    ensures given { IfOk result (λ o. IfSome o
+        (λ p. QueryGives query.now (rows_at (rows_of_tables store.now.now) query.now.table)
+        p.rows.items p.asked)) }
+    ensures fit { IfOk result (λ o. IfSome o (λ p. IsSomeAnd
+        (slice_get (shapes_of store.now.schema) query.now.table)
+        (λ t. All (IsRowOf t) p.rows.items))) }
 {
     let first = store.first(query, size)?;
     let asked = first.len();
@@ -71,8 +76,11 @@ fn give_first(
 fn give_all(alloc: Global, store: &Store, query: &Query, most: u32) -> Result<Page, Memory>
     requires query { IsQuery (shapes_of store.now.schema) query.now }
     requires page { IsPage query.now most }
-    ensures given { IfOk result (λ p. QueryGives query.now (rows_at (rows_of_tables store.now.now) query.now.table) p.rows.items p.asked) }
-    ensures fit { IfOk result (λ p. IsSomeAnd (slice_get (shapes_of store.now.schema) query.now.table) (λ t. All (IsRowOf t) p.rows.items)) }
+    ensures given { IfOk result (λ p. QueryGives query.now
+        (rows_at (rows_of_tables store.now.now) query.now.table) p.rows.items p.asked) }
+    ensures fit { IfOk result (λ p. IsSomeAnd
+        (slice_get (shapes_of store.now.schema) query.now.table)
+        (λ t. All (IsRowOf t) p.rows.items)) }
 {
     let all = store.ask(query)?;
     let asked = all.len();
@@ -80,16 +88,19 @@ fn give_all(alloc: Global, store: &Store, query: &Query, most: u32) -> Result<Pa
     Ok(Page { rows, asked })
 }
 
-/// What a query gives that takes the first rows by their numbers. Rows behind those that it needs aren't looked at, or
-/// few of them.
+/// What a query gives that takes the first rows by their numbers. Rows behind those that it needs
+/// aren't looked at, or few of them.
 pub fn give_page(alloc: Global, store: &Store, query: &Query, most: u32) -> Result<Page, Memory>
     requires query { IsQuery (shapes_of store.now.schema) query.now }
     requires page { IsPage query.now most }
-    ensures given { IfOk result (λ p. QueryGives query.now (rows_at (rows_of_tables store.now.now) query.now.table) p.rows.items p.asked) }
-    ensures fit { IfOk result (λ p. IsSomeAnd (slice_get (shapes_of store.now.schema) query.now.table) (λ t. All (IsRowOf t) p.rows.items)) }
+    ensures given { IfOk result (λ p. QueryGives query.now
+        (rows_at (rows_of_tables store.now.now) query.now.table) p.rows.items p.asked) }
+    ensures fit { IfOk result (λ p. IsSomeAnd
+        (slice_get (shapes_of store.now.schema) query.now.table)
+        (λ t. All (IsRowOf t) p.rows.items)) }
 {
-    // At first as many as are wanted, and then eight times as many each time: a test that few rows meet costs hardly
-    // more than one pass over the rows in the ranges.
+    // At first as many as are wanted, and then eight times as many each time: a test that few rows
+    // meet costs hardly more than one pass over the rows in the ranges.
     let mut size = most;
     for _ in 0..7 {
         if let Some(page) = give_first(alloc, store, query, most, size)? {

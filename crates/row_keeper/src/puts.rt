@@ -2,7 +2,8 @@
 ghost use Rattle.std.specs.Prelude.{◌≡◌, map, slice_get, IfOk, IsSome, IsSomeAnd, OnErr};
 ghost use Rattle.std.specs.List.{AllByRecursion};
 ghost use Rattle.row_queries.specs.TableRows.{AreCellsOf};
-ghost use Rattle.row_keeper.specs.OneTable.{ChangesAt, PutsNew, PutsOver, TakesOut, view_restored, view_settled};
+ghost use Rattle.row_keeper.specs.OneTable.{ChangesAt, PutsNew, PutsOver, TakesOut, view_restored};
+ghost use Rattle.row_keeper.specs.OneTable.{view_settled};
 ghost use Rattle.row_keeper.specs.Skips.{passed_now};
 ghost use Rattle.row_keeper.specs.Sound.{IsSoundTable};
 ghost use Rattle.row_keeper.specs.TableView.{states_now};
@@ -15,7 +16,8 @@ use fx_base::Memory;
 use row_queries::Cells;
 use std::alloc::Global;
 
-/// Puts a new row into a table, where all tables have so many rows, or says which rule it breaks first.
+/// Puts a new row into a table, where all tables have so many rows, or says which rule it breaks
+/// first.
 fn add_row(alloc: Global, table: &mut Table, all: u64, cells: &Cells) -> Result<Put, Memory>
     requires { AreCellsOf table.old.columns cells.now }
     ensures ok { IfOk result (λ put. PutsNew all cells.now put table.old table.new) }
@@ -29,8 +31,8 @@ fn add_row(alloc: Global, table: &mut Table, all: u64, cells: &Cells) -> Result<
     Ok(Put::Id(id))
 }
 
-/// Puts other cells into a row of a table, where all tables have so many rows, or says that there is no row of this
-/// number, or which rule it would break first.
+/// Puts other cells into a row of a table, where all tables have so many rows, or says that there
+/// is no row of this number, or which rule it would break first.
 fn change_row(
     alloc: Global,
     table: &mut Table,
@@ -68,7 +70,8 @@ pub fn insert_at(
     cells: &Cells,
 ) -> Result<Put, Memory>
     requires { IsSomeAnd (slice_get tables.old place) (λ t. AreCellsOf t.columns cells.now) }
-    ensures ok { IfOk result (λ put. ChangesAt place (PutsNew (all_rows_of (states_now tables.old)) cells.now put) tables.old tables.new) }
+    ensures ok { IfOk result (λ put. ChangesAt place
+        (PutsNew (all_rows_of (states_now tables.old)) cells.now put) tables.old tables.new) }
     ensures err { OnErr result (tables.new ≡ tables.old) }
 {
     let all = all_rows(tables);
@@ -85,7 +88,8 @@ pub fn replace_at(
     cells: &Cells,
 ) -> Result<Put, Memory>
     requires { IsSomeAnd (slice_get tables.old place) (λ t. AreCellsOf t.columns cells.now) }
-    ensures ok { IfOk result (λ put. ChangesAt place (PutsOver (all_rows_of (states_now tables.old)) id cells.now put) tables.old tables.new) }
+    ensures ok { IfOk result (λ put. ChangesAt place
+        (PutsOver (all_rows_of (states_now tables.old)) id cells.now put) tables.old tables.new) }
     ensures err { OnErr result (tables.new ≡ tables.old) }
 {
     let all = all_rows(tables);

@@ -1,9 +1,13 @@
-// The rows of a table by their numbers. What a transaction makes of a row stands beside what the row was.
-ghost use Rattle.std.specs.Prelude.{◌≡◌, ℕ, ◌==◌, [], if◌then◌else◌, cond, true, false, None, Some, List, IfOk, OnOk, OnErr, MatchOption, IsSome, option_map};
+// The rows of a table by their numbers. What a transaction makes of a row stands beside what the
+// row was.
+ghost use Rattle.std.specs.Prelude.{◌≡◌, ℕ, ◌==◌, [], if◌then◌else◌, cond, true, false, None, Some};
+ghost use Rattle.std.specs.Prelude.{List, IfOk, OnOk, OnErr, MatchOption, IsSome, option_map};
 ghost use Rattle.std.specs.BTreeMap.{IsOrdered, get};
 ghost use Rattle.std.specs.Option.{is_some};
 ghost use Rattle.std.specs.Ordering.{nat_cmp};
-ghost use Rattle.row_keeper.specs.Slots.{OtherSlotsStand, slot_at_end, cells_now, slot_ended, is_no_row, has_number, now_of, now_at, slot_at, then_at, while_row};
+ghost use Rattle.row_keeper.specs.Slots.{OtherSlotsStand, slot_at_end, cells_now, slot_ended};
+ghost use Rattle.row_keeper.specs.Slots.{is_no_row, has_number, now_of, now_at, slot_at, then_at};
+ghost use Rattle.row_keeper.specs.Slots.{while_row};
 ghost use Rattle.row_keeper.specs.Slots as spec;
 
 use fx_base::Memory;
@@ -33,7 +37,8 @@ pub struct Slot {
 pub struct Slots {
     pub by_id: BTreeMap<u32, Slot>,
     /// The numbers of the slots that the transaction has changed, some of them more than once.
-    // A number is noted before its slot changes, so that neither end of a transaction takes memory, and looks at these alone.
+    // A number is noted before its slot changes, so that neither end of a transaction takes memory,
+    // and looks at these alone.
     pub touched: Vec<u32>,
     ghost kept: { OtherSlotsStand touched.items by_id.entries },
 }
@@ -41,7 +46,8 @@ pub struct Slots {
 impl Slot {
     /// The cells of the row now, if it is one.
     pub fn cells(&self) -> Option<&Cells>
-        ensures { MatchOption result (cells_now self.now ≡ None) (λ c. cells_now self.now ≡ Some c.now) }
+        ensures { MatchOption result (cells_now self.now ≡ None)
+            (λ c. cells_now self.now ≡ Some c.now) }
     {
         match &self.made {
             Made::Same => match &self.was {
@@ -83,7 +89,9 @@ impl Slot {
 
 /// Ends a transaction in the slot of a number, if it has one.
 fn end_slot(rows: &mut BTreeMap<u32, Slot>, id: u32, with_changes: bool)
-    ensures { (i : ℕ) → slot_at rows.new.entries i ≡ cond (id == i) (option_map (slot_at_end with_changes) (slot_at rows.old.entries i)) (slot_at rows.old.entries i) }
+    ensures { (i : ℕ) → slot_at rows.new.entries i
+        ≡ cond (id == i) (option_map (slot_at_end with_changes) (slot_at rows.old.entries i))
+        (slot_at rows.old.entries i) }
 {
     if let Some(slot) = rows.get_mut(&id) {
         slot.end(with_changes);
@@ -102,7 +110,8 @@ fn is_void(rows: &BTreeMap<u32, Slot>, id: u32) -> bool
 
 /// Takes out the slot of a number, if it is one of no row.
 fn drop_slot(rows: &mut BTreeMap<u32, Slot>, id: u32)
-    ensures { (i : ℕ) → slot_at rows.new.entries i ≡ cond (id == i) (while_row (slot_at rows.old.entries i)) (slot_at rows.old.entries i) }
+    ensures { (i : ℕ) → slot_at rows.new.entries i
+        ≡ cond (id == i) (while_row (slot_at rows.old.entries i)) (slot_at rows.old.entries i) }
 {
     if is_void(rows, id) {
         rows.remove(&id);
@@ -111,7 +120,9 @@ fn drop_slot(rows: &mut BTreeMap<u32, Slot>, id: u32)
 
 /// Ends a transaction at a number.
 fn end_at(rows: &mut BTreeMap<u32, Slot>, id: u32, with_changes: bool)
-    ensures { (i : ℕ) → slot_at rows.new.entries i ≡ cond (id == i) (slot_ended with_changes (slot_at rows.old.entries i)) (slot_at rows.old.entries i) }
+    ensures { (i : ℕ) → slot_at rows.new.entries i
+        ≡ cond (id == i) (slot_ended with_changes (slot_at rows.old.entries i))
+        (slot_at rows.old.entries i) }
 {
     end_slot(rows, id, with_changes);
     drop_slot(rows, id);
@@ -119,7 +130,9 @@ fn end_at(rows: &mut BTreeMap<u32, Slot>, id: u32, with_changes: bool)
 
 /// Ends a transaction at the numbers that it touched, and takes no memory.
 fn end_all(rows: &mut BTreeMap<u32, Slot>, touched: &[u32], with_changes: bool)
-    ensures slots { (i : ℕ) → slot_at rows.new.entries i ≡ cond (has_number touched.now i) (slot_ended with_changes (slot_at rows.old.entries i)) (slot_at rows.old.entries i) }
+    ensures slots { (i : ℕ) → slot_at rows.new.entries i
+        ≡ cond (has_number touched.now i) (slot_ended with_changes (slot_at rows.old.entries i))
+        (slot_at rows.old.entries i) }
     ensures was_ordered { IsOrdered nat_cmp rows.old }
     ensures ordered { IsOrdered nat_cmp rows.new }
 {
@@ -153,8 +166,10 @@ impl Slots {
     /// Puts a row in under an id that has none.
     pub fn put_new(&mut self, id: u32, cells: Cells) -> Result<(), Memory>
         requires { is_some (then_at self.old.by_id.entries id) ≡ false }
-        ensures now { OnOk result ((i : ℕ) → now_at self.new.by_id.entries i ≡ (if id == i then Some cells else now_at self.old.by_id.entries i)) }
-        ensures then { (i : ℕ) → then_at self.new.by_id.entries i ≡ then_at self.old.by_id.entries i }
+        ensures now { OnOk result ((i : ℕ) → now_at self.new.by_id.entries i
+            ≡ (if id == i then Some cells else now_at self.old.by_id.entries i)) }
+        ensures then { (i : ℕ) → then_at self.new.by_id.entries i
+            ≡ then_at self.old.by_id.entries i }
         ensures err { OnErr result (self.new.by_id.entries ≡ self.old.by_id.entries) }
         ensures was_ordered { IsOrdered nat_cmp self.old.by_id }
         ensures ordered { IsOrdered nat_cmp self.new.by_id }
@@ -173,8 +188,11 @@ impl Slots {
     /// Changes what a row is now.
     pub fn put_over(&mut self, id: u32, made: Made) -> Result<(), Memory>
         requires { IsSome (get nat_cmp self.old.by_id id) }
-        ensures now { OnOk result ((i : ℕ) → now_at self.new.by_id.entries i ≡ (if id == i then now_of (then_at self.old.by_id.entries id) made else now_at self.old.by_id.entries i)) }
-        ensures then { (i : ℕ) → then_at self.new.by_id.entries i ≡ then_at self.old.by_id.entries i }
+        ensures now { OnOk result ((i : ℕ) → now_at self.new.by_id.entries i
+            ≡ (if id == i then now_of (then_at self.old.by_id.entries id) made else now_at
+            self.old.by_id.entries i)) }
+        ensures then { (i : ℕ) → then_at self.new.by_id.entries i
+            ≡ then_at self.old.by_id.entries i }
         ensures err { OnErr result (self.new.by_id.entries ≡ self.old.by_id.entries) }
         ensures was_ordered { IsOrdered nat_cmp self.old.by_id }
         ensures ordered { IsOrdered nat_cmp self.new.by_id }
@@ -191,7 +209,8 @@ impl Slots {
     /// Ends a transaction without its changes, and takes no memory.
     pub fn restore(&mut self)
         ensures now { (i : ℕ) → now_at self.new.by_id.entries i ≡ then_at self.old.by_id.entries i }
-        ensures then { (i : ℕ) → then_at self.new.by_id.entries i ≡ then_at self.old.by_id.entries i }
+        ensures then { (i : ℕ) → then_at self.new.by_id.entries i
+            ≡ then_at self.old.by_id.entries i }
         ensures was_ordered { IsOrdered nat_cmp self.old.by_id }
         ensures ordered { IsOrdered nat_cmp self.new.by_id }
     {
@@ -202,7 +221,8 @@ impl Slots {
     /// Ends a transaction with its changes, and takes no memory.
     pub fn settle(&mut self)
         ensures now { (i : ℕ) → now_at self.new.by_id.entries i ≡ now_at self.old.by_id.entries i }
-        ensures then { (i : ℕ) → then_at self.new.by_id.entries i ≡ now_at self.old.by_id.entries i }
+        ensures then { (i : ℕ) → then_at self.new.by_id.entries i
+            ≡ now_at self.old.by_id.entries i }
         ensures was_ordered { IsOrdered nat_cmp self.old.by_id }
         ensures ordered { IsOrdered nat_cmp self.new.by_id }
     {

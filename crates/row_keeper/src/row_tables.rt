@@ -14,7 +14,8 @@ use fx_types::{Fields, Rows, Value, Words};
 use row_queries::Row;
 use std::alloc::Global;
 
-/// Rows as a table: each is a record of its number under `ID`, and of its cells under the names of their columns.
+/// Rows as a table: each is a record of its number under `ID`, and of its cells under the names of
+/// their columns.
 pub fn table(alloc: Global, shape: &TableShape, rows: &[Row]) -> Result<Value, Memory>
     requires lawful { IsLawfulTable shape.now }
     requires fit { AllByRecursion (IsRowOf shape.now) rows.now }
@@ -57,7 +58,8 @@ fn id_column(alloc: Global) -> Result<Words, Memory>
 
 // The cells of rows at a place.
 fn cells_at(alloc: Global, rows: &[Row], place: usize) -> Result<Vec<Value>, Memory>
-    ensures { IfOk result (λ vs. map view vs.items ≡ map (λ r. unwrap_or (slice_get r.cells place) blank) rows.now) }
+    ensures { IfOk result (λ vs. map view vs.items
+        ≡ map (λ r. unwrap_or (slice_get r.cells place) blank) rows.now) }
 {
     let mut cells = Vec::with_capacity(alloc, rows.len())?;
     for row in rows {

@@ -9,12 +9,13 @@ pub enum RowRule {
     Unique,
     /// The cells of a row weigh at most 2,048 bytes.
     Size,
-    /// A table has at most 200,000 rows and all tables 500,000, and gives at most 4,294,967,295 numbers.
+    /// A table has at most 200,000 rows and all tables 500,000, and gives at most 4,294,967,295
+    /// numbers.
     Full,
 }
 
-/// The first rule that a row breaks, with the number of the first column that breaks it where the rule is one of
-/// columns. `ID` is column 0.
+/// The first rule that a row breaks, with the number of the first column that breaks it where the
+/// rule is one of columns. `ID` is column 0.
 #[derive(Clone, Copy, Debug, PartialEq, Eq)]
 pub struct RowRefusal {
     pub column: Option<u16>,

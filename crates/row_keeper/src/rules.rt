@@ -1,5 +1,7 @@
 // The rules that rows keep, asked of a table.
-ghost use Rattle.std.specs.Prelude.{◌≡◌, ◌≤◌, ◌+◌, ◌-◌, ◌^◌, ◌<◌, [], ◌∷◌, ◌++◌, length, map, min, nat_lt, ◌&&◌, is_none, slice_get, true, Some, None, IfOk, MatchOption};
+ghost use Rattle.std.specs.Prelude.{◌≡◌, ◌≤◌, ◌+◌, ◌-◌, ◌^◌, ◌<◌, [], ◌∷◌, ◌++◌, length, map, min};
+ghost use Rattle.std.specs.Prelude.{nat_lt, ◌&&◌, is_none, slice_get, true, Some, None, IfOk};
+ghost use Rattle.std.specs.Prelude.{MatchOption};
 ghost use Rattle.std.specs.List.{list_any};
 ghost use Rattle.fx_types.specs.ValueView.{view};
 ghost use Rattle.fx_types.specs.Values.{text as text_data};
@@ -8,7 +10,11 @@ ghost use Rattle.fx_value.specs.Order.{IsScalar};
 ghost use Rattle.row_queries.specs.RowTests.{is_empty_value as is_empty_data};
 ghost use Rattle.row_queries.specs.TableRows.{AreCellsOf};
 ghost use Rattle.row_keeper.specs.Covered.{covered_of, covers};
-ghost use Rattle.row_keeper.specs.RowRules.{cells_weight, first_broken as first_broken_of, first_of_two, has_value, in_column, is_blank as is_blank_data, is_table_full as is_full_state, others, rule_in, where_broken};
+ghost use Rattle.row_keeper.specs.RowRules.{cells_weight, first_broken as first_broken_of};
+ghost use Rattle.row_keeper.specs.RowRules.{first_of_two, has_value, in_column};
+ghost use Rattle.row_keeper.specs.RowRules.{is_blank as is_blank_data};
+ghost use Rattle.row_keeper.specs.RowRules.{is_table_full as is_full_state, others, rule_in};
+ghost use Rattle.row_keeper.specs.RowRules.{where_broken};
 ghost use Rattle.row_keeper.specs.TableView.{states_now};
 ghost use Rattle.row_keeper.specs.Tables.{all_rows as all_rows_of};
 ghost use Rattle.row_keeper.specs.declared.rows.RowRule.TheVariants.{Full, Size};
@@ -77,7 +83,8 @@ fn has_other(id: Option<u32>, rows: &[Row]) -> bool
     rows.iter().any(|row| is_other(id, row))
 }
 
-/// Whether a value stands in a unique column of another row. The column is the one at a place, counted from 0.
+/// Whether a value stands in a unique column of another row. The column is the one at a place,
+/// counted from 0.
 fn is_repeated(
     alloc: Global,
     table: &Table,
@@ -89,9 +96,11 @@ fn is_repeated(
     requires fit { FitsColumn table.now.columns place (view cell.now) }
     requires scalar { IsScalar (view cell.now) }
     requires covered { covers (covered_of table.now.columns) (place + 1) ≡ true }
-    ensures { IfOk result (λ b. b ≡ list_any (has_value (place + 1) (view cell.now)) (others id table.now.now.rows)) }
+    ensures { IfOk result (λ b. b ≡ list_any (has_value (place + 1) (view cell.now))
+        (others id table.now.now.rows)) }
 {
-    // These are called for what they say: values that count as one have one key, and the table is sound.
+    // These are called for what they say: values that count as one have one key, and the table is
+    // sound.
     keys_order();
     value_is_proper(cell);
     table.is_sound();
@@ -114,7 +123,8 @@ fn breaks(
     requires column { slice_get table.now.columns place ≡ Some column.now }
     requires fit { FitsColumn table.now.columns place (view cell.now) }
     requires scalar { IsScalar (view cell.now) }
-    ensures { IfOk result (λ b. b ≡ breaks_by rule (others id table.now.now.rows) column.now (place + 1) (view cell.now)) }
+    ensures { IfOk result (λ b. b ≡ breaks_by rule (others id table.now.now.rows) column.now
+        (place + 1) (view cell.now)) }
 {
     match rule {
         RowRule::Required => Ok(column.required && is_empty(cell)),
@@ -138,7 +148,8 @@ pub fn first_broken_column(
     cells: &Cells,
 ) -> Result<Option<u16>, Memory>
     requires { AreCellsOf table.now.columns cells.now }
-    ensures { IfOk result (λ k. k ≡ first_broken_of (breaks_by rule (others id table.now.now.rows)) 1 table.now.columns cells.now) }
+    ensures { IfOk result (λ k. k ≡ first_broken_of (breaks_by rule (others id table.now.now.rows))
+        1 table.now.columns cells.now) }
 {
     table.is_sound();
     let columns = table.columns().as_slice();
@@ -199,7 +210,8 @@ fn is_full(table: &Table, all: u64) -> bool
 
 /// The first rule that cells break but for those of columns.
 fn broken_whole(table: &Table, all: u64, id: Option<u32>, cells: &Cells) -> Option<RowRefusal>
-    ensures { result ≡ first_of_two (where_broken Size (nat_lt 2048 (cells_weight cells.now))) (where_broken Full (is_none id && is_full_state table.now.now all)) }
+    ensures { result ≡ first_of_two (where_broken Size (nat_lt 2048 (cells_weight cells.now)))
+        (where_broken Full (is_none id && is_full_state table.now.now all)) }
 {
     if weight(cells) > 2048 {
         return Some(RowRefusal {
@@ -216,7 +228,8 @@ fn broken_whole(table: &Table, all: u64, id: Option<u32>, cells: &Cells) -> Opti
     None
 }
 
-/// The first rule that cells break in the row of a number of a table, or in a new one, where all tables have so many rows.
+/// The first rule that cells break in the row of a number of a table, or in a new one, where all
+/// tables have so many rows.
 pub fn broken_rule(
     alloc: Global,
     table: &Table,

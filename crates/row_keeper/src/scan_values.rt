@@ -19,8 +19,8 @@ use fx_types::Value;
 use row_queries::{Query, RowList};
 use std::alloc::Global;
 
-/// The table of the rows that a query gives, or the first error of its test in the query's order. `Failed` only where the
-/// keeper counted a fault.
+/// The table of the rows that a query gives, or the first error of its test in the query's order.
+/// `Failed` only where the keeper counted a fault.
 pub fn scan<K: Keeper>(
     alloc: Global,
     keeper: &mut K,
@@ -30,7 +30,8 @@ pub fn scan<K: Keeper>(
     requires lawful { IsLawfulSchema schema.now }
     requires shaped { K.shaped keeper.old ≡ Some schema.now }
     requires query { IsQuery schema.now.tables query.now }
-    ensures value { IfOk result (λ v. IsScanValue schema.now.tables (rows_told (K.told keeper.new)) query.now (view v)) }
+    ensures value { IfOk result (λ v. IsScanValue schema.now.tables (rows_told (K.told keeper.new))
+        query.now (view v)) }
     ensures told { Becomes K.Keeper keeper.old keeper.new Stays }
     ensures began { BeganStays K.Keeper keeper.old keeper.new }
     ensures attached { AttachedStays K.Keeper keeper.old keeper.new }
@@ -38,8 +39,10 @@ pub fn scan<K: Keeper>(
     ensures mode { K.in_transaction keeper.new ≡ K.in_transaction keeper.old }
     ensures cause { HasCause K.Keeper keeper.old keeper.new result }
     ensures visited { K.visited keeper.old ≤ K.visited keeper.new }
-    ensures least { IfOk result (λ v. VisitsAtLeast (rows_counted (view v)) (K.visited keeper.old) (K.visited keeper.new)) }
-    ensures most { VisitsTold (rows_told (K.told keeper.old)) query.now (K.visited keeper.old) (K.visited keeper.new) }
+    ensures least { IfOk result (λ v. VisitsAtLeast (rows_counted (view v)) (K.visited keeper.old)
+        (K.visited keeper.new)) }
+    ensures most { VisitsTold (rows_told (K.told keeper.old)) query.now (K.visited keeper.old)
+        (K.visited keeper.new) }
     ensures loan { K.loan keeper.new ≡ K.loan keeper.old }
 {
     let answer = keeper.scan(query)?;

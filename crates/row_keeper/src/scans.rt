@@ -5,7 +5,8 @@ ghost use Rattle.std.specs.List.Sorted.{IsPermutation, IsSorted};
 ghost use Rattle.fx_types.specs.ValueView.{view};
 ghost use Rattle.fx_types.specs.Values.{blank as blank_data};
 ghost use Rattle.fx_value.specs.Order.{order};
-ghost use Rattle.row_queries.specs.Queries.{first_outcome_fault, first_of, lies, outcome_on, row_order};
+ghost use Rattle.row_queries.specs.Queries.{first_outcome_fault, first_of, lies, outcome_on};
+ghost use Rattle.row_queries.specs.Queries.{row_order};
 ghost use Rattle.row_queries.specs.RowTests.{CanAsk, held_of, is_met};
 ghost use Rattle.row_queries.specs.TableRows.{id_value, value_at, values_of};
 
@@ -89,8 +90,8 @@ pub struct Judged {
     pub fault: Option<Fault>,
 }
 
-// Whether a row meets a query's test, or that the test is an error there. Apart, so that it is told by what the query
-// comes to on the row.
+// Whether a row meets a query's test, or that the test is an error there. Apart, so that it is told
+// by what the query comes to on the row.
 fn test_row(alloc: Global, query: &Query, row: &Row) -> Result<Held, Memory>
     requires { CanAsk (values_of row.now) query.now.test }
     ensures { IfOk result (λ h. h ≡ held_of (outcome_on query.now row.now)) }
@@ -102,7 +103,8 @@ fn test_row(alloc: Global, query: &Query, row: &Row) -> Result<Held, Memory>
 pub fn judge(alloc: Global, asked: Vec<Row>, query: &Query) -> Result<Judged, Memory>
     requires { AllByRecursion (λ (r : Row). CanAsk (values_of r) query.now.test) asked.items }
     ensures { IfOk result (λ j. MatchOption j.fault
-        ((first_outcome_fault (map (outcome_on query.now) asked.items) ≡ None) × (j.rows.items ≡ filter (λ r. is_met (outcome_on query.now r)) asked.items))
+        ((first_outcome_fault (map (outcome_on query.now) asked.items) ≡ None)
+        × (j.rows.items ≡ filter (λ r. is_met (outcome_on query.now r)) asked.items))
         (λ f. first_outcome_fault (map (outcome_on query.now) asked.items) ≡ Some f)) }
 {
     let mut rows = Vec::new(alloc);

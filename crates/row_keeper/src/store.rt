@@ -1,5 +1,6 @@
 // The tables of a schema, with a transaction.
-ghost use Rattle.std.specs.Prelude.{◌≡◌, ◌≢◌, ◌≤◌, true, false, List, length, map, slice_get, None, IfNone, IfOk, IfSome, IsSome, IsSomeAnd, OnErr, OnOk};
+ghost use Rattle.std.specs.Prelude.{◌≡◌, ◌≢◌, ◌≤◌, true, false, List, length, map, slice_get, None};
+ghost use Rattle.std.specs.Prelude.{IfNone, IfOk, IfSome, IsSome, IsSomeAnd, OnErr, OnOk};
 ghost use Rattle.std.specs.List.{AllByRecursion};
 ghost use Rattle.fx_core.specs.Lawful.{IsLawfulSchema};
 ghost use Rattle.fx_core.specs.declared.schema.TableShape.{TableShape as Shape};
@@ -7,7 +8,8 @@ ghost use Rattle.row_queries.specs.Queries.{AreAsked, IsQuery};
 ghost use Rattle.row_queries.specs.RowTests.{CanAsk};
 ghost use Rattle.row_queries.specs.TableRows.{AreCellsOf, AreHeldRows, IsRowOf, rows_at, values_of};
 ghost use Rattle.row_queries.specs.declared.rows.Row.{Row as RowValue};
-ghost use Rattle.row_keeper.specs.Changes.{Inserts, IsInserted, IsReplaced, Removes, Replaces, Shapes};
+ghost use Rattle.row_keeper.specs.Changes.{Inserts, IsInserted, IsReplaced, Removes, Replaces};
+ghost use Rattle.row_keeper.specs.Changes.{Shapes};
 ghost use Rattle.row_keeper.specs.Kept.{empty_table};
 ghost use Rattle.row_keeper.specs.Pages.{AreFirstRows};
 ghost use Rattle.row_keeper.specs.Skips.{numbers_passed};
@@ -84,13 +86,16 @@ impl Store {
         }
     }
 
-    /// Keeps a schema, with tables without rows, unless one is kept. Where another one is, it answers that one.
+    /// Keeps a schema, with tables without rows, unless one is kept. Where another one is, it
+    /// answers that one.
     pub fn shape(&mut self, schema: &Schema) -> Result<Option<Schema>, Memory>
         requires idle { self.old.is_begun ≡ false }
         requires lawful { IsLawfulSchema schema.now }
-        ensures shapes { IfOk result (λ other. Shapes schema.now other (tables_now self.old) (tables_now self.new)) }
+        ensures shapes { IfOk result (λ other. Shapes schema.now other (tables_now self.old)
+            (tables_now self.new)) }
         ensures another { IfOk result (λ other. IfSome other (λ s. s ≢ schema.now)) }
-        ensures sound { IfOk result (λ other. IfNone other (AreStatesOf schema.now.tables self.new.now)) }
+        ensures sound { IfOk result (λ other. IfNone other
+            (AreStatesOf schema.now.tables self.new.now)) }
         ensures idle { self.new.is_begun ≡ false }
         ensures err { OnErr result (self.new ≡ self.old) }
     {
@@ -120,9 +125,12 @@ impl Store {
     /// Puts a new row into a table, or says which rule it breaks first.
     pub fn insert(&mut self, table: u16, cells: &Cells) -> Result<Put, Memory>
         requires begun { self.old.is_begun ≡ true }
-        requires fit { IsSomeAnd (slice_get (shapes_of self.old.schema) table) (λ t. AreCellsOf t.columns cells.now) }
-        ensures put { IfOk result (λ put. Inserts (columns_at (shapes_of self.old.schema) table) table cells.now put (tables_now self.old) (tables_now self.new)) }
-        ensures sound { IfOk result (λ put. IsInserted (columns_at (shapes_of self.old.schema) table) put) }
+        requires fit { IsSomeAnd (slice_get (shapes_of self.old.schema) table)
+            (λ t. AreCellsOf t.columns cells.now) }
+        ensures put { IfOk result (λ put. Inserts (columns_at (shapes_of self.old.schema) table)
+            table cells.now put (tables_now self.old) (tables_now self.new)) }
+        ensures sound { IfOk result (λ put. IsInserted
+            (columns_at (shapes_of self.old.schema) table) put) }
         ensures began { tables_then self.new ≡ tables_then self.old }
         ensures begun { self.new.is_begun ≡ true }
         ensures err { OnErr result (self.new ≡ self.old) }
@@ -130,12 +138,16 @@ impl Store {
         insert_at(self.alloc, &mut self.tables, table, cells)
     }
 
-    /// Puts other cells into a row, or says that there is none of this number, or which rule it would break first.
+    /// Puts other cells into a row, or says that there is none of this number, or which rule it
+    /// would break first.
     pub fn replace(&mut self, table: u16, id: u32, cells: &Cells) -> Result<Put, Memory>
         requires begun { self.old.is_begun ≡ true }
-        requires fit { IsSomeAnd (slice_get (shapes_of self.old.schema) table) (λ t. AreCellsOf t.columns cells.now) }
-        ensures put { IfOk result (λ put. Replaces (columns_at (shapes_of self.old.schema) table) table id cells.now put (tables_now self.old) (tables_now self.new)) }
-        ensures sound { IfOk result (λ put. IsReplaced (columns_at (shapes_of self.old.schema) table) id put) }
+        requires fit { IsSomeAnd (slice_get (shapes_of self.old.schema) table)
+            (λ t. AreCellsOf t.columns cells.now) }
+        ensures put { IfOk result (λ put. Replaces (columns_at (shapes_of self.old.schema) table)
+            table id cells.now put (tables_now self.old) (tables_now self.new)) }
+        ensures sound { IfOk result (λ put. IsReplaced
+            (columns_at (shapes_of self.old.schema) table) id put) }
         ensures began { tables_then self.new ≡ tables_then self.old }
         ensures begun { self.new.is_begun ≡ true }
         ensures err { OnErr result (self.new ≡ self.old) }
@@ -147,7 +159,8 @@ impl Store {
     pub fn remove(&mut self, table: u16, id: u32) -> Result<bool, Memory>
         requires begun { self.old.is_begun ≡ true }
         requires table { IsSome (slice_get (shapes_of self.old.schema) table) }
-        ensures was { IfOk result (λ was. Removes table id was (tables_now self.old) (tables_now self.new)) }
+        ensures was { IfOk result (λ was. Removes table id was (tables_now self.old)
+            (tables_now self.new)) }
         ensures began { tables_then self.new ≡ tables_then self.old }
         ensures begun { self.new.is_begun ≡ true }
         ensures err { OnErr result (self.new ≡ self.old) }
@@ -184,9 +197,14 @@ impl Store {
         requires query { IsQuery (shapes_of self.now.schema) query.now }
         requires column { query.now.column ≡ 0 }
         requires order { query.now.order ≡ None }
-        ensures first { IfOk result (λ rows. AreFirstRows query.now (rows_at (rows_of_tables self.now.now) query.now.table) most rows.items) }
-        ensures fit { IfOk result (λ rows. IsSomeAnd (slice_get (shapes_of self.now.schema) query.now.table) (λ t. AllByRecursion (IsRowOf t) rows.items)) }
-        ensures able { OnOk result ((asked : List RowValue) → AreAsked query.now (rows_at (rows_of_tables self.now.now) query.now.table) asked → AllByRecursion (λ (r : RowValue). CanAsk (values_of r) query.now.test) asked) }
+        ensures first { IfOk result (λ rows. AreFirstRows query.now
+            (rows_at (rows_of_tables self.now.now) query.now.table) most rows.items) }
+        ensures fit { IfOk result (λ rows. IsSomeAnd
+            (slice_get (shapes_of self.now.schema) query.now.table)
+            (λ t. AllByRecursion (IsRowOf t) rows.items)) }
+        ensures able { OnOk result ((asked : List RowValue)
+            → AreAsked query.now (rows_at (rows_of_tables self.now.now) query.now.table) asked
+            → AllByRecursion (λ (r : RowValue). CanAsk (values_of r) query.now.test) asked) }
     {
         let table = &self.tables[query.table as usize];
         table.is_sound();
@@ -196,7 +214,8 @@ impl Store {
     /// A fact about the rows of a query's table, and no work.
     pub fn are_held(&self, query: &Query)
         requires { IsQuery (shapes_of self.now.schema) query.now }
-        ensures { IsSomeAnd (slice_get (shapes_of self.now.schema) query.now.table) (λ t. AreHeldRows t (rows_at (rows_of_tables self.now.now) query.now.table)) }
+        ensures { IsSomeAnd (slice_get (shapes_of self.now.schema) query.now.table)
+            (λ t. AreHeldRows t (rows_at (rows_of_tables self.now.now) query.now.table)) }
     {
         let table = &self.tables[query.table as usize];
         table.is_sound();
@@ -205,8 +224,11 @@ impl Store {
     /// The rows that a query asks, in its order.
     pub fn ask(&self, query: &Query) -> Result<Vec<Row>, Memory>
         requires { IsQuery (shapes_of self.now.schema) query.now }
-        ensures asked { IfOk result (λ rows. AreAsked query.now (rows_at (rows_of_tables self.now.now) query.now.table) rows.items) }
-        ensures fit { IfOk result (λ rows. IsSomeAnd (slice_get (shapes_of self.now.schema) query.now.table) (λ t. AllByRecursion (IsRowOf t) rows.items)) }
+        ensures asked { IfOk result (λ rows. AreAsked query.now
+            (rows_at (rows_of_tables self.now.now) query.now.table) rows.items) }
+        ensures fit { IfOk result (λ rows. IsSomeAnd
+            (slice_get (shapes_of self.now.schema) query.now.table)
+            (λ t. AllByRecursion (IsRowOf t) rows.items)) }
         ensures few { IfOk result (λ rows. length rows.items ≤ 200000) }
     {
         let table = &self.tables[query.table as usize];

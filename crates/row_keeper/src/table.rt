@@ -1,5 +1,8 @@
-// A table: its rows by their numbers, an index of their keys, and what a transaction has made of them.
-ghost use Rattle.std.specs.Prelude.{◌≡◌, ◌⊎◌, filter, ℕ, ◌-◌, ◌+◌, ◌<◌, ◌≤◌, ◌^◌, ◌++◌, ◌∷◌, [], cond, length, map, take, true, false, IfOk, IfSome, OnErr, OnOk, MatchOption, Some, None, option_map, slice_get};
+// A table: its rows by their numbers, an index of their keys, and what a transaction has made of
+// them.
+ghost use Rattle.std.specs.Prelude.{◌≡◌, ◌⊎◌, filter, ℕ, ◌-◌, ◌+◌, ◌<◌, ◌≤◌, ◌^◌, ◌++◌, ◌∷◌, []};
+ghost use Rattle.std.specs.Prelude.{cond, length, map, take, true, false, IfOk, IfSome, OnErr};
+ghost use Rattle.std.specs.Prelude.{OnOk, MatchOption, Some, None, option_map, slice_get};
 ghost use Rattle.std.specs.BTreeMap.{IsOrdered};
 ghost use Rattle.std.specs.Ordering.{nat_cmp};
 ghost use Rattle.std.specs.List.{list_any};
@@ -58,7 +61,8 @@ impl Model for Table {
       then = record { rows = rows_then t.slots.by_id.entries; last = t.first };
     } };
 
-    ghost invariant = { λ t. IsWholeIndex t.columns t.covered.items t.slots.by_id.entries t.index.entries.entries t.last t.count t.first t.first_count };
+    ghost invariant = { λ t. IsWholeIndex t.columns t.covered.items t.slots.by_id.entries
+        t.index.entries.entries t.last t.count t.first t.first_count };
 }
 
 /// The columns that are indexed: `ID`, and each that is indexed or unique.
@@ -96,8 +100,10 @@ fn entries_at(
     slots: &Slots,
     id: u32,
 ) -> Result<Option<Vec<Entry>>, Memory>
-    requires { (i k : ℕ) → IfSome (now_at slots.now.by_id.entries i) (λ cells. IsScalar (value_at cells k)) }
-    ensures entries { IfOk result (λ es. option_map (λ v. v.items) es ≡ option_map (entries_of covered.now id) (now_at slots.now.by_id.entries id)) }
+    requires { (i k : ℕ) → IfSome (now_at slots.now.by_id.entries i)
+        (λ cells. IsScalar (value_at cells k)) }
+    ensures entries { IfOk result (λ es. option_map (λ v. v.items) es
+        ≡ option_map (entries_of covered.now id) (now_at slots.now.by_id.entries id)) }
     ensures ordered { IsOrdered nat_cmp slots.now.by_id }
 {
     let _len = slots.by_id.len();
@@ -136,7 +142,8 @@ impl Table {
         requires room { self.old.now.last < 2 ^ 32 - 1 }
         requires few { length self.old.now.rows < 200000 }
         ensures id { IfOk result (λ id. id ≡ self.old.now.last + 1) }
-        ensures ok { OnOk result (self.new ≡ record self.old { now = with_row cells.now self.old.now }) }
+        ensures ok { OnOk result (self.new ≡ record self.old
+            { now = with_row cells.now self.old.now }) }
         ensures err { OnErr result (self.new ≡ self.old) }
     {
         let id = self.last + 1;
@@ -156,7 +163,10 @@ impl Table {
     pub fn replace(&mut self, id: u32, cells: &Cells) -> Result<bool, Memory>
         requires fit { AreCellsOf self.old.columns cells.now }
         ensures was { IfOk result (λ was. was ≡ list_any (has_id id) self.old.now.rows) }
-        ensures ok { IfOk result (λ was. self.new ≡ record self.old { now = cond was (with_cells id cells.now self.old.now) self.old.now }) }
+        ensures ok { IfOk result (λ was. self.new
+            ≡ record self.old {
+              now = cond was (with_cells id cells.now self.old.now) self.old.now;
+            }) }
         ensures err { OnErr result (self.new ≡ self.old) }
     {
         let Some(out) = entries_at(self.alloc, &self.covered, &self.slots, id)? else {
@@ -176,7 +186,8 @@ impl Table {
     /// Takes a row out, if it is one.
     pub fn remove(&mut self, id: u32) -> Result<bool, Memory>
         ensures was { IfOk result (λ was. was ≡ list_any (has_id id) self.old.now.rows) }
-        ensures ok { IfOk result (λ was. self.new ≡ record self.old { now = cond was (without_row id self.old.now) self.old.now }) }
+        ensures ok { IfOk result (λ was. self.new
+            ≡ record self.old { now = cond was (without_row id self.old.now) self.old.now }) }
         ensures err { OnErr result (self.new ≡ self.old) }
     {
         let Some(out) = entries_at(self.alloc, &self.covered, &self.slots, id)? else {
@@ -218,8 +229,10 @@ impl Table {
     /// The rows whose keys in a column lie in ranges, by rising numbers.
     pub fn ask(&self, column: u16, ranges: &[KeyRange]) -> Result<Vec<Row>, Memory>
         requires column { column ≤ length self.now.columns }
-        requires reaches { (covers (covered_of self.now.columns) column ≡ true) ⊎ HoldEveryKey ranges.now }
-        ensures { IfOk result (λ rows. rows.items ≡ filter (lies_among column ranges.now) self.now.now.rows) }
+        requires reaches { (covers (covered_of self.now.columns) column ≡ true)
+            ⊎ HoldEveryKey ranges.now }
+        ensures { IfOk result (λ rows. rows.items
+            ≡ filter (lies_among column ranges.now) self.now.now.rows) }
     {
         if self.covered.contains(&column) {
             let ids = self.index.hits(self.alloc, column, ranges)?;
@@ -229,12 +242,15 @@ impl Table {
         }
     }
 
-    /// The first rows, at most so many, by rising numbers, of those whose numbers have keys in ranges.
+    /// The first rows, at most so many, by rising numbers, of those whose numbers have keys in
+    /// ranges.
     pub fn first(&self, ranges: &[KeyRange], most: usize) -> Result<Vec<Row>, Memory>
         requires { AreRangesRising ranges.now }
-        ensures { IfOk result (λ rows. rows.items ≡ take most (filter (lies_among 0 ranges.now) self.now.now.rows)) }
+        ensures { IfOk result (λ rows. rows.items
+            ≡ take most (filter (lies_among 0 ranges.now) self.now.now.rows)) }
     {
-        // It is called for what it says: keys of numbers go as the numbers do, which the last of them bounds.
+        // It is called for what it says: keys of numbers go as the numbers do, which the last of
+        // them bounds.
         keys_order();
         let _last = self.last;
         let ids = self.index.first_hits(self.alloc, 0, ranges, most)?;

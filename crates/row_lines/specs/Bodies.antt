@@ -1,5 +1,6 @@
 -- The bytes of rows and schemas in the database.
-use Rattle.std.specs.Prelude.{ℕ, Bool, List, [], ◌∷◌, ◌++◌, encode_utf8_all, flat_map, if◌then◌else◌, length}
+use Rattle.std.specs.Prelude.{ℕ, Bool, List, [], ◌∷◌, ◌++◌, encode_utf8_all, flat_map}
+use Rattle.std.specs.Prelude.{if◌then◌else◌, length}
 use Rattle.std.specs.Int.{to_be_bytes, w32}
 use Rattle.fx_types.specs.Values.{Data}
 use Rattle.fx_types.specs.declared.types.Ty.{Ty}
@@ -29,7 +30,8 @@ truth_byte b = if b then 1 else 0
 
 -- a column: its name, its type, and whether it is required, unique and indexed
 abbrev pub column_bytes : Column → List ℕ
-column_bytes c = length_prefixed (encode_utf8_all c.name) ++ (type_byte c.ty ∷ truth_byte c.required ∷ truth_byte c.unique ∷ truth_byte c.indexed ∷ [])
+column_bytes c = length_prefixed (encode_utf8_all c.name)
+    ++ (type_byte c.ty ∷ truth_byte c.required ∷ truth_byte c.unique ∷ truth_byte c.indexed ∷ [])
 
 -- a table: its name, and its columns
 abbrev pub table_bytes : TableShape → List ℕ

@@ -1,5 +1,7 @@
--- Rows and schemas out of their bytes. All bytes are read, those too that stand for no row and no schema.
-use Rattle.std.specs.Prelude.{ℕ, zero, suc, ◌^◌, ℤ, pos, ◌-ℤ◌, Bool, true, false, List, [], ◌∷◌, chars, drop, length, slice_index, take}
+-- Rows and schemas out of their bytes. All bytes are read, those too that stand for no row and no
+-- schema.
+use Rattle.std.specs.Prelude.{ℕ, zero, suc, ◌^◌, ℤ, pos, ◌-ℤ◌, Bool, true, false, List, [], ◌∷◌}
+use Rattle.std.specs.Prelude.{chars, drop, length, slice_index, take}
 use Rattle.std.specs.Int.{Width, from_be_bytes, w32, w64}
 use Rattle.fx_types.specs.Values.{Data, blank, number, text, boolean, date}
 use Rattle.fx_types.specs.declared.types.Ty.{Ty}
@@ -77,7 +79,8 @@ behind_column bytes = drop 4 (behind_piece bytes)
 abbrev pub items_in : {A : Type 0} → (List ℕ → A) → (List ℕ → List ℕ) → ℕ → List ℕ → List A
 items_in first behind zero bytes = []
 items_in first behind (suc most) [] = []
-items_in first behind (suc most) (b ∷ bytes) = first (b ∷ bytes) ∷ items_in first behind most (behind (b ∷ bytes))
+items_in first behind (suc most) (b ∷ bytes) = first (b ∷ bytes)
+    ∷ items_in first behind most (behind (b ∷ bytes))
 
 -- a table: its name, and its columns
 abbrev pub table_in : List ℕ → TableShape
@@ -88,4 +91,7 @@ table_in bytes = let columns = behind_piece bytes in record {
 
 -- the schema of a body: a piece for each table
 abbrev pub schema_in : List ℕ → Schema
-schema_in body = record { tables = items_in (λ bytes. table_in (first_piece bytes)) behind_piece (length body) body }
+schema_in body = record {
+  tables = items_in (λ bytes. table_in (first_piece bytes)) behind_piece
+      (length body) body;
+}

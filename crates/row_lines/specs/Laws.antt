@@ -21,12 +21,14 @@ HasShortKey d = IsShort (key_bytes d)
 
 -- of the line of a row its cells are read
 abbrev pub LinesTell : Type 0
-LinesTell = (columns : List Column) (cells : List Data) → AreCellsOf columns cells → AllByRecursion IsProper cells → AllByRecursion HasShortKey cells
+LinesTell = (columns : List Column) (cells : List Data) → AreCellsOf columns cells
+    → AllByRecursion IsProper cells → AllByRecursion HasShortKey cells
     → cells_in columns (line_bytes cells) ≡ cells
 
 -- the key of each cell is the piece at its place
 abbrev pub PiecesTell : Type 0
-PiecesTell = (cells : List Data) (place : ℕ) → AllByRecursion HasShortKey cells → place < length cells → piece_in place (line_bytes cells) ≡ key_bytes (value_at cells place)
+PiecesTell = (cells : List Data) (place : ℕ) → AllByRecursion HasShortKey cells
+    → place < length cells → piece_in place (line_bytes cells) ≡ key_bytes (value_at cells place)
 
 abbrev pub IsShortName : List ℕ → Type 0
 IsShortName name = (all_scalars name ≡ true) × IsShort (encode_utf8_all name)
@@ -36,7 +38,8 @@ HasShortName c = IsShortName c.name
 
 -- a table whose pieces are short
 abbrev pub IsShortTable : TableShape → Type 0
-IsShortTable t = IsShortName t.name × AllByRecursion HasShortName t.columns × IsShort (table_bytes t)
+IsShortTable t = IsShortName t.name × AllByRecursion HasShortName t.columns
+    × IsShort (table_bytes t)
 
 -- the type is one that a byte stands for
 abbrev pub HasTypeByte : Column → Type 0
@@ -50,7 +53,8 @@ HaveTypeBytes s = AllByRecursion HasTypeBytes s.tables
 
 -- of the body of a schema that schema is read
 abbrev pub SchemasTell : Type 0
-SchemasTell = (s : Schema) → HaveTypeBytes s → AllByRecursion IsShortTable s.tables → schema_in (schema_bytes s) ≡ s
+SchemasTell = (s : Schema) → HaveTypeBytes s → AllByRecursion IsShortTable s.tables
+    → schema_in (schema_bytes s) ≡ s
 
 -- and lawful schemas have no other types
 abbrev pub LawfulSchemasHaveTypeBytes : Type 0

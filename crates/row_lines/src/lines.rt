@@ -23,7 +23,8 @@ use std::alloc::Global;
 /// Adds the key of a cell as a piece.
 fn push_cell(alloc: Global, body: &mut Vec<u8>, cell: &Value) -> Result<(), Memory>
     requires { IsScalar (view cell.now) }
-    ensures ok { OnOk result (body.new.items ≡ body.old.items ++ length_prefixed (key_bytes (view cell.now))) }
+    ensures ok { OnOk result (body.new.items ≡ body.old.items
+        ++ length_prefixed (key_bytes (view cell.now))) }
     ensures short { OnOk result (HasShortKey (view cell.now)) }
 {
     let key = key_of(alloc, cell)?;
@@ -74,7 +75,8 @@ pub fn row_of(
     ensures held { IfOk result (λ o. IfSome o (λ row. IsHeldRow table.now row)) }
     ensures id { IfOk result (λ o. IfSome o (λ row. row.id ≡ id)) }
     ensures line { IfOk result (λ o. IfSome o (λ row. line_bytes row.cells ≡ body.now)) }
-    ensures told { IfOk result (λ o. IfSome o (λ row. row.cells ≡ cells_in table.now.columns body.now)) }
+    ensures told { IfOk result (λ o. IfSome o
+        (λ row. row.cells ≡ cells_in table.now.columns body.now)) }
 {
     if id == 0 {
         return Ok(None);

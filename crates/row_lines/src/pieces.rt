@@ -11,7 +11,8 @@ pub fn push_piece(body: &mut Vec<u8>, bytes: &[u8]) -> Result<(), Memory>
     ensures ok { OnOk result (body.new.items ≡ body.old.items ++ length_prefixed bytes.now) }
     ensures short { OnOk result (IsShort bytes.now) }
 {
-    // No piece is so long that its length needs more than four bytes: memory would have run out before.
+    // No piece is so long that its length needs more than four bytes: memory would have run out
+    // before.
     let Ok(len) = u32::try_from(bytes.len()) else {
         return Err(Memory);
     };

@@ -1,9 +1,11 @@
 // The bodies of schemas.
 ghost use Rattle.std.specs.Prelude.{◌≡◌, ◌++◌, IfOk, IfSome, OnOk, encode_utf8_all, flat_map};
 ghost use Rattle.std.specs.List.{AllByRecursion};
-ghost use Rattle.row_lines.specs.Bodies.{column_bytes, length_prefixed, schema_bytes, table_bytes, truth_byte, type_byte};
+ghost use Rattle.row_lines.specs.Bodies.{column_bytes, length_prefixed, schema_bytes, table_bytes};
+ghost use Rattle.row_lines.specs.Bodies.{truth_byte, type_byte};
 ghost use Rattle.row_lines.specs.FromBytes.{schema_in, type_in};
-ghost use Rattle.row_lines.specs.Laws.{HasShortName, HasTypeByte, HasTypeBytes, HaveTypeBytes, IsShortName, IsShortTable};
+ghost use Rattle.row_lines.specs.Laws.{HasShortName, HasTypeByte, HasTypeBytes, HaveTypeBytes};
+ghost use Rattle.row_lines.specs.Laws.{IsShortName, IsShortTable};
 
 use crate::pieces::{push_piece, split_piece};
 use fx_base::{InOrder, Memory};
@@ -25,7 +27,8 @@ fn type_byte(ty: &Ty) -> u8
 
 /// Adds a name as a piece.
 fn push_name(body: &mut Vec<u8>, name: &Words) -> Result<(), Memory>
-    ensures ok { OnOk result (body.new.items ≡ body.old.items ++ length_prefixed (encode_utf8_all name.now)) }
+    ensures ok { OnOk result (body.new.items ≡ body.old.items
+        ++ length_prefixed (encode_utf8_all name.now)) }
     ensures short { OnOk result (IsShortName name.now) }
 {
     push_piece(body, name.as_str().as_bytes())
@@ -71,17 +74,20 @@ fn push_columns(body: &mut Vec<u8>, columns: &[Column]) -> Result<(), Memory>
 
 /// Adds a table as a piece.
 fn push_table(alloc: Global, body: &mut Vec<u8>, table: &TableShape) -> Result<(), Memory>
-    ensures ok { OnOk result (body.new.items ≡ body.old.items ++ length_prefixed (table_bytes table.now)) }
+    ensures ok { OnOk result (body.new.items ≡ body.old.items
+        ++ length_prefixed (table_bytes table.now)) }
     ensures short { OnOk result (IsShortTable table.now) }
 {
     let bytes = table_bytes(alloc, table)?;
     push_piece(body, &bytes)
 }
 
-/// The body of a schema, of which it can be read again where a byte stands for the type of each column.
+/// The body of a schema, of which it can be read again where a byte stands for the type of each
+/// column.
 pub fn body_of(alloc: Global, schema: &Schema) -> Result<Vec<u8>, Memory>
     ensures body { IfOk result (λ body. body.items ≡ schema_bytes schema.now) }
-    ensures told { IfOk result (λ body. HaveTypeBytes schema.now → schema_in body.items ≡ schema.now) }
+    ensures told { IfOk result (λ body. HaveTypeBytes schema.now
+        → schema_in body.items ≡ schema.now) }
 {
     let mut body = Vec::new(alloc);
     let tables = schema.tables.as_slice();

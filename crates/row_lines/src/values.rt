@@ -38,7 +38,8 @@ fn text_of(alloc: Global, bytes: &[u8]) -> Result<Option<Words>, Memory> {
 
 /// The value of a type whose key has these bytes behind its first one.
 fn value_behind(alloc: Global, ty: &Ty, bytes: &[u8]) -> Result<Option<Value>, Memory>
-    ensures { IfOk result (λ o. IfSome o (λ v. IsScalar (view v) × (fits_in (view v) (shape ty.now) ≡ true))) }
+    ensures { IfOk result (λ o. IfSome o (λ v. IsScalar (view v)
+        × (fits_in (view v) (shape ty.now) ≡ true))) }
 {
     match ty {
         Ty::Number => match number_of(bytes) {
@@ -60,7 +61,8 @@ fn value_behind(alloc: Global, ty: &Ty, bytes: &[u8]) -> Result<Option<Value>, M
 
 /// The value of a type whose key this may be: if there is one with this key, it is this value.
 pub fn value_of(alloc: Global, ty: &Ty, key: &[u8]) -> Result<Option<Value>, Memory>
-    ensures { IfOk result (λ o. IfSome o (λ v. IsScalar (view v) × (fits_in (view v) (shape ty.now) ≡ true))) }
+    ensures { IfOk result (λ o. IfSome o (λ v. IsScalar (view v)
+        × (fits_in (view v) (shape ty.now) ≡ true))) }
 {
     match key {
         [] => Ok(None),

@@ -5,7 +5,9 @@ use Rattle.std.specs.Coded.{Coded, coded_list}
 use base.Stored.{Gv, gnil, gnum, gcons}
 use Rattle.fx_types.specs.contracts.comparisons.Cmp.{the_row as cmp_row}
 use Rattle.fx_types.specs.ValueCode.{data_code}
-use Rattle.row_queries.specs.Conditions.{Condition, ConditionList, always, flag, constant, compares, is_blank, starts, contains, all_of, any_of, opposite, no_conditions, also}
+use Rattle.row_queries.specs.Conditions.{Condition, ConditionList, always, flag, constant, compares}
+use Rattle.row_queries.specs.Conditions.{is_blank, starts, contains, all_of, any_of, opposite}
+use Rattle.row_queries.specs.Conditions.{no_conditions, also}
 use Rattle.fx_core.specs.TermCode.{front, back}
 
 abbrev pub gv_count : Gv → ℕ
@@ -17,7 +19,8 @@ abbrev mutual
   of_condition always = gcons (gnum 0) gnil
   of_condition (flag k) = gcons (gnum 1) (gnum k)
   of_condition (constant d) = gcons (gnum 2) (data_code.code d)
-  of_condition (compares op k d) = gcons (gnum 3) (gcons (cmp_row.coded.code op) (gcons (gnum k) (data_code.code d)))
+  of_condition (compares op k d) = gcons (gnum 3)
+      (gcons (cmp_row.coded.code op) (gcons (gnum k) (data_code.code d)))
   of_condition (is_blank k) = gcons (gnum 4) (gnum k)
   of_condition (starts k d) = gcons (gnum 5) (gcons (gnum k) (data_code.code d))
   of_condition (contains k d) = gcons (gnum 6) (gcons (gnum k) (data_code.code d))
@@ -35,10 +38,14 @@ mutual
   same (flag k) (flag m) p = λ i. flag (gv_count (back (p i)))
   same (constant d) (constant e) p = ap constant (data_code.inj d e (ap back p))
   same (compares f k d) (compares g m e) p =
-      λ i. compares (cmp_row.coded.inj f g (λ j. front (back (p j))) i) (gv_count (front (back (back (p i))))) (data_code.inj d e (λ j. back (back (back (p j)))) i)
+      λ i. compares (cmp_row.coded.inj f g (λ j. front (back (p j))) i)
+      (gv_count (front (back (back (p i)))))
+      (data_code.inj d e (λ j. back (back (back (p j)))) i)
   same (is_blank k) (is_blank m) p = λ i. is_blank (gv_count (back (p i)))
-  same (starts k d) (starts m e) p = λ i. starts (gv_count (front (back (p i)))) (data_code.inj d e (λ j. back (back (p j))) i)
-  same (contains k d) (contains m e) p = λ i. contains (gv_count (front (back (p i)))) (data_code.inj d e (λ j. back (back (p j))) i)
+  same (starts k d) (starts m e) p = λ i. starts (gv_count (front (back (p i))))
+      (data_code.inj d e (λ j. back (back (p j))) i)
+  same (contains k d) (contains m e) p = λ i. contains (gv_count (front (back (p i))))
+      (data_code.inj d e (λ j. back (back (p j))) i)
   same (all_of cs) (all_of ds) p = ap all_of (same_list cs ds (ap back p))
   same (any_of cs) (any_of ds) p = ap any_of (same_list cs ds (ap back p))
   same (opposite c) (opposite d) p = ap opposite (same c d (ap back p))
@@ -46,7 +53,8 @@ mutual
 
   pub same_list : (cs ds : ConditionList) → of_conditions cs ≡ of_conditions ds → cs ≡ ds
   same_list no_conditions no_conditions p = refl
-  same_list (also c cs) (also d ds) p = λ i. also (same c d (ap front p) i) (same_list cs ds (ap back p) i)
+  same_list (also c cs) (also d ds) p = λ i. also (same c d (ap front p) i)
+      (same_list cs ds (ap back p) i)
   same_list cs ds p = cc
 
 abbrev pub condition_code : Coded Condition

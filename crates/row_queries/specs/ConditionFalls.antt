@@ -20,6 +20,7 @@ test_falls (n.And ts) = omega arith
 test_falls (n.Or ts) = omega arith
 test_falls (n.Not a) = omega arith
 
-pub conditions_fall : (cs : List Condition) → most (λ c. condition_size c + 1) cs ≤ conditions_size cs
+pub conditions_fall : (cs : List Condition) → most (λ c. condition_size c + 1) cs
+    ≤ conditions_size cs
 conditions_fall [] = omega arith
 conditions_fall (c ∷ cs) = omega (arith, conditions_fall cs)

@@ -1,6 +1,7 @@
 -- What a row test is seen as.
 use Rattle.fx_types.specs.ValueView.{view}
-use Rattle.row_queries.specs.Conditions.{Condition, always, flag, constant, compares, is_blank, starts, contains, all_of, any_of, opposite, condition_list}
+use Rattle.row_queries.specs.Conditions.{Condition, always, flag, constant, compares, is_blank}
+use Rattle.row_queries.specs.Conditions.{starts, contains, all_of, any_of, opposite, condition_list}
 use Rattle.row_queries.specs.declared.row_tests.TestNode.{TestNode}
 use Rattle.row_queries.specs.declared.row_tests.TestNode.TheVariants as n
 

@@ -13,8 +13,10 @@ use Rattle.row_queries.specs.declared.rows.Row.{Row}
 
 -- of rows by rising numbers a query asks one list: so a scan and a count have one answer
 abbrev pub AskedOnce : Type 0
-AskedOnce = (q : Query) (rows a b : List Row) → AreInIdOrder rows → AreAsked q rows a → AreAsked q rows b → a ≡ b
+AskedOnce = (q : Query) (rows a b : List Row) → AreInIdOrder rows → AreAsked q rows a
+    → AreAsked q rows b → a ≡ b
 
 -- rows that fit a lawful table are a table of its type
 abbrev pub RowsFit : Type 0
-RowsFit = (t : TableShape) (rows : List Row) → IsLawfulTable t → All (IsRowOf t) rows → fits_in (rows_table t rows) (tables (columns_of t)) ≡ true
+RowsFit = (t : TableShape) (rows : List Row) → IsLawfulTable t → All (IsRowOf t) rows
+    → fits_in (rows_table t rows) (tables (columns_of t)) ≡ true

@@ -1,5 +1,6 @@
 -- What a query asks of the rows of its table, and what it is given.
-use Rattle.std.specs.Prelude.{◌≡◌, ◌⊎◌, true, ℕ, zero, suc, ◌≤◌, Bool, List, [], ◌∷◌, length, take, map, Option, Some, None, slice_get, IfSome, IsSomeAnd}
+use Rattle.std.specs.Prelude.{◌≡◌, ◌⊎◌, true, ℕ, zero, suc, ◌≤◌, Bool, List, [], ◌∷◌, length, take}
+use Rattle.std.specs.Prelude.{map, Option, Some, None, slice_get, IfSome, IsSomeAnd}
 use Rattle.std.specs.List.{filter}
 use Rattle.std.specs.List.Sorted.{IsPermutation, IsSorted}
 use Rattle.std.specs.Ordering.{nat_cmp, ordering_then}
@@ -26,15 +27,16 @@ use Rattle.row_queries.specs.TableRows.{IsRowOf, value_at, values_of}
 -- `ID`, or a column that is indexed or unique
 abbrev pub IsIndexed : TableShape → ℕ → Type 0
 IsIndexed t zero = Unit {0}
-IsIndexed t (suc k) = IsSomeAnd (slice_get t.columns k) (λ (c : Column). (c.indexed ≡ true) ⊎ (c.unique ≡ true))
+IsIndexed t (suc k) = IsSomeAnd (slice_get t.columns k)
+    (λ (c : Column). (c.indexed ≡ true) ⊎ (c.unique ≡ true))
 
 -- `ID`, or a column of numbers
 abbrev pub IsOfNumbers : TableShape → ℕ → Type 0
 IsOfNumbers t zero = Unit {0}
 IsOfNumbers t (suc k) = IsSomeAnd (slice_get t.columns k) (λ (c : Column). shape c.ty ≡ numbers)
 
--- A query of one of these tables: its column is an indexed one, or its ranges hold every key; its ranges rise
--- and don't overlap; and its test can be asked of every row that fits the table.
+-- A query of one of these tables: its column is an indexed one, or its ranges hold every key; its
+-- ranges rise and don't overlap; and its test can be asked of every row that fits the table.
 pub record IsQuery (tables : List TableShape) (q : Query) : Type 0 where
   pub table : TableShape
   pub is_table : slice_get tables q.table ≡ Some table
@@ -91,9 +93,11 @@ abbrev pub rows_or_fault : List Row → Option Fault → RowList
 rows_or_fault rows None = record { rows = rows; fault = None }
 rows_or_fault rows (Some f) = record { rows = []; fault = Some f }
 
--- what a scan answers: the first error of the test in the query's order, else the rows that the query gives
+-- what a scan answers: the first error of the test in the query's order, else the rows that the
+-- query gives
 abbrev pub IsScanned : Query → List Row → RowList → Type 0
-IsScanned q rows a = (asked : List Row) × AreAsked q rows asked × (a ≡ rows_or_fault (given_of q asked) (first_outcome_fault (map (outcome_on q) asked)))
+IsScanned q rows a = (asked : List Row) × AreAsked q rows asked
+    × (a ≡ rows_or_fault (given_of q asked) (first_outcome_fault (map (outcome_on q) asked)))
 
 -- how many rows a query gives
 abbrev pub IsCounted : Query → List Row → ℕ → Type 0
@@ -102,4 +106,5 @@ IsCounted q rows n = (asked : List Row) × AreAsked q rows asked × (n ≡ lengt
 -- what the values of a column that aren't blank come to, in the rows that a query gives
 abbrev pub IsTotalled : Query → List Row → ℕ → Totals → Type 0
 IsTotalled q rows column totals =
-    (asked : List Row) × AreAsked q rows asked × SumsUp (numbers_in (map (λ r. value_at (values_of r) column) (given_of q asked))) totals
+    (asked : List Row) × AreAsked q rows asked
+    × SumsUp (numbers_in (map (λ r. value_at (values_of r) column) (given_of q asked))) totals

@@ -1,12 +1,15 @@
 -- What row tests come to: what the conditions that they stand for come to, on a row.
-use Rattle.std.specs.Prelude.{◌≡◌, ◌⊎◌, ℕ, Bool, true, false, ◌||◌, List, [], ◌∷◌, bytes_eq, length, take, Option, Some, None, slice_get, IsSomeAnd}
+use Rattle.std.specs.Prelude.{◌≡◌, ◌⊎◌, ℕ, Bool, true, false, ◌||◌, List, [], ◌∷◌, bytes_eq, length}
+use Rattle.std.specs.Prelude.{take, Option, Some, None, slice_get, IsSomeAnd}
 use Rattle.caseless.specs.Caseless.{default_case_fold}
 use Rattle.fx_types.specs.declared.faults.Fault.{Fault}
 use Rattle.fx_types.specs.declared.faults.Kind.{Kind}
 use Rattle.fx_types.specs.Values.{Data, blank, text, boolean, fault}
 use Rattle.fx_value.specs.Operators.{CanCompare, holds_of}
 use Rattle.fx_value.specs.Order.{IsScalar}
-use Rattle.row_queries.specs.Conditions.{Condition, ConditionList, always, flag, constant, compares, is_blank, starts, contains, all_of, any_of, opposite, no_conditions, also}
+use Rattle.row_queries.specs.Conditions.{Condition, ConditionList, always, flag, constant, compares}
+use Rattle.row_queries.specs.Conditions.{is_blank, starts, contains, all_of, any_of, opposite}
+use Rattle.row_queries.specs.Conditions.{no_conditions, also}
 use Rattle.row_queries.specs.TableRows.{value_at}
 use Rattle.row_queries.specs.declared.row_tests.Held.{Held}
 use Rattle.row_queries.specs.declared.row_tests.Held.TheVariants.{Yes, No, Error}
@@ -68,10 +71,12 @@ has_part (c ∷ cs) part = is_prefix (c ∷ cs) part || has_part cs part
 
 -- the same without case
 abbrev pub begins_without_case : Data → Data → Bool
-begins_without_case d part = is_prefix (default_case_fold (text_or_empty d)) (default_case_fold (text_or_empty part))
+begins_without_case d part = is_prefix (default_case_fold (text_or_empty d))
+    (default_case_fold (text_or_empty part))
 
 abbrev pub has_part_without_case : Data → Data → Bool
-has_part_without_case d part = has_part (default_case_fold (text_or_empty d)) (default_case_fold (text_or_empty part))
+has_part_without_case d part = has_part (default_case_fold (text_or_empty d))
+    (default_case_fold (text_or_empty part))
 
 -- ---- conditions joined
 
@@ -156,8 +161,8 @@ abbrev pub HasValue : List Data → ℕ → (Data → Type 0) → Type 0
 HasValue row k P = IsSomeAnd (slice_get row k) P
 
 abbrev mutual
-  -- a condition can be asked of a row of these values: the row has the columns that it names, and their
-  -- values and its constants are of the types that it takes; a constant may be an error
+  -- a condition can be asked of a row of these values: the row has the columns that it names, and
+  -- their values and its constants are of the types that it takes; a constant may be an error
   pub CanAsk : List Data → Condition → Type 0
   CanAsk row always = Unit {0}
   CanAsk row (flag k) = HasValue row k IsTruth

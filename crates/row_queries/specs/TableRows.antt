@@ -1,5 +1,6 @@
 -- The rows of a table, and the records that they are.
-use Rattle.std.specs.Prelude.{◌≡◌, true, ℕ, ◌*◌, ◌<◌, ◌≤◌, pos, List, [], ◌∷◌, slice_get, unwrap_or, map}
+use Rattle.std.specs.Prelude.{◌≡◌, true, ℕ, ◌*◌, ◌<◌, ◌≤◌, pos, List, [], ◌∷◌, slice_get, unwrap_or}
+use Rattle.std.specs.Prelude.{map}
 use Rattle.std.specs.List.{All}
 use Rattle.fx_types.specs.TypeView.{shape}
 use Rattle.fx_types.specs.Values.{Data, blank, number, tab, row_list}
@@ -44,7 +45,8 @@ abbrev pub AreInIdOrder : List Row → Type 0
 AreInIdOrder [] = Unit {0}
 AreInIdOrder (r ∷ rs) = IsBelowAll r.id rs × AreInIdOrder rs
 
--- a row of a table whose values a program can hold: numbers and days in range, texts of scalar values
+-- a row of a table whose values a program can hold: numbers and days in range, texts of scalar
+-- values
 abbrev pub IsHeldRow : TableShape → Row → Type 0
 IsHeldRow t r = IsRowOf t r × All IsProper (values_of r)
 

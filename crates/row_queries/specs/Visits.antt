@@ -16,4 +16,5 @@ VisitsItsRanges q rows before now = now ≤ before + length (filter (lies q) row
 
 -- the same where the rows of all tables are told
 abbrev pub VisitsTold : Option (List (List Row)) → Query → ℕ → ℕ → Type 0
-VisitsTold told q before now = IfSome told (λ tables. VisitsItsRanges q (rows_at tables q.table) before now)
+VisitsTold told q before now = IfSome told (λ tables. VisitsItsRanges q (rows_at tables q.table)
+    before now)

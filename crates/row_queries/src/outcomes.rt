@@ -1,12 +1,17 @@
 //! What row tests come to on rows.
-ghost use Rattle.std.specs.Prelude.{◌≡◌, ◌⊎◌, [], IfOk, IsSome, MatchOption, OnErr, Some, slice_get};
+ghost use Rattle.std.specs.Prelude.{◌≡◌, ◌⊎◌, [], IfOk, IsSome, MatchOption, OnErr, Some};
+ghost use Rattle.std.specs.Prelude.{slice_get};
 ghost use Rattle.caseless.specs.Caseless.{default_case_fold};
 ghost use Rattle.fx_types.specs.ValueView.{view};
 ghost use Rattle.fx_types.specs.Values.{text as text_data};
 ghost use Rattle.fx_value.specs.Operators.{CanCompare, holds_of};
 ghost use Rattle.row_queries.specs.Conditions.{condition_list};
 ghost use Rattle.row_queries.specs.Judgements.{judged_outcome};
-ghost use Rattle.row_queries.specs.RowTests.{CanAsk, CanAskAll, IsTruth, all_outcome, any_outcome, is_prefix, begins_without_case, decided, decided_by, outcome_fault, has_part_without_case, held_of, is_empty_value, outcome, text_or_empty, met, unmet, HasValue, ReadTextWhile, ReadsText};
+ghost use Rattle.row_queries.specs.RowTests.{CanAsk, CanAskAll, IsTruth, all_outcome, any_outcome};
+ghost use Rattle.row_queries.specs.RowTests.{is_prefix, begins_without_case, decided, decided_by};
+ghost use Rattle.row_queries.specs.RowTests.{outcome_fault, has_part_without_case, held_of};
+ghost use Rattle.row_queries.specs.RowTests.{is_empty_value, outcome, text_or_empty, met, unmet};
+ghost use Rattle.row_queries.specs.RowTests.{HasValue, ReadTextWhile, ReadsText};
 ghost use Rattle.row_queries.specs.RowTests.{has_part as has_part_in, reversed as reversed_outcome};
 ghost use Rattle.row_queries.specs.TableRows.{id_value, value_at, values_of};
 
@@ -39,12 +44,13 @@ pub fn meets(alloc: Global, test: &Test, row: &Row) -> Result<Held, Memory>
     }
 }
 
-/// The error of a test on a row, if it is one. Memory is taken only where a text is looked into, and for the
-/// error.
+/// The error of a test on a row, if it is one. Memory is taken only where a text is looked into,
+/// and for the error.
 pub fn fault_of(alloc: Global, test: &Test, row: &Row) -> Result<Option<Fault>, Memory>
     requires { CanAsk (values_of row.now) test.now }
     ensures value { IfOk result (λ f. f ≡ outcome_fault (outcome (values_of row.now) test.now)) }
-    ensures memory { OnErr result (ReadsText (values_of row.now) test.now ⊎ IsSome (outcome_fault (outcome (values_of row.now) test.now))) }
+    ensures memory { OnErr result (ReadsText (values_of row.now) test.now
+        ⊎ IsSome (outcome_fault (outcome (values_of row.now) test.now))) }
 {
     match judge(alloc, test, row)? {
         Judgement::Failed(fault) => Ok(Some(fault.copy(alloc)?)),
@@ -86,7 +92,8 @@ pub fn judge<'t>(alloc: Global, test: &'t Test, row: &Row) -> Result<Judgement<'
 #[cycle(judge)]
 fn judge_all<'t>(alloc: Global, tests: &'t [Test], row: &Row) -> Result<Judgement<'t>, Memory>
     requires { CanAskAll (values_of row.now) (condition_list tests.now) }
-    ensures value { IfOk result (λ j. judged_outcome j ≡ all_outcome (values_of row.now) (condition_list tests.now)) }
+    ensures value { IfOk result (λ j. judged_outcome j
+        ≡ all_outcome (values_of row.now) (condition_list tests.now)) }
     ensures memory { OnErr result (ReadTextWhile met (values_of row.now) (condition_list tests.now)) }
 {
     for test in tests {
@@ -102,8 +109,10 @@ fn judge_all<'t>(alloc: Global, tests: &'t [Test], row: &Row) -> Result<Judgemen
 #[cycle(judge)]
 fn judge_any<'t>(alloc: Global, tests: &'t [Test], row: &Row) -> Result<Judgement<'t>, Memory>
     requires { CanAskAll (values_of row.now) (condition_list tests.now) }
-    ensures value { IfOk result (λ j. judged_outcome j ≡ any_outcome (values_of row.now) (condition_list tests.now)) }
-    ensures memory { OnErr result (ReadTextWhile unmet (values_of row.now) (condition_list tests.now)) }
+    ensures value { IfOk result (λ j. judged_outcome j
+        ≡ any_outcome (values_of row.now) (condition_list tests.now)) }
+    ensures memory { OnErr result (ReadTextWhile unmet (values_of row.now)
+        (condition_list tests.now)) }
 {
     for test in tests {
         match judge(alloc, test, row)? {
@@ -194,7 +203,8 @@ fn empty_text(alloc: Global) -> Result<Words, Memory>
 // Whether the text in a column begins with another one, without case.
 fn starts(alloc: Global, row: &Row, column: u16, part: &Value) -> Result<bool, Memory>
     requires { IsSome (slice_get (values_of row.now) column) }
-    ensures { IfOk result (λ b. b ≡ begins_without_case (value_at (values_of row.now) column) (view part.now)) }
+    ensures { IfOk result (λ b. b ≡ begins_without_case (value_at (values_of row.now) column)
+        (view part.now)) }
 {
     let empty = empty_text(alloc)?;
     let text = cell_text(row, column, &empty);
@@ -204,7 +214,8 @@ fn starts(alloc: Global, row: &Row, column: u16, part: &Value) -> Result<bool, M
 // Whether another text stands in the text in a column, without case.
 fn contains(alloc: Global, row: &Row, column: u16, part: &Value) -> Result<bool, Memory>
     requires { IsSome (slice_get (values_of row.now) column) }
-    ensures { IfOk result (λ b. b ≡ has_part_without_case (value_at (values_of row.now) column) (view part.now)) }
+    ensures { IfOk result (λ b. b ≡ has_part_without_case (value_at (values_of row.now) column)
+        (view part.now)) }
 {
     let empty = empty_text(alloc)?;
     let text = cell_text(row, column, &empty);
@@ -213,19 +224,22 @@ fn contains(alloc: Global, row: &Row, column: u16, part: &Value) -> Result<bool,
 
 // Whether a text begins with a part, without case.
 fn starts_with(alloc: Global, text: &Words, part: &Words) -> Result<bool, Memory>
-    ensures { IfOk result (λ b. b ≡ is_prefix (default_case_fold text.now) (default_case_fold part.now)) }
+    ensures { IfOk result (λ b. b ≡ is_prefix (default_case_fold text.now)
+        (default_case_fold part.now)) }
 {
     fx_primitives::starts_with(alloc, text, part)
 }
 
 // Whether a text has a part somewhere, without case.
 fn has_part(alloc: Global, text: &Words, part: &Words) -> Result<bool, Memory>
-    ensures { IfOk result (λ b. b ≡ has_part_in (default_case_fold text.now) (default_case_fold part.now)) }
+    ensures { IfOk result (λ b. b ≡ has_part_in (default_case_fold text.now)
+        (default_case_fold part.now)) }
 {
     Ok(fx_primitives::contains(alloc, text, part)?)
 }
 
-// The text in a column, or an empty one. The empty one is lent by the caller, so that no text is copied.
+// The text in a column, or an empty one. The empty one is lent by the caller, so that no text is
+// copied.
 fn cell_text<'t>(row: &'t Row, column: u16, empty: &'t Words) -> &'t Words
     requires place { IsSome (slice_get (values_of row.now) column) }
     requires empty { empty.now ≡ [] }
@@ -251,7 +265,8 @@ fn text_of<'t>(value: &'t Value, empty: &'t Words) -> &'t Words
 // The value of a column other than `ID`.
 fn cell(row: &Row, column: u16) -> Option<&Value>
     requires { IsSome (slice_get (values_of row.now) column) }
-    ensures { MatchOption result (column ≡ 0) (λ v. slice_get (values_of row.now) column ≡ Some (view v.now)) }
+    ensures { MatchOption result (column ≡ 0)
+        (λ v. slice_get (values_of row.now) column ≡ Some (view v.now)) }
 {
     match column.checked_sub(1) {
         Some(place) => row.cells.get(place as usize),

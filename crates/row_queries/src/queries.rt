@@ -3,8 +3,8 @@
 use crate::ranges::RangeList;
 use crate::row_tests::Test;
 
-/// What is asked of a table: the rows whose keys lie in the ranges and which meet the test, in an order.
-/// Tables and columns go by number, and `ID` is column 0.
+/// What is asked of a table: the rows whose keys lie in the ranges and which meet the test, in an
+/// order. Tables and columns go by number, and `ID` is column 0.
 #[derive(Drop)]
 pub struct Query {
     pub table: u16,
@@ -13,7 +13,8 @@ pub struct Query {
     /// Ranges of keys, which rise and don't overlap.
     pub ranges: RangeList,
     pub test: Test,
-    /// The column that the rows are ordered by, and whether it falls; else `ID`. Ties go by rising `ID`.
+    /// The column that the rows are ordered by, and whether it falls; else `ID`. Ties go by rising
+    /// `ID`.
     pub order: Option<(u16, bool)>,
     /// How many rows are given at most; else all.
     pub take: Option<u32>,

@@ -1,6 +1,7 @@
 //! Ranges of keys. A key is the bytes that stand for a scalar in an index.
 ghost use Rattle.std.specs.Prelude.{◌≡◌, IfOk};
-ghost use Rattle.std.specs.Cmp.Lexicographic.{slice_cmp, nat_list_eq_equiv, nat_list_cmp_total, texts_po, texts_ties};
+ghost use Rattle.std.specs.Cmp.Lexicographic.{slice_cmp, nat_list_eq_equiv, nat_list_cmp_total};
+ghost use Rattle.std.specs.Cmp.Lexicographic.{texts_po, texts_ties};
 ghost use Rattle.std.specs.Cmp.{partial_equiv_from_equiv};
 ghost use Rattle.std.specs.Ordering.{nat_cmp};
 ghost use Rattle.fx_types.specs.ValueView.{view};
@@ -63,7 +64,8 @@ impl Key {
     }
 }
 
-// By hand, since a derived comparison needs that what is seen of a key determines it, and its capacity isn't seen.
+// By hand, since a derived comparison needs that what is seen of a key determines it, and its
+// capacity isn't seen.
 impl PartialEq for Key {
     ghost use Rattle.std.specs.Prelude.{bytes_eq};
 

@@ -1,5 +1,6 @@
 //! Row tests: what a row must meet.
-ghost use Rattle.std.specs.Prelude.{◌≡◌, ◌≤◌, ◌++◌, ◌∷◌, [], length, slice_get, Some, OnOk, OnErr, MatchOption};
+ghost use Rattle.std.specs.Prelude.{◌≡◌, ◌≤◌, ◌++◌, ◌∷◌, [], length, slice_get, Some, OnOk, OnErr};
+ghost use Rattle.std.specs.Prelude.{MatchOption};
 
 use fx_base::Memory;
 use fx_types::{Cmp, Value};
@@ -12,7 +13,8 @@ pub struct Test {
     pub node: TestNode,
 }
 
-// By hand, so that it is called: what is derived is opened wherever a value may end, which costs proofs seconds each time.
+// By hand, so that it is called: what is derived is opened wherever a value may end, which costs
+// proofs seconds each time.
 impl Drop for Test {
     fn drop(self) {
         let Test { node: _ } = self;

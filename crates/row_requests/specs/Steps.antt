@@ -23,7 +23,8 @@ abbrev pub ChangesOne : List TableShape → ℕ → Change → Changed → Table
 ChangesOne shapes at c changed a b = ChangeComesTo (change_one shapes at c a) changed a b
 
 -- inside the transaction: changes that are refused may have acted in part
-abbrev pub AppliesChanges : List TableShape → List Change → ChangesOutcome → Tables → Tables → Type 0
+abbrev pub AppliesChanges : List TableShape → List Change → ChangesOutcome → Tables → Tables
+    → Type 0
 AppliesChanges shapes changes (Ok ids) a b = perform shapes 0 changes a ≡ Ok (ids, b)
 AppliesChanges shapes changes (Err r) a b = perform shapes 0 changes a ≡ Err r
 

@@ -22,11 +22,13 @@ abbrev pub tables_named : List TableShape → List Change → List Source
 tables_named shapes changes = filter_map (changed_table shapes) changes
 
 -- posted rows that pass the checks name this table
-pub record IsNamedBy (shapes : List TableShape) (desks : List (Named LastRequest)) (name body : List ℕ) (s : Source) : Type 0 where
+pub record IsNamedBy (shapes : List TableShape) (desks : List (Named LastRequest))
+    (name body : List ℕ) (s : Source) : Type 0 where
   pub posted : Posted
   pub checked : desk_checks desks name body ≡ Ok posted
   pub named : IsAmong s (tables_named shapes posted.changes)
 
 -- the same tables, but for those that are among these
 abbrev pub SameTablesExcept : List Source → Tables → Tables → Type 0
-SameTablesExcept xs t u = (k : ℕ) → (IsAmong (Table k) xs → ⊥) → state_at u.states k ≡ state_at t.states k
+SameTablesExcept xs t u = (k : ℕ) → (IsAmong (Table k) xs → ⊥)
+    → state_at u.states k ≡ state_at t.states k

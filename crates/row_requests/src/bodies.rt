@@ -2,9 +2,13 @@
 ghost use Rattle.std.specs.Prelude.{◌≡◌, IfOk, IfSome, codes, option_and_then, option_map};
 ghost use Rattle.serde_json.specs.View.{items_view, members_view, view as json_view};
 ghost use Rattle.fx_types.specs.ValueView.{view};
-ghost use Rattle.row_requests.specs.Bodies.{added_in as added, change_by as by_operation, change_in as one_change, changes_in as all_changes, if_few as few_of, IsSoundPost, posted_in as posted, removed_in as removed, replaced_in as replaced};
+ghost use Rattle.row_requests.specs.Bodies.{added_in as added, change_by as by_operation};
+ghost use Rattle.row_requests.specs.Bodies.{change_in as one_change, changes_in as all_changes};
+ghost use Rattle.row_requests.specs.Bodies.{if_few as few_of, IsSoundPost, posted_in as posted};
+ghost use Rattle.row_requests.specs.Bodies.{removed_in as removed, replaced_in as replaced};
 ghost use Rattle.row_requests.specs.Changes.{given_at, table_changed};
-ghost use Rattle.row_requests.specs.GivenRows.{AreScalars, given_in as given_of_members, given_view};
+ghost use Rattle.row_requests.specs.GivenRows.{AreScalars, given_in as given_of_members};
+ghost use Rattle.row_requests.specs.GivenRows.{given_view};
 ghost use Rattle.numbered_requests.specs.GivenValues.{members_at as members_at_key};
 
 use fx_base::{InOrder, Memory};
@@ -18,7 +22,8 @@ use std::marker::Model;
 /// The most changes of one request.
 const MOST_CHANGES: usize = 1000;
 
-/// What is given for a row: names by their order, each with its value. None stands for JSON that is no value.
+/// What is given for a row: names by their order, each with its value. None stands for JSON that is
+/// no value.
 #[derive(Drop)]
 pub struct Given {
     items: Vec<(Words, Option<Value>)>,
@@ -50,7 +55,8 @@ pub enum Change {
     Remove(Words, u32),
 }
 
-// By hand, so that it is called: what is derived is opened wherever a value may end, which costs proofs seconds each time.
+// By hand, so that it is called: what is derived is opened wherever a value may end, which costs
+// proofs seconds each time.
 impl Drop for Change {
     fn drop(self) {
         match self {
@@ -121,7 +127,8 @@ fn given_in(alloc: Global, members: &Map<String, Json>) -> Result<Given, Memory>
 
 /// What a member that is an object gives.
 fn row_at(alloc: Global, json: &Json) -> Result<Option<Given>, Memory>
-    ensures { IfOk result (λ g. g ≡ option_map given_of_members (members_at_key (codes "row") (json_view json.now))) }
+    ensures { IfOk result (λ g. g ≡ option_map given_of_members
+        (members_at_key (codes "row") (json_view json.now))) }
 {
     match members_at(json, "row") {
         Some(members) => Ok(Some(given_in(alloc, members)?)),

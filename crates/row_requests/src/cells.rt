@@ -1,7 +1,8 @@
 // The cells of rows, with what is given for them.
 ghost use Rattle.std.specs.Prelude.{◌≡◌, IfOk, length, map, unwrap_or};
 ghost use Rattle.fx_types.specs.ValueView.{view};
-ghost use Rattle.row_requests.specs.Changes.{blanks as blanks_of, cells_with as cells_with_given, given_at};
+ghost use Rattle.row_requests.specs.Changes.{blanks as blanks_of, cells_with as cells_with_given};
+ghost use Rattle.row_requests.specs.Changes.{given_at};
 
 use crate::bodies::Given;
 use fx_base::Memory;
@@ -12,7 +13,8 @@ use std::alloc::Global;
 
 /// What is given for a column, or else what was there.
 fn cell_with(alloc: Global, given: &Given, column: &Column, cell: &Value) -> Result<Value, Memory>
-    ensures { IfOk result (λ v. view v ≡ unwrap_or (given_at column.now.name given.now) (view cell.now)) }
+    ensures { IfOk result (λ v. view v ≡ unwrap_or (given_at column.now.name given.now)
+        (view cell.now)) }
 {
     match given.value(&column.name) {
         Some(value) => value.copy(alloc),

@@ -4,8 +4,10 @@ ghost use Rattle.std.specs.List.{list_any};
 ghost use Rattle.fx_core.specs.Lawful.{IsLawfulSchema};
 ghost use Rattle.row_keeper.specs.Over.{Becomes, BeganStays, HasCause};
 ghost use Rattle.row_keeper.specs.Tables.{columns_at, has_id, state_at};
-ghost use Rattle.row_requests.specs.AnyKeeper.{MayAdd, MayChange, MayChangeIn, MayRemove, MayReplace};
-ghost use Rattle.row_requests.specs.Changes.{add_row, change_in_table, change_row, table_index as place_of_name, remove_row, row_with_id};
+ghost use Rattle.row_requests.specs.AnyKeeper.{MayAdd, MayChange, MayChangeIn, MayRemove};
+ghost use Rattle.row_requests.specs.AnyKeeper.{MayReplace};
+ghost use Rattle.row_requests.specs.Changes.{add_row, change_in_table, change_row};
+ghost use Rattle.row_requests.specs.Changes.{table_index as place_of_name, remove_row, row_with_id};
 ghost use Rattle.numbered_requests.specs.Replies.{plain};
 ghost use Rattle.row_requests.specs.Sound.{AreSound};
 ghost use Rattle.row_requests.specs.Steps.{ChangesOne, ChangeComesTo, came as came_of, said_of};
@@ -75,9 +77,11 @@ fn insert_row<K: Keeper>(
     requires table { table < length schema.now.tables }
     requires sound { AreSound schema.now (K.told keeper.old) }
     ensures done { IfOk result (λ c. Becomes K.Keeper keeper.old keeper.new
-        (λ a b. ChangeComesTo (add_row at (columns_at schema.now.tables table) table given.now a) c a b)) }
+        (λ a b. ChangeComesTo (add_row at (columns_at schema.now.tables table) table given.now a) c
+        a b)) }
     ensures sound { IfOk result (λ c. AreSound schema.now (K.told keeper.new)) }
-    ensures may { IfOk result (λ c. MayAdd at (columns_at schema.now.tables table) given.now (said_of c)) }
+    ensures may { IfOk result (λ c. MayAdd at (columns_at schema.now.tables table) given.now
+        (said_of c)) }
     ensures began { BeganStays K.Keeper keeper.old keeper.new }
     ensures cause { HasCause K.Keeper keeper.old keeper.new result }
     ensures open { K.in_transaction keeper.new ≡ true }
@@ -112,9 +116,11 @@ fn replace_row<K: Keeper>(
     requires table { table < length schema.now.tables }
     requires sound { AreSound schema.now (K.told keeper.old) }
     ensures done { IfOk result (λ c. Becomes K.Keeper keeper.old keeper.new
-        (λ a b. ChangeComesTo (change_row at (columns_at schema.now.tables table) table id given.now a (row_with_id id (state_at a.states table).rows)) c a b)) }
+        (λ a b. ChangeComesTo (change_row at (columns_at schema.now.tables table) table id given.now
+        a (row_with_id id (state_at a.states table).rows)) c a b)) }
     ensures sound { IfOk result (λ c. AreSound schema.now (K.told keeper.new)) }
-    ensures may { IfOk result (λ c. MayReplace at (columns_at schema.now.tables table) id given.now (said_of c)) }
+    ensures may { IfOk result (λ c. MayReplace at (columns_at schema.now.tables table) id given.now
+        (said_of c)) }
     ensures began { BeganStays K.Keeper keeper.old keeper.new }
     ensures cause { HasCause K.Keeper keeper.old keeper.new result }
     ensures open { K.in_transaction keeper.new ≡ true }
@@ -149,7 +155,8 @@ fn remove_row<K: Keeper>(
     requires table { table < length schema.now.tables }
     requires sound { AreSound schema.now (K.told keeper.old) }
     ensures done { IfOk result (λ c. Becomes K.Keeper keeper.old keeper.new
-        (λ a b. ChangeComesTo (remove_row table id a (list_any (has_id id) (state_at a.states table).rows)) c a b)) }
+        (λ a b. ChangeComesTo (remove_row table id a
+        (list_any (has_id id) (state_at a.states table).rows)) c a b)) }
     ensures sound { IfOk result (λ c. AreSound schema.now (K.told keeper.new)) }
     ensures may { IfOk result (λ c. MayRemove id (said_of c)) }
     ensures began { BeganStays K.Keeper keeper.old keeper.new }
@@ -200,9 +207,11 @@ fn change_table<K: Keeper>(
     requires table { table < length schema.now.tables }
     requires sound { AreSound schema.now (K.told keeper.old) }
     ensures done { IfOk result (λ c. Becomes K.Keeper keeper.old keeper.new
-        (λ a b. ChangeComesTo (change_in_table schema.now.tables at change.now a (Some table)) c a b)) }
+        (λ a b. ChangeComesTo (change_in_table schema.now.tables at change.now a (Some table)) c a
+        b)) }
     ensures sound { IfOk result (λ c. AreSound schema.now (K.told keeper.new)) }
-    ensures may { IfOk result (λ c. MayChangeIn schema.now.tables at change.now (Some table) (said_of c)) }
+    ensures may { IfOk result (λ c. MayChangeIn schema.now.tables at change.now (Some table)
+        (said_of c)) }
     ensures began { BeganStays K.Keeper keeper.old keeper.new }
     ensures cause { HasCause K.Keeper keeper.old keeper.new result }
     ensures open { K.in_transaction keeper.new ≡ true }

@@ -1,6 +1,7 @@
 //! A desk posts changes of rows.
 ghost use Rattle.std.specs.Option.{option_to_list};
-ghost use Rattle.std.specs.Prelude.{◌≡◌, ◌<◌, ◌++◌, [], false, IfOk, IsErrOf, OnErr, OnOk, Some, vec_capacity, vec_len};
+ghost use Rattle.std.specs.Prelude.{◌≡◌, ◌<◌, ◌++◌, [], false, IfOk, IsErrOf, OnErr, OnOk, Some};
+ghost use Rattle.std.specs.Prelude.{vec_capacity, vec_len};
 ghost use Rattle.fx_base.specs.Silence.{SilenceCause};
 ghost use Rattle.fx_base.specs.Telling.{Stays};
 ghost use Rattle.fx_core.specs.Lawful.{IsLawfulSchema};
@@ -10,7 +11,9 @@ ghost use Rattle.row_requests.specs.Bodies.{IsSoundPost};
 ghost use Rattle.row_requests.specs.DeskRows.{KeepsRows, PostsRows, ReachesRows};
 ghost use Rattle.numbered_requests.specs.Replies.{IsReply, KeepReplies, said};
 ghost use Rattle.row_requests.specs.Sound.{AreSound};
-ghost use Rattle.row_requests.specs.Written.{SameTablesExcept, IsNamedBy, changed_table as table_of_change, tables_named as tables_of_changes};
+ghost use Rattle.row_requests.specs.Written.{SameTablesExcept, IsNamedBy};
+ghost use Rattle.row_requests.specs.Written.{changed_table as table_of_change};
+ghost use Rattle.row_requests.specs.Written.{tables_named as tables_of_changes};
 ghost use Rattle.fx_core.specs.Reads.{IsAmong};
 ghost use Rattle.fx_core.specs.declared.sources.Source.{Source as Src};
 
@@ -25,10 +28,11 @@ use row_keeper::{Keeper, KeeperEnd};
 use session_state::Desk;
 use std::alloc::Global;
 
-/// A desk posts changes of rows, under a number. All of them act in one transaction, and the reply is kept; or nothing
-/// changes and the reply is a refusal: no JSON (9), another shape (10), a desk too many (12), another number (13, 14), no
-/// table (21), no row (22), or a rule that breaks (23). The last request once more gets the kept reply. Nothing but the
-/// rows and this desk's record can change. `wrote` is empty, and gets the tables that were written.
+/// A desk posts changes of rows, under a number. All of them act in one transaction, and the reply
+/// is kept; or nothing changes and the reply is a refusal: no JSON (9), another shape (10), a desk
+/// too many (12), another number (13, 14), no table (21), no row (22), or a rule that breaks (23).
+/// The last request once more gets the kept reply. Nothing but the rows and this desk's record can
+/// change. `wrote` is empty, and gets the tables that were written.
 pub fn post_rows<K: Keeper>(
     alloc: Global,
     keeper: &mut K,
@@ -44,13 +48,16 @@ pub fn post_rows<K: Keeper>(
     requires sound { AreSound schema.now (K.told keeper.old) }
     requires kept { KeepReplies desks.old.items }
     requires none { wrote.old.items ≡ [] }
-    ensures done { IfOk result (λ r. PostsRows (SilenceCause (K.marks keeper.old) (K.marks keeper.new)) schema.now.tables name.now body.now (K.told keeper.old) desks.old.items (said r) (K.told keeper.new) desks.new.items) }
+    ensures done { IfOk result (λ r. PostsRows
+        (SilenceCause (K.marks keeper.old) (K.marks keeper.new)) schema.now.tables name.now body.now
+        (K.told keeper.old) desks.old.items (said r) (K.told keeper.new) desks.new.items) }
     ensures whole { IfOk result IsReply }
     ensures stopped { OnErr result (Becomes K.Keeper keeper.old keeper.new Stays) }
     ensures same { OnErr result (desks.new.items ≡ desks.old.items) }
     ensures wrote { IfOk result (λ r. Becomes K.Keeper keeper.old keeper.new
         (SameTablesExcept wrote.new.items)) }
-    ensures named { (s : Src) → IsAmong s wrote.new.items → IsNamedBy schema.now.tables desks.old.items name.now body.now s }
+    ensures named { (s : Src) → IsAmong s wrote.new.items
+        → IsNamedBy schema.now.tables desks.old.items name.now body.now s }
     ensures reached { IsErrOf result Failed → ReachesRows name.now body.now desks.old.items }
     ensures cause { HasCause K.Keeper keeper.old keeper.new result }
     ensures idle { K.in_transaction keeper.new ≡ false }
@@ -137,13 +144,16 @@ fn keep_rows<K: Keeper>(
     requires kept { KeepReplies desks.old.items }
     requires posted { IsSoundPost posted.now }
     requires none { wrote.old.items ≡ [] }
-    ensures done { IfOk result (λ r. KeepsRows (SilenceCause (K.marks keeper.old) (K.marks keeper.new)) schema.now.tables name.now body.now posted.now (K.told keeper.old) desks.old.items (said r) (K.told keeper.new) desks.new.items) }
+    ensures done { IfOk result (λ r. KeepsRows
+        (SilenceCause (K.marks keeper.old) (K.marks keeper.new)) schema.now.tables name.now body.now
+        posted.now (K.told keeper.old) desks.old.items (said r) (K.told keeper.new) desks.new.items) }
     ensures whole { IfOk result IsReply }
     ensures stopped { OnErr result (Becomes K.Keeper keeper.old keeper.new Stays) }
     ensures same { OnErr result (desks.new.items ≡ desks.old.items) }
     ensures wrote { IfOk result (λ r. Becomes K.Keeper keeper.old keeper.new
         (SameTablesExcept wrote.new.items)) }
-    ensures named { (s : Src) → IsAmong s wrote.new.items → IsAmong s (tables_of_changes schema.now.tables posted.now.changes) }
+    ensures named { (s : Src) → IsAmong s wrote.new.items
+        → IsAmong s (tables_of_changes schema.now.tables posted.now.changes) }
     ensures cause { HasCause K.Keeper keeper.old keeper.new result }
     ensures idle { K.in_transaction keeper.new ≡ false }
     ensures shaped { K.shaped keeper.new ≡ K.shaped keeper.old }

@@ -1,5 +1,6 @@
 // The rows that requests ask for.
-ghost use Rattle.std.specs.Prelude.{◌≡◌, ◌<◌, ◌∷◌, [], IfOk, IfSome, IsSome, IsSomeAnd, OnErr, length, slice_get};
+ghost use Rattle.std.specs.Prelude.{◌≡◌, ◌<◌, ◌∷◌, [], IfOk, IfSome, IsSome, IsSomeAnd, OnErr};
+ghost use Rattle.std.specs.Prelude.{length, slice_get};
 ghost use Rattle.std.specs.List.{All};
 ghost use Rattle.fx_base.specs.Telling.{Stays};
 ghost use Rattle.fx_types.specs.ValueView.{view};
@@ -9,7 +10,8 @@ ghost use Rattle.row_keeper.specs.Numbered.{one_row as one_row_query};
 ghost use Rattle.row_keeper.specs.Over.{Becomes, BeganStays, HasCause};
 ghost use Rattle.row_keeper.specs.Rules.{only_key};
 ghost use Rattle.row_keeper.specs.Tables.{shapes_of};
-ghost use Rattle.row_requests.specs.Queries.{FindsRow, FindsRows, VisitsPast, after_key, beyond as beyond_key, next_rows as next_rows_query};
+ghost use Rattle.row_requests.specs.Queries.{FindsRow, FindsRows, VisitsPast, after_key};
+ghost use Rattle.row_requests.specs.Queries.{beyond as beyond_key, next_rows as next_rows_query};
 
 use fx_base::{InOrder, Memory};
 use fx_number::Num;
@@ -117,7 +119,8 @@ pub(crate) fn find_row<K: Keeper>(
     requires { IsSome (slice_get (shapes_of (K.shaped keeper.old)) table) }
     ensures found { IfOk result (λ r. Becomes K.Keeper keeper.old keeper.new
         (FindsRow table id r)) }
-    ensures fit { IfOk result (λ r. IfSome r (λ row. IsSomeAnd (slice_get (shapes_of (K.shaped keeper.old)) table) (λ t. IsRowOf t row))) }
+    ensures fit { IfOk result (λ r. IfSome r (λ row. IsSomeAnd
+        (slice_get (shapes_of (K.shaped keeper.old)) table) (λ t. IsRowOf t row))) }
     ensures began { BeganStays K.Keeper keeper.old keeper.new }
     ensures cause { HasCause K.Keeper keeper.old keeper.new result }
     ensures mode { K.in_transaction keeper.new ≡ K.in_transaction keeper.old }
@@ -146,15 +149,18 @@ pub(crate) fn find_rows<K: Keeper>(
     requires { IsSome (slice_get (shapes_of (K.shaped keeper.old)) table) }
     ensures found { IfOk result (λ rows. Becomes K.Keeper keeper.old keeper.new
         (FindsRows table after rows.items)) }
-    ensures fit { IfOk result (λ rows. IsSomeAnd (slice_get (shapes_of (K.shaped keeper.old)) table) (λ t. All (IsRowOf t) rows.items)) }
-    ensures visits { VisitsPast table after (K.told keeper.old) (K.visited keeper.old) (K.visited keeper.new) }
+    ensures fit { IfOk result (λ rows. IsSomeAnd (slice_get (shapes_of (K.shaped keeper.old)) table)
+        (λ t. All (IsRowOf t) rows.items)) }
+    ensures visits { VisitsPast table after (K.told keeper.old) (K.visited keeper.old)
+        (K.visited keeper.new) }
     ensures err { OnErr result (Becomes K.Keeper keeper.old keeper.new Stays) }
     ensures cause { HasCause K.Keeper keeper.old keeper.new result }
     ensures mode { K.in_transaction keeper.new ≡ K.in_transaction keeper.old }
     ensures shaped { K.shaped keeper.new ≡ K.shaped keeper.old }
     ensures loan { K.loan keeper.new ≡ K.loan keeper.old }
 {
-    // Both are called for what they say: such rows are asked in that order, and their keys go as their numbers do.
+    // Both are called for what they say: such rows are asked in that order, and their keys go as
+    // their numbers do.
     asked_once();
     keys_order();
     let query = next_rows(alloc, table, after)?;

@@ -2,7 +2,10 @@
 ghost use Rattle.std.specs.Prelude.{◌≡◌, IfOk, option_map};
 ghost use Rattle.fx_types.specs.ValueView.{view};
 ghost use Rattle.fx_types.specs.Words.{scalars_of};
-ghost use Rattle.row_requests.specs.Changes.{change_refusal as broken_of, column_named, has_type as has_type_of, first_refusal, kept_refusal as kept_refusal_of, column_name_at as name_at_of, rule_of_given};
+ghost use Rattle.row_requests.specs.Changes.{change_refusal as broken_of, column_named};
+ghost use Rattle.row_requests.specs.Changes.{has_type as has_type_of, first_refusal};
+ghost use Rattle.row_requests.specs.Changes.{kept_refusal as kept_refusal_of};
+ghost use Rattle.row_requests.specs.Changes.{column_name_at as name_at_of, rule_of_given};
 ghost use Rattle.row_requests.specs.GivenRows.{AreScalars};
 
 use crate::bodies::Given;

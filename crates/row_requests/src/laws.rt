@@ -7,13 +7,14 @@ pub fn leaves_others()
     ensures { PostLeavesOthers }
 {}
 
-/// A law, and no work: the last accepted request of a desk, when it comes again, gets the kept reply and acts no more.
+/// A law, and no work: the last accepted request of a desk, when it comes again, gets the kept
+/// reply and acts no more.
 pub fn acts_once()
     ensures { PostActsOnce }
 {}
 
-/// A law, and no work: what is said of posted changes is a number for each, or a refusal of one of them, also over a keeper
-/// that tells nothing.
+/// A law, and no work: what is said of posted changes is a number for each, or a refusal of one of
+/// them, also over a keeper that tells nothing.
 pub fn tells_of_each()
     ensures { TellsOfEach }
 {}

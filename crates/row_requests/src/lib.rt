@@ -1,5 +1,5 @@
-//! The requests for rows: a desk posts changes, and a table's rows are shown. Each touches no more than what it is given:
-//! the keeper of the rows, and the desks.
+//! The requests for rows: a desk posts changes, and a table's rows are shown. Each touches no more
+//! than what it is given: the keeper of the rows, and the desks.
 #![tactic(auto)]
 
 pub mod bodies;

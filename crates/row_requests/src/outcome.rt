@@ -6,13 +6,17 @@ ghost use Rattle.row_keeper.specs.Over.{Becomes, HasCause};
 
 use row_keeper::{Keeper, KeeperEnd};
 
-/// Ends a transaction: with its changes where it is accepted, and else without them. A commit that is refused has ended it
-/// without them.
+/// Ends a transaction: with its changes where it is accepted, and else without them. A commit that
+/// is refused has ended it without them.
 pub fn settle<K: Keeper>(keeper: &mut K, accepted: bool) -> Result<(), KeeperEnd>
     requires { K.in_transaction keeper.old ≡ true }
     ensures kept { accepted ≡ true → OnOk result (Becomes K.Keeper keeper.old keeper.new Stays) }
-    ensures undone { accepted ≡ false → OnOk result (MayFallSilent (SilenceCause (K.marks keeper.old) (K.marks keeper.new)) Stays (K.began keeper.old) (K.told keeper.new)) }
-    ensures stopped { OnErr result (MayFallSilent (SilenceCause (K.marks keeper.old) (K.marks keeper.new)) Stays (K.began keeper.old) (K.told keeper.new)) }
+    ensures undone { accepted ≡ false → OnOk result
+        (MayFallSilent (SilenceCause (K.marks keeper.old) (K.marks keeper.new)) Stays
+        (K.began keeper.old) (K.told keeper.new)) }
+    ensures stopped { OnErr result (MayFallSilent
+        (SilenceCause (K.marks keeper.old) (K.marks keeper.new)) Stays (K.began keeper.old)
+        (K.told keeper.new)) }
     ensures cause { HasCause K.Keeper keeper.old keeper.new result }
     ensures idle { K.in_transaction keeper.new ≡ false }
     ensures shaped { K.shaped keeper.new ≡ K.shaped keeper.old }

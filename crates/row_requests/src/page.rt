@@ -1,5 +1,6 @@
 //! Rows shown.
-ghost use Rattle.std.specs.Prelude.{◌≡◌, ◌∷◌, [], false, Err, IfOk, IsErrOf, IsSomeAnd, OnErr, Some, codes, length, map, nat_lt, slice_get, take};
+ghost use Rattle.std.specs.Prelude.{◌≡◌, ◌∷◌, [], false, Err, IfOk, IsErrOf, IsSomeAnd, OnErr};
+ghost use Rattle.std.specs.Prelude.{Some, codes, length, map, nat_lt, slice_get, take};
 ghost use Rattle.std.specs.List.{All};
 ghost use Rattle.serde_json.specs.Data.{member, no_members};
 ghost use Rattle.serde_json.specs.View.{members_view, view as json_view};
@@ -9,7 +10,8 @@ ghost use Rattle.fx_core.specs.Lawful.{IsLawfulSchema};
 ghost use Rattle.row_queries.specs.TableRows.{AreCellsOf};
 ghost use Rattle.row_keeper.specs.Over.{Becomes, HasCause};
 ghost use Rattle.row_keeper.specs.declared.keeper.KeeperEnd.TheVariants.{Failed};
-ghost use Rattle.row_requests.specs.Page.{ReachesPage, ShowsPage, VisitsPage, page_data, page_reply as page_bytes, row_shown, with_values};
+ghost use Rattle.row_requests.specs.Page.{ReachesPage, ShowsPage, VisitsPage, page_data};
+ghost use Rattle.row_requests.specs.Page.{page_reply as page_bytes, row_shown, with_values};
 ghost use Rattle.row_requests.specs.PageRows.{AreShown};
 ghost use Rattle.numbered_requests.specs.Replies.{IsReply, plain, refusal_reply, said};
 ghost use Rattle.row_requests.specs.Sound.{AreSound};
@@ -82,8 +84,9 @@ fn page_reply(alloc: Global, columns: &[Column], rows: &[Row]) -> Result<Reply, 
     Reply::accept(alloc, &body)
 }
 
-/// Shows the rows of a table whose numbers are greater than one: up to 100, and whether there are more. Where there is no
-/// such table it is a refusal (21). One call of the keeper, and no transaction.
+/// Shows the rows of a table whose numbers are greater than one: up to 100, and whether there are
+/// more. Where there is no such table it is a refusal (21). One call of the keeper, and no
+/// transaction.
 pub fn show_page<K: Keeper>(
     alloc: Global,
     keeper: &mut K,
@@ -95,10 +98,13 @@ pub fn show_page<K: Keeper>(
     requires shaped { K.shaped keeper.old ≡ Some schema.now }
     requires lawful { IsLawfulSchema schema.now }
     requires sound { AreSound schema.now (K.told keeper.old) }
-    ensures done { IfOk result (λ r. ShowsPage (SilenceCause (K.marks keeper.old) (K.marks keeper.new)) schema.now.tables table.now after (K.told keeper.old) (said r) (K.told keeper.new)) }
+    ensures done { IfOk result (λ r. ShowsPage
+        (SilenceCause (K.marks keeper.old) (K.marks keeper.new)) schema.now.tables table.now after
+        (K.told keeper.old) (said r) (K.told keeper.new)) }
     ensures whole { IfOk result IsReply }
     ensures still { Becomes K.Keeper keeper.old keeper.new Stays }
-    ensures visits { VisitsPage schema.now.tables table.now after (K.told keeper.old) (K.visited keeper.old) (K.visited keeper.new) }
+    ensures visits { VisitsPage schema.now.tables table.now after (K.told keeper.old)
+        (K.visited keeper.old) (K.visited keeper.new) }
     ensures reached { IsErrOf result Failed → ReachesPage schema.now.tables table.now }
     ensures cause { HasCause K.Keeper keeper.old keeper.new result }
     ensures idle { K.in_transaction keeper.new ≡ false }

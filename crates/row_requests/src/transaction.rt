@@ -1,10 +1,13 @@
 // Posted changes in one transaction.
-ghost use Rattle.std.specs.Prelude.{◌≡◌, ◌≤◌, true, false, IfOk, OnErr, length, string_bytes, map, Some};
+ghost use Rattle.std.specs.Prelude.{◌≡◌, ◌≤◌, true, false, IfOk, OnErr, length, string_bytes, map};
+ghost use Rattle.std.specs.Prelude.{Some};
 ghost use Rattle.serde_json.specs.View.{items_view, view as json_view};
 ghost use Rattle.fx_base.specs.Telling.{Stays};
 ghost use Rattle.fx_core.specs.Lawful.{IsLawfulSchema};
 ghost use Rattle.row_requests.specs.AnyKeeper.{MayEnd};
-ghost use Rattle.row_requests.specs.DeskRows.{DeskTransaction, accepted_data, accepted_rows_reply as accepted_bytes, ids_data, outcome_reply};
+ghost use Rattle.row_requests.specs.DeskRows.{DeskTransaction, accepted_data};
+ghost use Rattle.row_requests.specs.DeskRows.{accepted_rows_reply as accepted_bytes, ids_data};
+ghost use Rattle.row_requests.specs.DeskRows.{outcome_reply};
 ghost use Rattle.row_requests.specs.Prepared.{IsMade, IsPrepared};
 ghost use Rattle.numbered_requests.specs.Replies.{IsReply, said};
 ghost use Rattle.row_requests.specs.Sound.{AreSound};

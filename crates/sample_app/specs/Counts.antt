@@ -6,7 +6,14 @@ use Rattle.row_keeper.specs.Tables.{Tables, state_at}
 
 -- every row of the first table: its number lies among all keys
 abbrev pub every_row : Query
-every_row = record { table = 0; column = 0; ranges = record { from = []; upto = None } ∷ []; test = always; order = None; take = None }
+every_row = record {
+  table = 0;
+  column = 0;
+  ranges = record { from = []; upto = None } ∷ [];
+  test = always;
+  order = None;
+  take = None;
+}
 
 -- the first table has so many rows, and nothing changes
 abbrev pub HasRowCount : ℕ → Tables → Tables → Type 0

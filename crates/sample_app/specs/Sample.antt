@@ -1,5 +1,6 @@
 -- The app of the load, and the requests that it is put to.
-use Rattle.std.specs.Prelude.{ℕ, ◌+◌, ◌-◌, ◌*◌, ◌/◌, ◌%◌, ◌==◌, List, [], ◌∷◌, ◌++◌, map, flat_map, codes, decimal, if◌then◌else◌}
+use Rattle.std.specs.Prelude.{ℕ, ◌+◌, ◌-◌, ◌*◌, ◌/◌, ◌%◌, ◌==◌, List, [], ◌∷◌, ◌++◌, map, flat_map}
+use Rattle.std.specs.Prelude.{codes, decimal, if◌then◌else◌}
 use Rattle.std.specs.List.{range_with_len}
 use Rattle.app_wire.specs.Framing.{Asked}
 use Rattle.app_wire.specs.declared.head.Method.{Method}
@@ -23,12 +24,14 @@ session_path k = codes "/s/s" ++ decimal k
 
 -- desk `d` posts changes, under its next number
 abbrev pub changes : ℕ → List ℕ → Asked
-changes seq list = posts (codes "/desk/d/rows") (codes "{\"seq\":" ++ (decimal seq ++ (codes ",\"changes\":[" ++ (list ++ codes "]}"))))
+changes seq list = posts (codes "/desk/d/rows")
+    (codes "{\"seq\":" ++ (decimal seq ++ (codes ",\"changes\":[" ++ (list ++ codes "]}"))))
 
 -- row i is `Item i`, with the quantity (7i + n) mod 100
 abbrev pub row_text : ℕ → ℕ → List ℕ
 row_text n i =
-    codes "{\"op\":\"add\",\"table\":\"Stock\",\"row\":{\"Name\":\"Item " ++ (decimal i ++ (codes "\",\"Qty\":" ++ (decimal ((7 * i + n) % 100) ++ codes "}}")))
+    codes "{\"op\":\"add\",\"table\":\"Stock\",\"row\":{\"Name\":\"Item "
+    ++ (decimal i ++ (codes "\",\"Qty\":" ++ (decimal ((7 * i + n) % 100) ++ codes "}}")))
 
 -- so many rows from row i on, with a comma before each
 abbrev pub more_rows : ℕ → ℕ → ℕ → List ℕ
@@ -45,12 +48,16 @@ open_request k = bodiless Put (session_path k)
 -- the e-th event: the 40 sessions press the button in turn, each under its own numbers
 abbrev pub event_request : ℕ → Asked
 event_request e =
-    posts (codes "/s/s" ++ (decimal ((e - 1) % 40 + 1) ++ codes "/event")) (codes "{\"seq\":" ++ (decimal ((e - 1) / 40 + 1) ++ codes ",\"control\":\"Take\",\"event\":\"OnSelect\"}"))
+    posts (codes "/s/s" ++ (decimal ((e - 1) % 40 + 1) ++ codes "/event"))
+    (codes "{\"seq\":" ++ (decimal ((e - 1) / 40 + 1)
+    ++ codes ",\"control\":\"Take\",\"event\":\"OnSelect\"}"))
 
 -- the k-th change of a name: row 10k is `Checked k` then
 abbrev pub change_request : ℕ → Asked
 change_request k =
-    changes (20 + k) (codes "{\"op\":\"change\",\"table\":\"Stock\",\"id\":" ++ (decimal (10 * k) ++ (codes ",\"row\":{\"Name\":\"Checked " ++ (decimal k ++ codes "\"}}"))))
+    changes (20 + k) (codes "{\"op\":\"change\",\"table\":\"Stock\",\"id\":"
+    ++ (decimal (10 * k) ++ (codes ",\"row\":{\"Name\":\"Checked "
+    ++ (decimal k ++ codes "\"}}"))))
 
 -- the e-th event, and behind each tenth one a change of a name
 abbrev pub works : ℕ → List Asked
@@ -64,7 +71,10 @@ view_request k = bodiless Get (codes "/s/s" ++ (decimal k ++ codes "/view"))
 abbrev pub page : Asked
 page = bodiless Get (codes "/rows/Stock/0")
 
--- THE 2,301 requests: 20,000 rows, 40 sessions, 2,000 events with 200 changes of names, 40 views, and a page of rows
+-- THE 2,301 requests: 20,000 rows, 40 sessions, 2,000 events with 200 changes of names, 40 views,
+-- and a page of rows
 abbrev pub requests : ℕ → List Asked
 requests n =
-    map (adds n) (range_with_len 1 20) ++ (map open_request (range_with_len 1 40) ++ (flat_map works (range_with_len 1 2000) ++ (map view_request (range_with_len 1 40) ++ page ∷ [])))
+    map (adds n) (range_with_len 1 20) ++ (map open_request (range_with_len 1 40)
+    ++ (flat_map works (range_with_len 1 2000)
+    ++ (map view_request (range_with_len 1 40) ++ page ∷ [])))

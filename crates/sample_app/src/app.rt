@@ -2,8 +2,8 @@
 ghost use Rattle.std.specs.Prelude.{◌≡◌};
 ghost use Rattle.sample_app.specs.Sample.{app_text};
 
-/// The app's file: a table of stock, a label that shows the sum of its quantities, and a button that takes one piece from the
-/// row of a number.
+/// The app's file: a table of stock, a label that shows the sum of its quantities, and a button
+/// that takes one piece from the row of a number.
 #[tactic(auto, unfolding(crate::specs::Sample::app_text))]
 pub fn app_text() -> &'static [u8]
     ensures { result.now ≡ app_text }

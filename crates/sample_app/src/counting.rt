@@ -17,7 +17,8 @@ pub fn count_rows<K: Keeper>(
     schema: &Schema,
 ) -> Result<u32, KeeperEnd>
     requires shaped { K.shaped keeper.old ≡ Some schema.now }
-    requires sound { IfSome (K.told keeper.old) (λ (t : Tables). AreStatesOf schema.now.tables t.states) }
+    requires sound { IfSome (K.told keeper.old)
+        (λ (t : Tables). AreStatesOf schema.now.tables t.states) }
     ensures counted { IfOk result (λ n. Becomes K.Keeper keeper.old keeper.new (HasRowCount n)) }
     ensures cause { HasCause K.Keeper keeper.old keeper.new result }
     ensures mode { K.in_transaction keeper.new ≡ K.in_transaction keeper.old }

@@ -1,8 +1,16 @@
 //! The requests of the load.
-ghost use Rattle.std.specs.Prelude.{◌≡◌, ◌+◌, ◌-◌, ◌*◌, ◌<◌, ◌≤◌, ◌∷◌, [], ◌++◌, IfOk, OnOk, codes, flat_map, map, string_bytes};
+ghost use Rattle.std.specs.Prelude.{◌≡◌, ◌+◌, ◌-◌, ◌*◌, ◌<◌, ◌≤◌, ◌∷◌, [], ◌++◌, IfOk, OnOk, codes};
+ghost use Rattle.std.specs.Prelude.{flat_map, map, string_bytes};
 ghost use Rattle.std.specs.List.{range_with_len};
 ghost use Rattle.app_wire.specs.Framing.{asked};
-ghost use Rattle.sample_app.specs.Sample.{adds as adds_of, bodiless as bare_of, changes as changes_of, change_request as checks_of, more_rows as more_rows_of, open_request as opens_of, page as page_of, posts as posts_of, requests as requests_of, row_text as row_text_of, session_path as session_path_of, event_request as takes_of, view_request as views_of, works as works_of};
+ghost use Rattle.sample_app.specs.Sample.{adds as adds_of, bodiless as bare_of};
+ghost use Rattle.sample_app.specs.Sample.{changes as changes_of, change_request as checks_of};
+ghost use Rattle.sample_app.specs.Sample.{more_rows as more_rows_of, open_request as opens_of};
+ghost use Rattle.sample_app.specs.Sample.{page as page_of, posts as posts_of};
+ghost use Rattle.sample_app.specs.Sample.{requests as requests_of, row_text as row_text_of};
+ghost use Rattle.sample_app.specs.Sample.{session_path as session_path_of};
+ghost use Rattle.sample_app.specs.Sample.{event_request as takes_of, view_request as views_of};
+ghost use Rattle.sample_app.specs.Sample.{works as works_of};
 
 use app_wire::{Method, Request};
 use fx_base::Memory;
@@ -38,7 +46,8 @@ pub fn requests(alloc: Global, n: u32) -> Result<Vec<Request>, Memory>
 /// The requests that add rows.
 fn push_adds(alloc: Global, all: &mut Vec<Request>, n: u32) -> Result<(), Memory>
     requires few { n ≤ 1000000 }
-    ensures { OnOk result (map asked all.new.items ≡ map asked all.old.items ++ map (adds_of n) (range_with_len 1 20)) }
+    ensures { OnOk result (map asked all.new.items
+        ≡ map asked all.old.items ++ map (adds_of n) (range_with_len 1 20)) }
 {
     for before in 0..ADDS {
         push_add(alloc, all, n, before + 1)?;
@@ -58,7 +67,8 @@ fn push_add(alloc: Global, all: &mut Vec<Request>, n: u32, k: u32) -> Result<(),
 
 /// The requests that open sessions.
 fn push_opens(alloc: Global, all: &mut Vec<Request>) -> Result<(), Memory>
-    ensures { OnOk result (map asked all.new.items ≡ map asked all.old.items ++ map opens_of (range_with_len 1 40)) }
+    ensures { OnOk result (map asked all.new.items
+        ≡ map asked all.old.items ++ map opens_of (range_with_len 1 40)) }
 {
     for before in 0..SESSIONS {
         push_open(alloc, all, before + 1)?;
@@ -77,7 +87,8 @@ fn push_open(alloc: Global, all: &mut Vec<Request>, k: u32) -> Result<(), Memory
 
 /// The events, and the changes of names between them.
 fn push_works(alloc: Global, all: &mut Vec<Request>) -> Result<(), Memory>
-    ensures { OnOk result (map asked all.new.items ≡ map asked all.old.items ++ flat_map works_of (range_with_len 1 2000)) }
+    ensures { OnOk result (map asked all.new.items
+        ≡ map asked all.old.items ++ flat_map works_of (range_with_len 1 2000)) }
 {
     for before in 0..EVENTS {
         push_work(alloc, all, before + 1)?;
@@ -101,7 +112,8 @@ fn push_work(alloc: Global, all: &mut Vec<Request>, event: u32) -> Result<(), Me
 
 /// The requests for views.
 fn push_views(alloc: Global, all: &mut Vec<Request>) -> Result<(), Memory>
-    ensures { OnOk result (map asked all.new.items ≡ map asked all.old.items ++ map views_of (range_with_len 1 40)) }
+    ensures { OnOk result (map asked all.new.items
+        ≡ map asked all.old.items ++ map views_of (range_with_len 1 40)) }
 {
     for before in 0..SESSIONS {
         push_view(alloc, all, before + 1)?;
@@ -202,7 +214,8 @@ fn push_rows(alloc: Global, list: &mut String, n: u32, from: u32) -> Result<(), 
 fn push_row(alloc: Global, list: &mut String, n: u32, row: u32) -> Result<(), Memory>
     requires few { n ≤ 1000000 }
     requires row { row ≤ 20000 }
-    ensures { OnOk result (string_bytes list.new ≡ string_bytes list.old ++ (codes "," ++ row_text_of n row)) }
+    ensures { OnOk result (string_bytes list.new
+        ≡ string_bytes list.old ++ (codes "," ++ row_text_of n row)) }
 {
     let text = row_text(alloc, n, row)?;
     list.push_str(",")?;

@@ -1,11 +1,15 @@
 //! What is told of the load.
-ghost use Rattle.std.specs.Prelude.{◌≡◌, IfOk, Some, length, map, option_map, slice_get, string_bytes};
+ghost use Rattle.std.specs.Prelude.{◌≡◌, IfOk, Some, length, map, option_map, slice_get};
+ghost use Rattle.std.specs.Prelude.{string_bytes};
 ghost use Rattle.std.specs.List.{All};
 ghost use Rattle.serde_json.specs.Find.{pointer};
 ghost use Rattle.serde_json.specs.View.{view as json_view};
 ghost use Rattle.numbered_requests.specs.Bodies.{json_of};
 ghost use Rattle.numbered_requests.specs.Replies.{IsReply, said};
-ghost use Rattle.sample_app.specs.Summary.{reply_body as body_in, summary_counts as counts_of, refused as refused_in, results as results_of, summary as summary_of, words_at as words_in, words_of as words_of_json};
+ghost use Rattle.sample_app.specs.Summary.{reply_body as body_in, summary_counts as counts_of};
+ghost use Rattle.sample_app.specs.Summary.{refused as refused_in, results as results_of};
+ghost use Rattle.sample_app.specs.Summary.{summary as summary_of, words_at as words_in};
+ghost use Rattle.sample_app.specs.Summary.{words_of as words_of_json};
 
 use fx_base::Memory;
 use numbered_requests::Reply;
@@ -18,8 +22,9 @@ const FIRST_VIEW: usize = 2_260;
 /// The place of the request for a page of rows.
 const PAGE: usize = 2_300;
 
-/// What is told, of the replies to all requests: how many rows are kept and how many sessions live, how many requests there were
-/// and how many were refused, what the first control shows in the first view, and the quantity of the first row.
+/// What is told, of the replies to all requests: how many rows are kept and how many sessions live,
+/// how many requests there were and how many were refused, what the first control shows in the
+/// first view, and the quantity of the first row.
 pub fn summary(
     alloc: Global,
     rows: u32,
@@ -73,7 +78,8 @@ fn count_refused(replies: &[Reply]) -> usize
 /// The words at a path in the JSON of the reply at a place, if there are some.
 fn words_at(alloc: Global, path: &str, replies: &[Reply], place: usize) -> Result<String, Memory>
     requires { All IsReply replies.now }
-    ensures { IfOk result (λ s. string_bytes s ≡ words_in path.now (slice_get (map said replies.now) place)) }
+    ensures { IfOk result (λ s. string_bytes s
+        ≡ words_in path.now (slice_get (map said replies.now) place)) }
 {
     if replies.len() <= place {
         return Ok(String::new(alloc));
@@ -120,7 +126,8 @@ fn json_in(alloc: Global, body: &[u8]) -> Result<Option<Json>, Memory>
 
 /// The words that JSON is, if it is a text or a whole number.
 fn words_of(alloc: Global, json: Option<&Json>) -> Result<String, Memory>
-    ensures { IfOk result (λ s. string_bytes s ≡ words_of_json (option_map (λ j. json_view j.now) json.entry)) }
+    ensures { IfOk result (λ s. string_bytes s
+        ≡ words_of_json (option_map (λ j. json_view j.now) json.entry)) }
 {
     let Some(json) = json else {
         return Ok(String::new(alloc));

@@ -1,5 +1,7 @@
 -- What an event or an input that passed its checks does to its session and to tables.
-use Rattle.std.specs.Prelude.{◌≡◌, ◌<◌, ◌++◌, ℕ, Bool, true, false, List, [], ◌∷◌, length, slice_get, slice_set, Option, Some, None, Result, Ok, Err, option_and_then, option_map}
+use Rattle.std.specs.Prelude.{◌≡◌, ◌<◌, ◌++◌, ℕ, Bool, true, false, List, [], ◌∷◌, length}
+use Rattle.std.specs.Prelude.{slice_get, slice_set, Option, Some, None, Result, Ok, Err}
+use Rattle.std.specs.Prelude.{option_and_then, option_map}
 use Rattle.std.specs.List.{position}
 use Rattle.fx_types.specs.Values.{Data}
 use Rattle.fx_types.specs.declared.controls.Control.{Control}
@@ -22,7 +24,8 @@ use Rattle.row_keeper.specs.Tables.{Tables}
 use Rattle.session_requests.specs.Caching.{SameSessionExcept, IsCached}
 use Rattle.session_requests.specs.Requests.{Accepts, AcceptsWriting}
 use Rattle.session_requests.specs.declared.trigger.Trigger.{Trigger}
-use Rattle.session_requests.specs.declared.trigger.Trigger.TheVariants.{OnChange, OnCheck, OnSelect, OnUncheck}
+use Rattle.session_requests.specs.declared.trigger.Trigger.TheVariants.{OnChange, OnCheck, OnSelect}
+use Rattle.session_requests.specs.declared.trigger.Trigger.TheVariants.{OnUncheck}
 use Rattle.session_state.specs.Sessions.{SessionState}
 use Rattle.view_text.specs.declared.refused.Refusal.{Refusal}
 use Rattle.session_requests.specs.Targets.{InputValue}
@@ -31,26 +34,40 @@ use Rattle.session_requests.specs.declared.target.Target.{Target}
 
 -- an accepted request leaves its number, its body and its reply
 abbrev pub session_answered : ℕ → List ℕ → List ℕ → SessionState → SessionState
-session_answered seq body said s = record s { kept = record { last = seq; body = body; reply = said } }
+session_answered seq body said s = record s {
+  kept = record {
+    last = seq;
+    body = body;
+    reply = said;
+  };
+}
 
 -- the session of a name stands at this place
 pub record IsAt (place : ℕ) (name : List ℕ) (sessions : List (Named SessionState)) : Type 0 where
   pub first : position (is_named name) sessions ≡ Some place
   pub within : place < length sessions
 
--- WHAT IS ACCEPTED takes effect: its session, in which what is given or chosen stands already, acts and is answered, and is kept
--- with its number, its body and its reply. No other session changes.
-pub record TakesEffect (lost : Type 0) (app : App) (moment : ℕ) (trigger : Trigger) (item : Option Data) (name body : List ℕ) (seq : ℕ) (s : SessionState) (told : Option Tables) (sessions : List (Named SessionState)) (said : List ℕ) (told' : Option Tables) (sessions' : List (Named SessionState)) : Type 0 where
+-- WHAT IS ACCEPTED takes effect: its session, in which what is given or chosen stands already, acts
+-- and is answered, and is kept with its number, its body and its reply. No other session changes.
+pub record TakesEffect (lost : Type 0) (app : App) (moment : ℕ) (trigger : Trigger)
+    (item : Option Data) (name body : List ℕ) (seq : ℕ) (s : SessionState) (told : Option Tables)
+    (sessions : List (Named SessionState)) (said : List ℕ) (told' : Option Tables)
+    (sessions' : List (Named SessionState)) : Type 0 where
   pub end : SessionState
   pub accepts : Accepts lost app moment trigger item seq s told said told' end
   pub kept : sessions' ≡ put_named name (session_answered seq body said end) sessions
 
 -- what is refused leaves all
-abbrev pub RefusalLeavesAll : Refusal → Option Tables → List (Named SessionState) → List ℕ → Option Tables → List (Named SessionState) → Type 0
-RefusalLeavesAll r told sessions said told' sessions' = (said ≡ refusal_reply r) × (sessions' ≡ sessions) × (told' ≡ told)
+abbrev pub RefusalLeavesAll : Refusal → Option Tables → List (Named SessionState) → List ℕ
+    → Option Tables → List (Named SessionState) → Type 0
+RefusalLeavesAll r told sessions said told' sessions'
+    = (said ≡ refusal_reply r) × (sessions' ≡ sessions) × (told' ≡ told)
 
--- a session is the one that is kept under this name but in these sources, and of that one the cache stands
-pub record IsBefore (app : App) (name : List ℕ) (ws : List Source) (s : SessionState) (told : Option Tables) (moment : ℕ) (c : CacheState) (sessions : List (Named SessionState)) : Type 0 where
+-- a session is the one that is kept under this name but in these sources, and of that one the cache
+-- stands
+pub record IsBefore (app : App) (name : List ℕ) (ws : List Source) (s : SessionState)
+    (told : Option Tables) (moment : ℕ) (c : CacheState) (sessions : List (Named SessionState)) :
+    Type 0 where
   pub before : SessionState
   pub found : find name sessions ≡ Some before
   pub cached : IsCached app before told moment c
@@ -77,10 +94,14 @@ abbrev pub input_trigger : Names → SessionState → (ℕ → Data) → ℕ →
 input_trigger n s values k = trigger_at (slice_get n.controls k) k (is_true (input_of n s values k))
 
 -- an input ends: by its `OnChange`, `OnCheck` or `OnUncheck`, or refused
-abbrev pub EndsInput : Type 0 → App → ℕ → List ℕ → List ℕ → ℕ → SessionState → (ℕ → Data) → Result InputValue Refusal → Option Tables → List (Named SessionState) → List ℕ → Option Tables → List (Named SessionState) → Type 0
-EndsInput lost app moment name body seq s values (Err r) told sessions said told' sessions' = RefusalLeavesAll r told sessions said told' sessions'
+abbrev pub EndsInput : Type 0 → App → ℕ → List ℕ → List ℕ → ℕ → SessionState → (ℕ → Data)
+    → Result InputValue Refusal → Option Tables → List (Named SessionState) → List ℕ → Option Tables
+    → List (Named SessionState) → Type 0
+EndsInput lost app moment name body seq s values (Err r) told sessions said told' sessions'
+    = RefusalLeavesAll r told sessions said told' sessions'
 EndsInput lost app moment name body seq s values (Ok g) told sessions said told' sessions' =
-    TakesEffect lost app moment (input_trigger app.names (with_input g s) values g.0) None name body seq (with_input g s) told sessions said told' sessions'
+    TakesEffect lost app moment (input_trigger app.names (with_input g s) values g.0) None name body
+    seq (with_input g s) told sessions said told' sessions'
 
 -- ---- events
 
@@ -99,28 +120,40 @@ with_target t s = with_item_chosen t.item s
 
 -- the row of an item, as a record
 abbrev pub item_seen : Names → (ℕ → Data) → Option Item → Option Data
-item_seen n values o = option_and_then (λ (i : Item). option_map record_of (row_at_position i.at (rows_in (items_of n values i.gallery)))) o
+item_seen n values o = option_and_then (λ (i : Item). option_map
+    record_of (row_at_position i.at (rows_in (items_of n values i.gallery)))) o
 
 -- an event ends: by the `OnSelect` of its control, which sees the item, or refused
-abbrev pub EndsEvent : Type 0 → App → ℕ → List ℕ → List ℕ → ℕ → SessionState → (ℕ → Data) → Result Target Refusal → Option Tables → List (Named SessionState) → List ℕ → Option Tables → List (Named SessionState) → Type 0
-EndsEvent lost app moment name body seq s values (Err r) told sessions said told' sessions' = RefusalLeavesAll r told sessions said told' sessions'
+abbrev pub EndsEvent : Type 0 → App → ℕ → List ℕ → List ℕ → ℕ → SessionState → (ℕ → Data)
+    → Result Target Refusal → Option Tables → List (Named SessionState) → List ℕ → Option Tables
+    → List (Named SessionState) → Type 0
+EndsEvent lost app moment name body seq s values (Err r) told sessions said told' sessions'
+    = RefusalLeavesAll r told sessions said told' sessions'
 EndsEvent lost app moment name body seq s values (Ok t) told sessions said told' sessions' =
-    TakesEffect lost app moment (OnSelect t.control) (item_seen app.names values t.item) name body seq (with_target t s) told sessions said told' sessions'
+    TakesEffect lost app moment (OnSelect t.control) (item_seen app.names values t.item) name body
+    seq (with_target t s) told sessions said told' sessions'
 
 -- ---- what is written
 
 -- what is given or chosen, and then what the request writes
-abbrev pub EffectWrites : Type 0 → App → ℕ → Trigger → Option Data → List Source → SessionState → Option Tables → Option Tables → List Source → Type 0
-EffectWrites lost app moment trigger item given s told told' xs = (ws : List Source) × (xs ≡ given ++ ws) × AcceptsWriting lost app moment trigger item s told told' ws
+abbrev pub EffectWrites : Type 0 → App → ℕ → Trigger → Option Data → List Source → SessionState
+    → Option Tables → Option Tables → List Source → Type 0
+EffectWrites lost app moment trigger item given s told told' xs
+    = (ws : List Source) × (xs ≡ given ++ ws)
+    × AcceptsWriting lost app moment trigger item s told told' ws
 
 -- an input writes what is given and what acts, or nothing where it is refused
-abbrev pub InputWrites : Type 0 → App → ℕ → SessionState → (ℕ → Data) → Result InputValue Refusal → Option Tables → Option Tables → List Source → Type 0
+abbrev pub InputWrites : Type 0 → App → ℕ → SessionState → (ℕ → Data) → Result InputValue Refusal
+    → Option Tables → Option Tables → List Source → Type 0
 InputWrites lost app moment s values (Err r) told told' xs = xs ≡ []
 InputWrites lost app moment s values (Ok g) told told' xs =
-    EffectWrites lost app moment (input_trigger app.names (with_input g s) values g.0) None (source.Input g.0 ∷ []) (with_input g s) told told' xs
+    EffectWrites lost app moment (input_trigger app.names (with_input g s) values g.0) None
+    (source.Input g.0 ∷ []) (with_input g s) told told' xs
 
 -- and so does an event what it chooses and what acts
-abbrev pub EventWrites : Type 0 → App → ℕ → SessionState → (ℕ → Data) → Result Target Refusal → Option Tables → Option Tables → List Source → Type 0
+abbrev pub EventWrites : Type 0 → App → ℕ → SessionState → (ℕ → Data) → Result Target Refusal
+    → Option Tables → Option Tables → List Source → Type 0
 EventWrites lost app moment s values (Err r) told told' xs = xs ≡ []
 EventWrites lost app moment s values (Ok t) told told' xs =
-    EffectWrites lost app moment (OnSelect t.control) (item_seen app.names values t.item) (item_chosen t.item) (with_target t s) told told' xs
+    EffectWrites lost app moment (OnSelect t.control) (item_seen app.names values t.item)
+    (item_chosen t.item) (with_target t s) told told' xs

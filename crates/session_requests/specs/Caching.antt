@@ -22,23 +22,28 @@ use Rattle.row_keeper.specs.Tables.{Tables}
 use Rattle.row_requests.specs.Written.{SameTablesExcept}
 use Rattle.session_state.specs.Sessions.{SessionState, stored_value}
 
--- A SESSION'S CACHE stands: it is in order, right over the session and over all that is heard of the rows of tables, and of the
--- moment's day
-pub record IsCached (a : App) (s : SessionState) (told : Option Tables) (m : ℕ) (c : CacheState) : Type 0 where
+-- A SESSION'S CACHE stands: it is in order, right over the session and over all that is heard of
+-- the rows of tables, and of the moment's day
+pub record IsCached (a : App) (s : SessionState) (told : Option Tables) (m : ℕ) (c : CacheState) :
+    Type 0 where
   pub order : IsInOrder a c
   pub right : ∥ IsRightOver a s told m c ∥₁
   pub day : IsToday m c.values.day
 
 -- the same where it is still to be told that these sources have changed
-pub record IsPending (a : App) (s : SessionState) (told : Option Tables) (m : ℕ) (ws : List Source) (c : CacheState) : Type 0 where
+pub record IsPending (a : App) (s : SessionState) (told : Option Tables) (m : ℕ) (ws : List Source)
+    (c : CacheState) : Type 0 where
   pub order : IsInOrder a c
-  pub right : ∥ ((tables : ToldRows) → IsHeardOf told tables → IsRight (present a s tables m) ws c) ∥₁
+  pub right : ∥ ((tables : ToldRows) → IsHeardOf told tables → IsRight (present a s tables m) ws c)
+      ∥₁
   pub day : IsToday m c.values.day
 
 -- two sessions hold the same, and the same is chosen, but in these sources
 pub record SameSessionExcept (n : Names) (ws : List Source) (s r : SessionState) : Type 0 where
-  pub held : (x : Source) (t : Shape) → sources n x ≡ Some t → (IsAmong x ws → ⊥) → stored_value r x ≡ stored_value s x
-  pub chosen : (k : ℕ) → (IsAmong (source.Chosen k) ws → ⊥) → slice_index_or r.chosen k None ≡ slice_index_or s.chosen k None
+  pub held : (x : Source) (t : Shape) → sources n x ≡ Some t → (IsAmong x ws → ⊥)
+      → stored_value r x ≡ stored_value s x
+  pub chosen : (k : ℕ) → (IsAmong (source.Chosen k) ws → ⊥)
+      → slice_index_or r.chosen k None ≡ slice_index_or s.chosen k None
 
 -- the tables are those with which the transaction began, but these
 abbrev pub AreLater : List Source → Option Tables → Option Tables → Type 0
@@ -59,14 +64,17 @@ abbrev pub IsTouchedIf : App → Option Source → CacheState → CacheState →
 IsTouchedIf a None old new = new ≡ old
 IsTouchedIf a (Some s) old new = is_cell s ≡ false → IsTouched a s old new
 
--- THESE SOURCES WERE TOUCHED: what is kept is right where it was still to be told that they have changed
+-- THESE SOURCES WERE TOUCHED: what is kept is right where it was still to be told that they have
+-- changed
 pub record AreTouched (a : App) (ws : List Source) (old new : CacheState) : Type 0 where
   pub order : IsInOrder a old → IsInOrder a new
-  pub right : (s : SessionState) (tables : ToldRows) (m : ℕ) → IsRight (present a s tables m) ws old → IsRight (present a s tables m) [] new
+  pub right : (s : SessionState) (tables : ToldRows) (m : ℕ) → IsRight (present a s tables m) ws old
+      → IsRight (present a s tables m) [] new
   pub but : StaysCleanExcept a ws old new
   pub day : new.values.day ≡ old.values.day
 
--- CLEAN CELLS ARE LEFT SO from any start on, but those that reach what was written until now, where the same was so of what was
--- written before
+-- CLEAN CELLS ARE LEFT SO from any start on, but those that reach what was written until now, where
+-- the same was so of what was written before
 abbrev pub GoesOnClean : App → List Source → CacheState → List Source → CacheState → Type 0
-GoesOnClean a before old after new = (start : CacheState) → StaysCleanExcept a before start old → StaysCleanExcept a after start new
+GoesOnClean a before old after new = (start : CacheState) → StaysCleanExcept a before start old
+    → StaysCleanExcept a after start new

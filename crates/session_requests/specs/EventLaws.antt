@@ -8,7 +8,8 @@ use Rattle.session_requests.specs.declared.trigger.Trigger.{Trigger}
 
 -- a request has one value at a trigger, and one end
 abbrev pub OneRunning : Type 0
-OneRunning = (a : App) (m : ℕ) (trigger : Trigger) (item : Option Data) (s t u : TablesAndSession) (x y : Data) → Runs a m trigger item s x t → Runs a m trigger item s y u → (x ≡ y) × (t ≡ u)
+OneRunning = (a : App) (m : ℕ) (trigger : Trigger) (item : Option Data) (s t u : TablesAndSession)
+    (x y : Data) → Runs a m trigger item s x t → Runs a m trigger item s y u → (x ≡ y) × (t ≡ u)
 
 -- opening a session has one end
 abbrev pub OneOpening : Type 0

@@ -8,9 +8,11 @@ use Rattle.row_keeper.specs.Tables.{Tables}
 use Rattle.session_state.specs.Sessions.{SessionState}
 use Rattle.session_requests.specs.Performing.{PerformsCell}
 
--- The app, the moment, the item, the tables and the session determine the value, the tables and the session that a formula
--- leaves, and the sources that it writes.
+-- The app, the moment, the item, the tables and the session determine the value, the tables and the
+-- session that a formula leaves, and the sources that it writes.
 abbrev pub OneActing : Type 0
 OneActing =
-    (a : App) (moment : ℕ) (c : CellInfo) (item : Option Data) (t : Tables) (s : SessionState) (x y : Data) (u v : Tables) (q r : SessionState) (ws zs : List Source) →
-    PerformsCell a moment c item t s x u q ws → PerformsCell a moment c item t s y v r zs → (x ≡ y) × (u ≡ v) × (q ≡ r) × (ws ≡ zs)
+    (a : App) (moment : ℕ) (c : CellInfo) (item : Option Data) (t : Tables) (s : SessionState)
+    (x y : Data) (u v : Tables) (q r : SessionState) (ws zs : List Source) →
+    PerformsCell a moment c item t s x u q ws → PerformsCell a moment c item t s y v r zs
+    → (x ≡ y) × (u ≡ v) × (q ≡ r) × (ws ≡ zs)

@@ -1,5 +1,6 @@
 -- A session sends events and inputs.
-use Rattle.std.specs.Prelude.{◌≡◌, ◌⊎◌, ℕ, Bool, true, List, codes, Option, Some, None, Result, Ok, Err, slice_get, option_and_then, unwrap_or}
+use Rattle.std.specs.Prelude.{◌≡◌, ◌⊎◌, ℕ, Bool, true, List, codes, Option, Some, None, Result, Ok}
+use Rattle.std.specs.Prelude.{Err, slice_get, option_and_then, unwrap_or}
 use Rattle.std.specs.List.{AllByRecursion}
 use Rattle.recalc.specs.app_cells.Leaning.{LeansOn, cell_of_property, default_cell}
 use Rattle.recalc.specs.app_cells.declared.app.App.{App}
@@ -41,7 +42,8 @@ SessionsFit n sessions = AllByRecursion (λ (x : Named SessionState). FitsNames 
 
 -- the gallery that a control stands in
 abbrev pub gallery_around : App → ℕ → Option ℕ
-gallery_around app k = option_and_then (λ (c : ControlName). c.gallery) (slice_get app.names.controls k)
+gallery_around app k = option_and_then (λ (c : ControlName). c.gallery)
+    (slice_get app.names.controls k)
 
 -- what a control is shown by: the gallery in which it stands, and else the control itself
 abbrev pub shown_by : App → ℕ → ℕ
@@ -53,63 +55,86 @@ IsPropertyAt app k name d = cell_of_property app.names k name ≡ Some d
 
 -- the formula that says whether a control is visible leans on this cell
 abbrev pub VisibleLeansOn : App → ℕ → ℕ → Type 0
-VisibleLeansOn app k d = (j : ℕ) × (c : CellInfo) × IsPropertyAt app k (codes "Visible") j × (slice_get app.cells j ≡ Some c) × LeansOn app.names c d
+VisibleLeansOn app k d = (j : ℕ) × (c : CellInfo) × IsPropertyAt app k (codes "Visible") j
+    × (slice_get app.cells j ≡ Some c) × LeansOn app.names c d
 
--- The checks of an input look at whether its control is shown, at the bounds of it, and at its default.
+-- The checks of an input look at whether its control is shown, at the bounds of it, and at its
+-- default.
 abbrev pub InputLooksAt : App → Input → ℕ → Type 0
 InputLooksAt app i d =
     (k : ℕ) × (control_number i.control app.names ≡ Some k)
-    × (IsPropertyAt app (shown_by app k) (codes "Visible") d ⊎ (IsPropertyAt app k (codes "Min") d ⊎ (IsPropertyAt app k (codes "Max") d ⊎ (default_cell app.names k ≡ Some d))))
+    × (IsPropertyAt app (shown_by app k) (codes "Visible") d
+    ⊎ (IsPropertyAt app k (codes "Min") d ⊎ (IsPropertyAt app k (codes "Max") d
+    ⊎ (default_cell app.names k ≡ Some d))))
 
--- The checks of an event look at whether its control is shown, at the items of its gallery, and for an item at what says whether
--- the control is visible.
+-- The checks of an event look at whether its control is shown, at the items of its gallery, and for
+-- an item at what says whether the control is visible.
 abbrev pub EventLooksAt : App → Event → ℕ → Type 0
 EventLooksAt app e d =
     (k : ℕ) × (control_number e.control app.names ≡ Some k)
-    × (IsPropertyAt app (shown_by app k) (codes "Visible") d ⊎ (IsPropertyAt app (shown_by app k) (codes "Items") d ⊎ VisibleLeansOn app k d))
+    × (IsPropertyAt app (shown_by app k) (codes "Visible") d
+    ⊎ (IsPropertyAt app (shown_by app k) (codes "Items") d ⊎ VisibleLeansOn app k d))
 
 -- ---- inputs
 
--- An input that passed the checks of numbered requests: its session is live. `seen` is told as the other checks are made, in which
--- the formulas have fresh values that these look at.
-pub record SendsInput (lost : Type 0) (app : App) (moment : ℕ) (name body : List ℕ) (i : Input) (told : Option Tables) (sessions : List (Named SessionState)) (said : List ℕ) (told' : Option Tables) (sessions' : List (Named SessionState)) : Type 0 where
+-- An input that passed the checks of numbered requests: its session is live. `seen` is told as the
+-- other checks are made, in which the formulas have fresh values that these look at.
+pub record SendsInput (lost : Type 0) (app : App) (moment : ℕ) (name body : List ℕ) (i : Input)
+    (told : Option Tables) (sessions : List (Named SessionState)) (said : List ℕ)
+    (told' : Option Tables) (sessions' : List (Named SessionState)) : Type 0 where
   pub session : SessionState
   pub found : find name sessions ≡ Some session
   pub seen : Option Tables
   pub stays : MayFallSilent lost Stays told seen
   pub values : ℕ → Data
-  pub fresh : ∥ AreFreshAt (present app session (rows_told seen) moment) (InputLooksAt app i) values ∥₁
-  pub ends : EndsInput lost app moment name body i.seq session values (input_target app.names session values i) seen sessions said told' sessions'
+  pub fresh : ∥ AreFreshAt (present app session (rows_told seen) moment) (InputLooksAt app i) values
+      ∥₁
+  pub ends : EndsInput lost app moment name body i.seq session values
+      (input_target app.names session values i) seen sessions said told' sessions'
 
 -- which sources it writes
-abbrev pub SendsInputWriting : Type 0 → App → ℕ → List ℕ → List ℕ → Input → Option Tables → List (Named SessionState) → List ℕ → Option Tables → List (Named SessionState) → List Source → Type 0
+abbrev pub SendsInputWriting : Type 0 → App → ℕ → List ℕ → List ℕ → Input → Option Tables
+    → List (Named SessionState) → List ℕ → Option Tables → List (Named SessionState) → List Source
+    → Type 0
 SendsInputWriting lost app moment name body i told sessions said told' sessions' xs =
-    (h : SendsInput lost app moment name body i told sessions said told' sessions') × InputWrites lost app moment h.session h.values (input_target app.names h.session h.values i) h.seen told' xs
+    (h : SendsInput lost app moment name body i told sessions said told' sessions')
+    × InputWrites lost app moment h.session h.values (input_target app.names h.session h.values i)
+    h.seen told' xs
 
-abbrev pub PostsInputChecked : Type 0 → App → ℕ → List ℕ → List ℕ → Result Input (List ℕ) → Option Tables → List (Named SessionState) → List ℕ → Option Tables → List (Named SessionState) → Type 0
-PostsInputChecked lost app moment name body (Err words) told sessions said told' sessions' = (said ≡ words) × (sessions' ≡ sessions) × (told' ≡ told)
-PostsInputChecked lost app moment name body (Ok i) told sessions said told' sessions' = SendsInput lost app moment name body i told sessions said told' sessions'
+abbrev pub PostsInputChecked : Type 0 → App → ℕ → List ℕ → List ℕ → Result Input (List ℕ)
+    → Option Tables → List (Named SessionState) → List ℕ → Option Tables → List (Named SessionState)
+    → Type 0
+PostsInputChecked lost app moment name body (Err words) told sessions said told' sessions'
+    = (said ≡ words) × (sessions' ≡ sessions) × (told' ≡ told)
+PostsInputChecked lost app moment name body (Ok i) told sessions said told' sessions'
+    = SendsInput lost app moment name body i told sessions said told' sessions'
 
 -- THE route of inputs
-abbrev pub PostsInput : Type 0 → App → ℕ → List ℕ → List ℕ → Option Tables → List (Named SessionState) → List ℕ → Option Tables → List (Named SessionState) → Type 0
+abbrev pub PostsInput : Type 0 → App → ℕ → List ℕ → List ℕ → Option Tables
+    → List (Named SessionState) → List ℕ → Option Tables → List (Named SessionState) → Type 0
 PostsInput lost app moment name body told sessions said told' sessions' =
-    PostsInputChecked lost app moment name body (checks input_in (λ (i : Input). i.seq) (session_of name sessions) body) told sessions said told' sessions'
+    PostsInputChecked lost app moment name body
+    (checks input_in (λ (i : Input). i.seq) (session_of name sessions) body) told sessions said
+    told' sessions'
 
 -- the checks that call no keeper are passed
 abbrev pub ReachesInput : List ℕ → List ℕ → List (Named SessionState) → Type 0
-ReachesInput name body sessions = (i : Input) × (checks input_in (λ (i : Input). i.seq) (session_of name sessions) body ≡ Ok i)
+ReachesInput name body sessions = (i : Input)
+    × (checks input_in (λ (i : Input). i.seq) (session_of name sessions) body ≡ Ok i)
 
 -- ---- events
 
 -- the control is visible for the item at this position of the gallery
-pub record IsVisibleFor (p : Present) (values : ℕ → Data) (k gallery at : ℕ) (b : Bool) : Type 0 where
+pub record IsVisibleFor (p : Present) (values : ℕ → Data) (k gallery at : ℕ) (b : Bool) : Type
+    0 where
   pub row : Fields
   pub there : row_at_position at (rows_in (items_of p.app.names values gallery)) ≡ Some row
   pub value : Data
   pub is_value : IsPropertyForItem p values (record_of row) k (codes "Visible") (boolean true) value
   pub is : b ≡ is_true value
 
--- whether a control that stands in a gallery is visible for the item; of another control nothing is left to ask
+-- whether a control that stands in a gallery is visible for the item; of another control nothing is
+-- left to ask
 abbrev pub IsShownToUser : Present → (ℕ → Data) → ℕ → Option ℕ → Option Item → Bool → Type 0
 IsShownToUser p values k (Some gallery) (Some item) b = IsVisibleFor p values k gallery item.at b
 IsShownToUser p values k (Some gallery) None b = b ≡ true
@@ -118,34 +143,51 @@ IsShownToUser p values k None item b = b ≡ true
 -- the last check of an event: the control is shown for the item (17)
 abbrev pub IsVerdict : Present → (ℕ → Data) → Result Target Refusal → Result Target Refusal → Type 0
 IsVerdict p values (Err r) v = v ≡ Err r
-IsVerdict p values (Ok t) v = (b : Bool) × IsShownToUser p values t.control (gallery_around p.app t.control) t.item b × (v ≡ or_refused b 17 (Ok t))
+IsVerdict p values (Ok t) v = (b : Bool) × IsShownToUser p values t.control
+    (gallery_around p.app t.control) t.item b × (v ≡ or_refused b 17 (Ok t))
 
 -- an event that passed the checks of numbered requests
-pub record SendsEvent (lost : Type 0) (app : App) (moment : ℕ) (name body : List ℕ) (e : Event) (told : Option Tables) (sessions : List (Named SessionState)) (said : List ℕ) (told' : Option Tables) (sessions' : List (Named SessionState)) : Type 0 where
+pub record SendsEvent (lost : Type 0) (app : App) (moment : ℕ) (name body : List ℕ) (e : Event)
+    (told : Option Tables) (sessions : List (Named SessionState)) (said : List ℕ)
+    (told' : Option Tables) (sessions' : List (Named SessionState)) : Type 0 where
   pub session : SessionState
   pub found : find name sessions ≡ Some session
   pub seen : Option Tables
   pub stays : MayFallSilent lost Stays told seen
   pub values : ℕ → Data
-  pub fresh : ∥ AreFreshAt (present app session (rows_told seen) moment) (EventLooksAt app e) values ∥₁
+  pub fresh : ∥ AreFreshAt (present app session (rows_told seen) moment) (EventLooksAt app e) values
+      ∥₁
   pub verdict : Result Target Refusal
-  pub judged : IsVerdict (present app session (rows_told seen) moment) values (event_target app.names session values e) verdict
-  pub ends : EndsEvent lost app moment name body e.seq session values verdict seen sessions said told' sessions'
+  pub judged : IsVerdict (present app session (rows_told seen) moment) values
+      (event_target app.names session values e) verdict
+  pub ends : EndsEvent lost app moment name body e.seq session values verdict seen sessions said
+      told' sessions'
 
 -- which sources it writes
-abbrev pub SendsEventWriting : Type 0 → App → ℕ → List ℕ → List ℕ → Event → Option Tables → List (Named SessionState) → List ℕ → Option Tables → List (Named SessionState) → List Source → Type 0
+abbrev pub SendsEventWriting : Type 0 → App → ℕ → List ℕ → List ℕ → Event → Option Tables
+    → List (Named SessionState) → List ℕ → Option Tables → List (Named SessionState) → List Source
+    → Type 0
 SendsEventWriting lost app moment name body e told sessions said told' sessions' xs =
-    (h : SendsEvent lost app moment name body e told sessions said told' sessions') × EventWrites lost app moment h.session h.values h.verdict h.seen told' xs
+    (h : SendsEvent lost app moment name body e told sessions said told' sessions')
+    × EventWrites lost app moment h.session h.values h.verdict h.seen told' xs
 
-abbrev pub PostsEventChecked : Type 0 → App → ℕ → List ℕ → List ℕ → Result Event (List ℕ) → Option Tables → List (Named SessionState) → List ℕ → Option Tables → List (Named SessionState) → Type 0
-PostsEventChecked lost app moment name body (Err words) told sessions said told' sessions' = (said ≡ words) × (sessions' ≡ sessions) × (told' ≡ told)
-PostsEventChecked lost app moment name body (Ok e) told sessions said told' sessions' = SendsEvent lost app moment name body e told sessions said told' sessions'
+abbrev pub PostsEventChecked : Type 0 → App → ℕ → List ℕ → List ℕ → Result Event (List ℕ)
+    → Option Tables → List (Named SessionState) → List ℕ → Option Tables → List (Named SessionState)
+    → Type 0
+PostsEventChecked lost app moment name body (Err words) told sessions said told' sessions'
+    = (said ≡ words) × (sessions' ≡ sessions) × (told' ≡ told)
+PostsEventChecked lost app moment name body (Ok e) told sessions said told' sessions'
+    = SendsEvent lost app moment name body e told sessions said told' sessions'
 
 -- THE route of events
-abbrev pub PostsEvent : Type 0 → App → ℕ → List ℕ → List ℕ → Option Tables → List (Named SessionState) → List ℕ → Option Tables → List (Named SessionState) → Type 0
+abbrev pub PostsEvent : Type 0 → App → ℕ → List ℕ → List ℕ → Option Tables
+    → List (Named SessionState) → List ℕ → Option Tables → List (Named SessionState) → Type 0
 PostsEvent lost app moment name body told sessions said told' sessions' =
-    PostsEventChecked lost app moment name body (checks event_in (λ (e : Event). e.seq) (session_of name sessions) body) told sessions said told' sessions'
+    PostsEventChecked lost app moment name body
+    (checks event_in (λ (e : Event). e.seq) (session_of name sessions) body) told sessions said
+    told' sessions'
 
 -- the checks that call no keeper are passed
 abbrev pub ReachesEvent : List ℕ → List ℕ → List (Named SessionState) → Type 0
-ReachesEvent name body sessions = (e : Event) × (checks event_in (λ (e : Event). e.seq) (session_of name sessions) body ≡ Ok e)
+ReachesEvent name body sessions = (e : Event)
+    × (checks event_in (λ (e : Event). e.seq) (session_of name sessions) body ≡ Ok e)

@@ -17,7 +17,8 @@ use Rattle.fx_value.specs.Order.{IsScalar}
 use Rattle.recalc.specs.app_cells.declared.app.App.{App}
 use Rattle.recalc.specs.Holds.{holds_prop}
 use Rattle.recalc.specs.Changes.{StaysCleanExcept}
-use Rattle.recalc.specs.Kept.{AreLow, IsClean, IsCurrent, IsInOrder, IsSettled, IsSourceOf, CacheState, stamp_of}
+use Rattle.recalc.specs.Kept.{AreLow, IsClean, IsCurrent, IsInOrder, IsSettled, IsSourceOf}
+use Rattle.recalc.specs.Kept.{CacheState, stamp_of}
 use Rattle.recalc.specs.declared.stamps.Stamp.{Stamp}
 use Rattle.row_keeper.specs.Tables.{AreStatesOf, IsStateOf, TableState, Tables}
 use Rattle.row_queries.specs.TableRows.{AreCellsOf, AreInIdOrder, IsBelowAll, IsRowOf}
@@ -76,19 +77,23 @@ data_set : IsSet Data
 data_set = Coded-set data_code
 
 stamp_set : IsSet Stamp
-stamp_set = Coded-set (code_by (ℕ × ℕ) (coded× coded_ℕ coded_ℕ) (λ (e : Stamp). (e.checked, e.moved)) (λ p. record { checked = p.0; moved = p.1 }) (λ _. refl))
+stamp_set = Coded-set (code_by (ℕ × ℕ) (coded× coded_ℕ coded_ℕ)
+    (λ (e : Stamp). (e.checked, e.moved)) (λ p. record { checked = p.0; moved = p.1 }) (λ _. refl))
 
 chosen_set : IsSet (Option (ℕ × Option ℕ))
 chosen_set = Coded-set (coded_option (coded× coded_ℕ (coded_option coded_ℕ)))
 
-under_stamp : (o : Option Stamp) (P : Stamp → Type 0) (e : Stamp) → IsProp (P e) → IsProp ((o ≡ Some e) × P e)
+under_stamp : (o : Option Stamp) (P : Stamp → Type 0) (e : Stamp) → IsProp (P e)
+    → IsProp ((o ≡ Some e) × P e)
 under_stamp o P e h = hlevel (stamp_set, h, props)
 
 -- a place has one stamp at most
-paired_prop : (o : Option Stamp) (P : Stamp → Type 0) → ((e : Stamp) → IsProp (P e)) → IsProp ((e : Stamp) × ((o ≡ Some e) × P e))
+paired_prop : (o : Option Stamp) (P : Stamp → Type 0) → ((e : Stamp) → IsProp (P e))
+    → IsProp ((e : Stamp) × ((o ≡ Some e) × P e))
 paired_prop o P h s t = let same : s.0 ≡ t.0 = ap (λ (x : Option Stamp). unwrap_or x s.0) (sym s.1.0 ∙ t.1.0) in Σ_prop_path (λ (e : Stamp). under_stamp o P e (h e)) same
 
-stamped_prop : (o : Option Stamp) (P : Stamp → Type 0) → ((e : Stamp) → IsProp (P e)) → IsProp ((e : Stamp) × (o ≡ Some e) × P e)
+stamped_prop : (o : Option Stamp) (P : Stamp → Type 0) → ((e : Stamp) → IsProp (P e))
+    → IsProp ((e : Stamp) × (o ≡ Some e) × P e)
 stamped_prop o P h s t =
     let apart : ((e : Stamp) × ((o ≡ Some e) × P e)) → (e : Stamp) × (o ≡ Some e) × P e = λ x. (x.0, x.1.0, x.1.1) in
     ap apart (paired_prop o P h (s.0, (s.1, s.2)) (t.0, (t.1, t.2)))
@@ -97,7 +102,8 @@ current_prop : (a : App) (c : CacheState) (k n : ℕ) → IsProp (IsCurrent a c 
 current_prop a c k n = hlevel props
 
 clean_prop : (a : App) (c : CacheState) (k : ℕ) → IsProp (IsClean a c k)
-clean_prop a c k = stamped_prop (stamp_of c k) (λ (e : Stamp). IsCurrent a c k e.checked) (λ e. current_prop a c k e.checked)
+clean_prop a c k = stamped_prop (stamp_of c k) (λ (e : Stamp). IsCurrent a c k e.checked)
+    (λ e. current_prop a c k e.checked)
 
 settled_prop : (c : CacheState) (d n : ℕ) → IsProp (IsSettled c d n)
 settled_prop c d n = stamped_prop (stamp_of c d) (λ (f : Stamp). f.moved ≤ n) (λ f. hlevel props)
@@ -124,5 +130,6 @@ source_prop n source.Today = hlevel props
 pub sources_prop : (n : Names) (ws : List Source) → IsProp (AreSources n ws)
 sources_prop n ws = hlevel (source_prop, props)
 
-pub sessions_prop : (n : Names) (ws : List Source) (s r : SessionState) → IsProp (SameSessionExcept n ws s r)
+pub sessions_prop : (n : Names) (ws : List Source) (s r : SessionState)
+    → IsProp (SameSessionExcept n ws s r)
 sessions_prop n ws s r = hlevel (data_set, chosen_set, props)

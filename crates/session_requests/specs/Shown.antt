@@ -13,10 +13,11 @@ use Rattle.session_state.specs.Sessions.{SessionState}
 abbrev pub control_number : List ℕ → Names → Option ℕ
 control_number name n = position (λ (c : ControlName). bytes_eq c.name name) n.controls
 
--- A control is on the current screen and visible. In the place of one that stands in a gallery the gallery is: the control is
--- visible for each item by itself.
+-- A control is on the current screen and visible. In the place of one that stands in a gallery the
+-- gallery is: the control is visible for each item by itself.
 abbrev pub is_shown_or_in_shown_gallery : Names → SessionState → (ℕ → Data) → ℕ → ControlName → Bool
-is_shown_or_in_shown_gallery n s values k c = (c.screen == s.screen) && is_visible n values (unwrap_or c.gallery k)
+is_shown_or_in_shown_gallery n s values k c = (c.screen == s.screen)
+    && is_visible n values (unwrap_or c.gallery k)
 
 -- the values of cells by their numbers; where there is no cell, blank
 abbrev pub cell_values : List Value → ℕ → Data

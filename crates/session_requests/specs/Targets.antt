@@ -1,5 +1,7 @@
 -- What events and inputs act on, and which of them are refused.
-use Rattle.std.specs.Prelude.{◌≡◌, ℕ, ◌==◌, ◌&&◌, ℤ, pos, int_le, nat_le, Bool, true, false, not, is_some, bytes_eq, List, length, codes, encode_utf8_all, Option, Some, None, Result, Ok, Err, slice_get, IfSome, if◌then◌else◌}
+use Rattle.std.specs.Prelude.{◌≡◌, ℕ, ◌==◌, ◌&&◌, ℤ, pos, int_le, nat_le, Bool, true, false, not}
+use Rattle.std.specs.Prelude.{is_some, bytes_eq, List, length, codes, encode_utf8_all, Option, Some}
+use Rattle.std.specs.Prelude.{None, Result, Ok, Err, slice_get, IfSome, if◌then◌else◌}
 use Rattle.recalc.specs.app_cells.Spots.{item_or}
 use Rattle.recalc.specs.app_semantics.Chosen.{item_id, row_at_position}
 use Rattle.recalc.specs.app_semantics.Present.{items_of}
@@ -46,12 +48,14 @@ unless_moved (Some given) id it = if same_id given id then Ok it else Err (row_m
 -- the row at the place, if there is one (18)
 abbrev pub target_row : ℕ → ℕ → Place → Option Row → Result Target Refusal
 target_row k g p None = Err (plain 18)
-target_row k g p (Some r) = unless_moved p.id (item_id r) (record { control = k; item = Some (record { gallery = g; at = p.at; id = item_id r }) })
+target_row k g p (Some r) = unless_moved p.id (item_id r)
+    (record { control = k; item = Some (record { gallery = g; at = p.at; id = item_id r }) })
 
 -- an item belongs to a gallery and to a control in one, and to no other (18)
 abbrev pub with_item : Names → (ℕ → Data) → ℕ → Option Place → Option ℕ → Result Target Refusal
 with_item n values k None None = Ok (record { control = k; item = None })
-with_item n values k (Some p) (Some g) = target_row k g p (row_at_position p.at (rows_in (items_of n values g)))
+with_item n values k (Some p) (Some g) = target_row k g p
+    (row_at_position p.at (rows_in (items_of n values g)))
 with_item n values k given gallery = Err (plain 18)
 
 abbrev pub is_gallery : Control → Bool
@@ -79,18 +83,24 @@ pub record IsTarget (n : Names) (values : ℕ → Data) (t : Target) : Type 0 wh
 
 -- only this event is sent, to what has it
 abbrev pub has_event : List ℕ → Control → Bool
-has_event event kind = bytes_eq (encode_utf8_all event) (codes "OnSelect") && is_behaviour kind (codes "OnSelect")
+has_event event kind = bytes_eq (encode_utf8_all event) (codes "OnSelect")
+    && is_behaviour kind (codes "OnSelect")
 
-abbrev pub event_at : Names → SessionState → (ℕ → Data) → Event → ℕ → Option ControlName → Result Target Refusal
+abbrev pub event_at : Names → SessionState → (ℕ → Data) → Event → ℕ → Option ControlName
+    → Result Target Refusal
 event_at n s values e k None = Err (plain 15)
 event_at n s values e k (Some c) =
-    or_refused (has_event e.event c.kind) 16 (or_refused (is_shown_or_in_shown_gallery n s values k c) 17 (with_item n values k e.item (event_gallery k c)))
+    or_refused (has_event e.event c.kind) 16 (or_refused
+    (is_shown_or_in_shown_gallery n s values k c) 17
+    (with_item n values k e.item (event_gallery k c)))
 
-abbrev pub event_named : Names → SessionState → (ℕ → Data) → Event → Option ℕ → Result Target Refusal
+abbrev pub event_named : Names → SessionState → (ℕ → Data) → Event → Option ℕ
+    → Result Target Refusal
 event_named n s values e None = Err (plain 15)
 event_named n s values e (Some k) = event_at n s values e k (slice_get n.controls k)
 
--- THE checks of an event, but for the last: no control (15), no such event (16), not shown (17), no such item (18), another item (19)
+-- THE checks of an event, but for the last: no control (15), no such event (16), not shown (17), no
+-- such item (18), another item (19)
 abbrev pub event_target : Names → SessionState → (ℕ → Data) → Event → Result Target Refusal
 event_target n s values e = event_named n s values e (control_number e.control n)
 
@@ -106,7 +116,8 @@ abbrev pub is_in_bounds : Option ℤ → Option ℤ → ℤ → Bool
 is_in_bounds (Some least) (Some greatest) z = int_le least z && int_le z greatest
 is_in_bounds a b z = false
 
--- what a control takes: a text of at most 4,096 bytes, a number within the bounds, a truth or a date
+-- what a control takes: a text of at most 4,096 bytes, a number within the bounds, a truth or a
+-- date
 abbrev pub control_takes : Control → Option ℤ → Option ℤ → Data → Bool
 control_takes control.TextInput least greatest (text cs) = nat_le (length (encode_utf8_all cs)) 4096
 control_takes control.Slider least greatest (number z) = is_in_bounds least greatest z
@@ -118,10 +129,12 @@ abbrev pub is_blank : Data → Bool
 is_blank blank = true
 is_blank d = false
 
--- what a user's input becomes: null takes it away, and what the control doesn't take is refused (20)
+-- what a user's input becomes: null takes it away, and what the control doesn't take is refused
+-- (20)
 abbrev pub input_by : Control → Option ℤ → Option ℤ → Option Data → Result (Option Data) Refusal
 input_by kind least greatest None = Err (plain 20)
-input_by kind least greatest (Some d) = if is_blank d then Ok None else (if control_takes kind least greatest d then Ok (Some d) else Err (plain 20))
+input_by kind least greatest (Some d) = if is_blank d then Ok None else
+    (if control_takes kind least greatest d then Ok (Some d) else Err (plain 20))
 
 -- the number of the control, and what its user then gave
 abbrev pub InputValue : Type 0
@@ -131,7 +144,8 @@ abbrev pub value_given_to : ℕ → Result (Option Data) Refusal → Result Inpu
 value_given_to k (Ok v) = Ok (k, v)
 value_given_to k (Err r) = Err r
 
--- a slider's numbers lie between its Min, 0 where that isn't written, and its Max, 100 where that isn't
+-- a slider's numbers lie between its Min, 0 where that isn't written, and its Max, 100 where that
+-- isn't
 abbrev pub least_of : Names → (ℕ → Data) → ℕ → Option ℤ
 least_of n values k = bound_of (property_value n values k (codes "Min") (number (pos 0)))
 
@@ -142,15 +156,19 @@ greatest_of n values k = bound_of (property_value n values k (codes "Max") (numb
 abbrev pub takes_input : ControlName → Bool
 takes_input c = is_some (input_type c.kind) && not (is_some c.gallery)
 
-abbrev pub input_at : Names → SessionState → (ℕ → Data) → Input → ℕ → Option ControlName → Result InputValue Refusal
+abbrev pub input_at : Names → SessionState → (ℕ → Data) → Input → ℕ → Option ControlName
+    → Result InputValue Refusal
 input_at n s values i k None = Err (plain 15)
 input_at n s values i k (Some c) =
-    or_refused (takes_input c) 16 (or_refused (is_shown_or_in_shown_gallery n s values k c) 17 (value_given_to k (input_by c.kind (least_of n values k) (greatest_of n values k) i.value)))
+    or_refused (takes_input c) 16 (or_refused (is_shown_or_in_shown_gallery n s values k c) 17
+    (value_given_to k (input_by c.kind (least_of n values k) (greatest_of n values k) i.value)))
 
-abbrev pub input_named : Names → SessionState → (ℕ → Data) → Input → Option ℕ → Result InputValue Refusal
+abbrev pub input_named : Names → SessionState → (ℕ → Data) → Input → Option ℕ
+    → Result InputValue Refusal
 input_named n s values i None = Err (plain 15)
 input_named n s values i (Some k) = input_at n s values i k (slice_get n.controls k)
 
--- THE checks of an input: no control (15), one that takes none (16), not shown (17), and a value that it doesn't take (20)
+-- THE checks of an input: no control (15), one that takes none (16), not shown (17), and a value
+-- that it doesn't take (20)
 abbrev pub input_target : Names → SessionState → (ℕ → Data) → Input → Result InputValue Refusal
 input_target n s values i = input_named n s values i (control_number i.control n)

@@ -1,5 +1,6 @@
 -- Which formula acts at which trigger, and whose item it sees.
-use Rattle.std.specs.Prelude.{ℕ, ◌==◌, ◌&&◌, Bool, true, false, List, codes, encode_utf8_all, bytes_eq, Option, None, slice_get}
+use Rattle.std.specs.Prelude.{ℕ, ◌==◌, ◌&&◌, Bool, true, false, List, codes, encode_utf8_all}
+use Rattle.std.specs.Prelude.{bytes_eq, Option, None, slice_get}
 use Rattle.std.specs.List.{position}
 use Rattle.recalc.specs.app_cells.Spots.{item_in}
 use Rattle.recalc.specs.app_cells.declared.app.App.{App}
@@ -10,7 +11,9 @@ use Rattle.fx_types.specs.Values.{Data}
 use Rattle.fx_semantics.specs.Sound.{IsItemFit}
 use Rattle.fx_typing.specs.Typing.{item_context}
 use Rattle.session_requests.specs.declared.trigger.Trigger.{Trigger}
-use Rattle.session_requests.specs.declared.trigger.Trigger.TheVariants.{OnStart, OnVisible, OnSelect, OnChange, OnCheck, OnUncheck}
+use Rattle.session_requests.specs.declared.trigger.Trigger.TheVariants.{OnStart, OnVisible}
+use Rattle.session_requests.specs.declared.trigger.Trigger.TheVariants.{OnSelect, OnChange, OnCheck}
+use Rattle.session_requests.specs.declared.trigger.Trigger.TheVariants.{OnUncheck}
 
 -- the property of this name of a control
 abbrev pub is_property_named : ℕ → List ℕ → Spot → Bool
@@ -38,7 +41,8 @@ is_at (OnUncheck k) s = is_property_named k (codes "OnUncheck") s
 abbrev pub cell_at : Trigger → App → Option ℕ
 cell_at t a = position (λ (c : CellInfo). is_at t c.cell.spot) a.cells
 
--- the gallery whose item a formula sees that acts of a control: the one in which the control stands, or the control itself
+-- the gallery whose item a formula sees that acts of a control: the one in which the control
+-- stands, or the control itself
 abbrev pub trigger_gallery : App → ℕ → List ℕ → Option ℕ
 trigger_gallery a k name = item_in k name (slice_get a.names.controls k)
 

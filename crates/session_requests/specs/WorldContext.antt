@@ -14,7 +14,8 @@ use Rattle.row_requests.specs.Sound.{AreSound}
 use Rattle.session_state.specs.Changes.{FitsNames}
 use Rattle.session_state.specs.Sessions.{SessionState}
 
--- what no change touches: the app, the moment, and the tables as the transaction began, where they are told
+-- what no change touches: the app, the moment, and the tables as the transaction began, where they
+-- are told
 pub record WorldContext : Type 0 where
   pub app : App
   pub moment : ℕ
@@ -31,9 +32,11 @@ state_on g t s ws = record { app = g; tables = t; session = s; wrote = ws }
 abbrev pub present_in : WorldState WorldContext → Present
 present_in s = present s.app.app s.session (Some (rows_of_tables s.tables.states)) s.app.moment
 
--- Values are fresh at the cell on which leans who reads a source, if there is one. A cell that isn't there is blank.
+-- Values are fresh at the cell on which leans who reads a source, if there is one. A cell that
+-- isn't there is blank.
 abbrev pub IsFreshBehind : Present → (ℕ → Data) → Source → Type 0
-IsFreshBehind p values x = (k : ℕ) → cell_behind p.app.names x ≡ Some k → IsFreshAt p values k × (slice_get p.app.cells k ≡ None → values k ≡ blank)
+IsFreshBehind p values x = (k : ℕ) → cell_behind p.app.names x ≡ Some k
+    → IsFreshAt p values k × (slice_get p.app.cells k ≡ None → values k ≡ blank)
 
 -- a state is one of an accepted app, which its session and its tables fit
 pub record IsFit (a : App) (s : SessionState) (t : Tables) : Type 0 where
@@ -41,9 +44,11 @@ pub record IsFit (a : App) (s : SessionState) (t : Tables) : Type 0 where
   pub session : FitsNames a.names s
   pub tables : AreSound a.names.schema (Some t)
 
--- WHAT A SOURCE GIVES in a state that fits: what it gives where the cell on which it leans has its fresh value
+-- WHAT A SOURCE GIVES in a state that fits: what it gives where the cell on which it leans has its
+-- fresh value
 abbrev pub source_gives : Giving WorldContext
-source_gives s x d = ∥ ((fit : IsFit s.app.app s.session s.tables) × (values : ℕ → Data) × IsFreshBehind (present_in s) values x × SourceGives (present_in s) values x d) ∥₁
+source_gives s x d = ∥ ((fit : IsFit s.app.app s.session s.tables) × (values : ℕ → Data)
+    × IsFreshBehind (present_in s) values x × SourceGives (present_in s) values x d) ∥₁
 
 -- the types of an app's sources, its tables and its row limit
 abbrev pub frame : App → EvalFrame

@@ -25,13 +25,17 @@ use Rattle.session_requests.specs.WorldContext.{WorldContext, state_on}
 abbrev pub IsNoTableSource : Source → Type 0
 IsNoTableSource x = (k : ℕ) → x ≡ source.Table k → ⊥
 
--- what a source that is no table is worth fits its type, where what is held and the values of cells fit
+-- what a source that is no table is worth fits its type, where what is held and the values of cells
+-- fit
 abbrev pub FitsAll : App → Type 0
 FitsAll a =
-    (s : SessionState) (moment : ℕ) (day : Data) (values : List Data) (x : Source) (t : Shape) → FitsNames a.names s → CellsFit a (cell_value values) → ∥ IsToday moment day ∥₁ →
-    IsNoTableSource x → sources a.names x ≡ Some t → fits_in (told_on day a.names s None (cell_value values) x) t ≡ true
+    (s : SessionState) (moment : ℕ) (day : Data) (values : List Data) (x : Source) (t : Shape)
+    → FitsNames a.names s → CellsFit a (cell_value values) → ∥ IsToday moment day ∥₁ →
+    IsNoTableSource x → sources a.names x ≡ Some t
+    → fits_in (told_on day a.names s None (cell_value values) x) t ≡ true
 
--- What no call changes. Beside the loans of session, cache, keeper and list of writes stands all on which the performing does.
+-- What no call changes. Beside the loans of session, cache, keeper and list of writes stands all on
+-- which the performing does.
 abbrev pub fixed_in : WorldIdentity → ℕ → ℕ → ℕ → ℕ → Option ℕ → Bool → Fixed
 fixed_in h session cache keeper wrote loan in_transaction = record {
   types = sources h.app.names;
@@ -42,7 +46,8 @@ fixed_in h session cache keeper wrote loan in_transaction = record {
 }
 
 -- on this day, where cells have these values
-abbrev pub told_in : Data → WorldContext → SessionState → List Data → List Source → Tables → EnvState (WorldState WorldContext)
+abbrev pub told_in : Data → WorldContext → SessionState → List Data → List Source → Tables
+    → EnvState (WorldState WorldContext)
 told_in day g s values wrote t = record {
   values = told_on day g.app.names s (Some (rows_of_tables t.states)) (cell_value values);
   tables = rows_of_tables t.states;

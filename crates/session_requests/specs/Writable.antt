@@ -16,7 +16,8 @@ use Rattle.session_requests.specs.declared.event.Event.{Event}
 use Rattle.session_requests.specs.declared.input.Input.{Input}
 use Rattle.session_requests.specs.declared.target.Target.{Target}
 use Rattle.session_requests.specs.declared.trigger.Trigger.{Trigger}
-use Rattle.session_requests.specs.declared.trigger.Trigger.TheVariants.{OnChange, OnCheck, OnSelect, OnUncheck, OnVisible}
+use Rattle.session_requests.specs.declared.trigger.Trigger.TheVariants.{OnChange, OnCheck, OnSelect}
+use Rattle.session_requests.specs.declared.trigger.Trigger.TheVariants.{OnUncheck, OnVisible}
 
 -- each of these sources is such a one
 abbrev pub AllSources : (Source → Type 0) → List Source → Type 0
@@ -26,7 +27,8 @@ AllSources P ws = (x : Source) → IsAmong x ws → P x
 
 -- the formula in the cell of this number may write the source, if there is one
 abbrev pub CellMayWrite : App → Option ℕ → Source → Type 0
-CellMayWrite a o x = (k : ℕ) × (c : CellInfo) × (o ≡ Some k) × (slice_get a.cells k ≡ Some c) × MayWrite c.core x
+CellMayWrite a o x = (k : ℕ) × (c : CellInfo) × (o ≡ Some k) × (slice_get a.cells k ≡ Some c)
+    × MayWrite c.core x
 
 -- the formula of a trigger may
 abbrev pub TriggerMayWrite : App → Trigger → Source → Type 0
@@ -46,7 +48,8 @@ EffectMayWrite a given trigger x = IsAmong x given ⊎ RequestMayWrite a trigger
 
 -- ---- events
 
--- an event that was let through may write what it chooses, and what the `OnSelect` of its control may
+-- an event that was let through may write what it chooses, and what the `OnSelect` of its control
+-- may
 abbrev pub TargetMayWrite : App → Result Target Refusal → Source → Type 0
 TargetMayWrite a (Err r) x = ⊥
 TargetMayWrite a (Ok t) x = EffectMayWrite a (item_chosen t.item) (OnSelect t.control) x
@@ -55,16 +58,20 @@ TargetMayWrite a (Ok t) x = EffectMayWrite a (item_chosen t.item) (OnSelect t.co
 abbrev pub IsChosenOf : Option ℕ → Source → Type 0
 IsChosenOf o x = (gallery : ℕ) × (o ≡ Some gallery) × (x ≡ source.Chosen gallery)
 
--- AN EVENT MAY WRITE the chosen item of the gallery around its control, and what the `OnSelect` of the control may
+-- AN EVENT MAY WRITE the chosen item of the gallery around its control, and what the `OnSelect` of
+-- the control may
 abbrev pub EventMayWrite : App → Event → Source → Type 0
 EventMayWrite a e x =
-    (k : ℕ) × (c : ControlName) × (control_number e.control a.names ≡ Some k) × (slice_get a.names.controls k ≡ Some c) × (IsChosenOf (event_gallery k c) x ⊎ RequestMayWrite a (OnSelect k) x)
+    (k : ℕ) × (c : ControlName) × (control_number e.control a.names ≡ Some k)
+    × (slice_get a.names.controls k ≡ Some c)
+    × (IsChosenOf (event_gallery k c) x ⊎ RequestMayWrite a (OnSelect k) x)
 
 -- ---- inputs
 
 -- what is given to a control may be written, and what its `OnChange`, `OnCheck` and `OnUncheck` may
 abbrev pub ControlMayWrite : App → ℕ → Source → Type 0
-ControlMayWrite a k x = (x ≡ source.Input k) ⊎ (RequestMayWrite a (OnChange k) x ⊎ (RequestMayWrite a (OnCheck k) x ⊎ RequestMayWrite a (OnUncheck k) x))
+ControlMayWrite a k x = (x ≡ source.Input k) ⊎ (RequestMayWrite a (OnChange k) x
+    ⊎ (RequestMayWrite a (OnCheck k) x ⊎ RequestMayWrite a (OnUncheck k) x))
 
 -- so it is of an input that was let through
 abbrev pub GivenMayWrite : App → Result InputValue Refusal → Source → Type 0

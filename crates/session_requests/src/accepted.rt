@@ -2,8 +2,8 @@
 use crate::app_cells::App;
 use std::marker::Model;
 
-/// An app that is known to be sound. A world has it as a type parameter, since the ends of its loans would not be known beside a
-/// reference within a model.
+/// An app that is known to be sound. A world has it as a type parameter, since the ends of its
+/// loans would not be known beside a reference within a model.
 pub(crate) trait SoundApp {
     ghost use Rattle.std.specs.Prelude.{◌≡◌};
     ghost use Rattle.recalc.specs.app_cells.declared.app.App.{App};

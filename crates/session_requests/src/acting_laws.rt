@@ -8,7 +8,8 @@ use fx_tables::row_calls::{
     count_if_once, count_once, greatest_once, least_once, sort_once, sum_once,
 };
 
-/// A law, and no work: a behaviour formula does one thing at most, whatever the tables were as the transaction began.
+/// A law, and no work: a behaviour formula does one thing at most, whatever the tables were as the
+/// transaction began.
 pub fn one_acting()
     ensures { OneActing }
 {

@@ -3,7 +3,8 @@ ghost use Rattle.std.specs.List.{Contains};
 ghost use Rattle.std.specs.Prelude.{◌≡◌, ℕ, IfOk, OnOk, Some, codes, true};
 ghost use Rattle.recalc.specs.app_cells.Leaning.{default_cell};
 ghost use Rattle.recalc.specs.app_semantics.Needed.{is_alone};
-ghost use Rattle.session_requests.specs.Posting.{IsPropertyAt, VisibleLeansOn, shown_by as shown_by_of};
+ghost use Rattle.session_requests.specs.Posting.{IsPropertyAt, VisibleLeansOn};
+ghost use Rattle.session_requests.specs.Posting.{shown_by as shown_by_of};
 
 use crate::app_cells::App;
 use crate::refresh_inputs::{cells_behind, has_value};
@@ -23,9 +24,11 @@ fn shown_by(app: &App, control: u32) -> u32
 /// Adds a cell, if there is one that has a value by itself.
 fn add(app: &App, cells: &mut Vec<u32>, cell: Option<u32>) -> Result<(), Memory>
     requires alone { (d : ℕ) → Contains cells.old.items d → is_alone app.now.cells d ≡ true }
-    ensures alone { OnOk result ((d : ℕ) → Contains cells.new.items d → is_alone app.now.cells d ≡ true) }
+    ensures alone { OnOk result ((d : ℕ) → Contains cells.new.items d
+        → is_alone app.now.cells d ≡ true) }
     ensures still { OnOk result ((d : ℕ) → Contains cells.old.items d → Contains cells.new.items d) }
-    ensures added { OnOk result ((d : ℕ) → cell ≡ Some d → is_alone app.now.cells d ≡ true → Contains cells.new.items d) }
+    ensures added { OnOk result ((d : ℕ) → cell ≡ Some d → is_alone app.now.cells d ≡ true
+        → Contains cells.new.items d) }
 {
     match cell {
         Some(number) if has_value(app, number) => {
@@ -36,10 +39,13 @@ fn add(app: &App, cells: &mut Vec<u32>, cell: Option<u32>) -> Result<(), Memory>
     }
 }
 
-/// The cells on which the formula leans that says whether a control is visible, as far as they have values by themselves.
+/// The cells on which the formula leans that says whether a control is visible, as far as they have
+/// values by themselves.
 fn leaned_on(alloc: Global, app: &App, control: u32) -> Result<Vec<u32>, Memory>
-    ensures alone { IfOk result (λ v. (d : ℕ) → Contains v.items d → is_alone app.now.cells d ≡ true) }
-    ensures leaned { IfOk result (λ v. (d : ℕ) → VisibleLeansOn app.now control d → is_alone app.now.cells d ≡ true → Contains v.items d) }
+    ensures alone { IfOk result (λ v. (d : ℕ) → Contains v.items d
+        → is_alone app.now.cells d ≡ true) }
+    ensures leaned { IfOk result (λ v. (d : ℕ) → VisibleLeansOn app.now control d
+        → is_alone app.now.cells d ≡ true → Contains v.items d) }
 {
     let Some(visible) = cell_of_property(&app.names, control, "Visible") else {
         return Ok(Vec::new(alloc));
@@ -50,12 +56,19 @@ fn leaned_on(alloc: Global, app: &App, control: u32) -> Result<Vec<u32>, Memory>
     }
 }
 
-/// The cells at which the checks of an event of a control look, as far as they have values by themselves.
+/// The cells at which the checks of an event of a control look, as far as they have values by
+/// themselves.
 pub(crate) fn event_cells(alloc: Global, app: &App, control: u32) -> Result<Vec<u32>, Memory>
-    ensures alone { IfOk result (λ v. (d : ℕ) → Contains v.items d → is_alone app.now.cells d ≡ true) }
-    ensures shown { IfOk result (λ v. (d : ℕ) → IsPropertyAt app.now (shown_by_of app.now control) (codes "Visible") d → is_alone app.now.cells d ≡ true → Contains v.items d) }
-    ensures items { IfOk result (λ v. (d : ℕ) → IsPropertyAt app.now (shown_by_of app.now control) (codes "Items") d → is_alone app.now.cells d ≡ true → Contains v.items d) }
-    ensures leaned { IfOk result (λ v. (d : ℕ) → VisibleLeansOn app.now control d → is_alone app.now.cells d ≡ true → Contains v.items d) }
+    ensures alone { IfOk result (λ v. (d : ℕ) → Contains v.items d
+        → is_alone app.now.cells d ≡ true) }
+    ensures shown { IfOk result (λ v. (d : ℕ)
+        → IsPropertyAt app.now (shown_by_of app.now control) (codes "Visible") d
+        → is_alone app.now.cells d ≡ true → Contains v.items d) }
+    ensures items { IfOk result (λ v. (d : ℕ)
+        → IsPropertyAt app.now (shown_by_of app.now control) (codes "Items") d
+        → is_alone app.now.cells d ≡ true → Contains v.items d) }
+    ensures leaned { IfOk result (λ v. (d : ℕ) → VisibleLeansOn app.now control d
+        → is_alone app.now.cells d ≡ true → Contains v.items d) }
 {
     let names = &app.names;
     let around = shown_by(app, control);
@@ -67,11 +80,17 @@ pub(crate) fn event_cells(alloc: Global, app: &App, control: u32) -> Result<Vec<
 
 /// The same of the checks of an input.
 pub(crate) fn input_cells(alloc: Global, app: &App, control: u32) -> Result<Vec<u32>, Memory>
-    ensures alone { IfOk result (λ v. (d : ℕ) → Contains v.items d → is_alone app.now.cells d ≡ true) }
-    ensures shown { IfOk result (λ v. (d : ℕ) → IsPropertyAt app.now (shown_by_of app.now control) (codes "Visible") d → is_alone app.now.cells d ≡ true → Contains v.items d) }
-    ensures least { IfOk result (λ v. (d : ℕ) → IsPropertyAt app.now control (codes "Min") d → is_alone app.now.cells d ≡ true → Contains v.items d) }
-    ensures greatest { IfOk result (λ v. (d : ℕ) → IsPropertyAt app.now control (codes "Max") d → is_alone app.now.cells d ≡ true → Contains v.items d) }
-    ensures unset { IfOk result (λ v. (d : ℕ) → default_cell app.now.names control ≡ Some d → is_alone app.now.cells d ≡ true → Contains v.items d) }
+    ensures alone { IfOk result (λ v. (d : ℕ) → Contains v.items d
+        → is_alone app.now.cells d ≡ true) }
+    ensures shown { IfOk result (λ v. (d : ℕ)
+        → IsPropertyAt app.now (shown_by_of app.now control) (codes "Visible") d
+        → is_alone app.now.cells d ≡ true → Contains v.items d) }
+    ensures least { IfOk result (λ v. (d : ℕ) → IsPropertyAt app.now control (codes "Min") d
+        → is_alone app.now.cells d ≡ true → Contains v.items d) }
+    ensures greatest { IfOk result (λ v. (d : ℕ) → IsPropertyAt app.now control (codes "Max") d
+        → is_alone app.now.cells d ≡ true → Contains v.items d) }
+    ensures unset { IfOk result (λ v. (d : ℕ) → default_cell app.now.names control ≡ Some d
+        → is_alone app.now.cells d ≡ true → Contains v.items d) }
 {
     let names = &app.names;
     let around = shown_by(app, control);

@@ -7,7 +7,16 @@ ghost use Rattle.numbered_requests.specs.Replies.{is_plain_refusal, plain as pla
 ghost use Rattle.view_text.specs.RefusalText.{Fits};
 ghost use Rattle.session_requests.specs.Shown.{cell_values};
 ghost use Rattle.session_requests.specs.declared.input.Input.{Input as InputBody};
-ghost use Rattle.session_requests.specs.Targets.{event_at, event_target as event_target_of, event_gallery as gallery_of_control, has_event as has_event_of, input_at, input_by as input_by_kind, input_target as input_target_of, is_in_bounds as is_within_bounds, control_takes as takes_of, takes_input as takes_input_of, unless_moved as unless_moved_of, with_item as with_item_of};
+ghost use Rattle.session_requests.specs.Targets.{event_at, event_target as event_target_of};
+ghost use Rattle.session_requests.specs.Targets.{event_gallery as gallery_of_control};
+ghost use Rattle.session_requests.specs.Targets.{has_event as has_event_of, input_at};
+ghost use Rattle.session_requests.specs.Targets.{input_by as input_by_kind};
+ghost use Rattle.session_requests.specs.Targets.{input_target as input_target_of};
+ghost use Rattle.session_requests.specs.Targets.{is_in_bounds as is_within_bounds};
+ghost use Rattle.session_requests.specs.Targets.{control_takes as takes_of};
+ghost use Rattle.session_requests.specs.Targets.{takes_input as takes_input_of};
+ghost use Rattle.session_requests.specs.Targets.{unless_moved as unless_moved_of};
+ghost use Rattle.session_requests.specs.Targets.{with_item as with_item_of};
 
 use crate::event::{Event, Place};
 use crate::input::{Given, Input};
@@ -40,7 +49,8 @@ pub(crate) fn plain(code: u8) -> Refusal
     }
 }
 
-/// The gallery whose item an event of a control has: the one in which it stands, or the control itself.
+/// The gallery whose item an event of a control has: the one in which it stands, or the control
+/// itself.
 fn gallery_of(number: u32, control: &ControlName) -> Option<u32>
     ensures { result ≡ gallery_of_control number control.now }
 {
@@ -79,7 +89,8 @@ fn item_at(
     id: &Words,
 ) -> Result<Target, Refusal>
     requires { id.now ≡ id_name }
-    ensures is { result ≡ with_item_of names.now (cell_values values.now) control (Some place) (Some gallery) }
+    ensures is { result ≡ with_item_of names.now (cell_values values.now) control (Some place)
+        (Some gallery) }
     ensures detail { IfErr result (λ r. Fits r.code r.detail) }
 {
     match item_row(names, values, gallery, place.at) {
@@ -111,7 +122,8 @@ fn target_at(
     id: &Words,
 ) -> Result<Target, Refusal>
     requires { id.now ≡ id_name }
-    ensures is { (s : SessionState) → s.screen ≡ screen → result ≡ event_at names.now s (cell_values values.now) event.now number (Some control.now) }
+    ensures is { (s : SessionState) → s.screen ≡ screen
+        → result ≡ event_at names.now s (cell_values values.now) event.now number (Some control.now) }
     ensures detail { IfErr result (λ r. Fits r.code r.detail) }
 {
     if !has_event(event, control.kind) {
@@ -130,8 +142,9 @@ fn target_at(
     }
 }
 
-/// What an event acts on: there is such a control (15) with this event (16), it is shown (17), and the item is one (18) whose
-/// row has the id that is given (19). `id` is the name of the column that numbers rows.
+/// What an event acts on: there is such a control (15) with this event (16), it is shown (17), and
+/// the item is one (18) whose row has the id that is given (19). `id` is the name of the column
+/// that numbers rows.
 pub(crate) fn event_target(
     names: &Names,
     screen: u32,
@@ -141,7 +154,8 @@ pub(crate) fn event_target(
 ) -> Result<Target, Refusal>
     requires lawful { length names.now.controls < 2 ^ 32 }
     requires id { id.now ≡ id_name }
-    ensures is { (s : SessionState) → s.screen ≡ screen → result ≡ event_target_of names.now s (cell_values values.now) event.now }
+    ensures is { (s : SessionState) → s.screen ≡ screen
+        → result ≡ event_target_of names.now s (cell_values values.now) event.now }
     ensures detail { IfErr result (λ r. Fits r.code r.detail) }
 {
     match control_named(names, &event.control) {
@@ -208,7 +222,8 @@ fn given_at(
     control: &ControlName,
     given: Given,
 ) -> Result<(u32, Given), Refusal>
-    ensures is { (s : SessionState) (i : InputBody) → s.screen ≡ screen → i.value ≡ given → result ≡ input_at names.now s (cell_values values.now) i number (Some control.now) }
+    ensures is { (s : SessionState) (i : InputBody) → s.screen ≡ screen → i.value ≡ given
+        → result ≡ input_at names.now s (cell_values values.now) i number (Some control.now) }
     ensures detail { IfErr result (λ r. Fits r.code r.detail) }
 {
     if !takes_input(control) {
@@ -223,8 +238,8 @@ fn given_at(
     Ok((number, given))
 }
 
-/// The number of the control that an input is of, and what its user then gave: there is such a control (15) that takes input
-/// (16), it is shown (17), and it takes the value (20).
+/// The number of the control that an input is of, and what its user then gave: there is such a
+/// control (15) that takes input (16), it is shown (17), and it takes the value (20).
 pub(crate) fn input_target(
     names: &Names,
     screen: u32,
@@ -232,7 +247,8 @@ pub(crate) fn input_target(
     input: Input,
 ) -> Result<(u32, Given), Refusal>
     requires { length names.now.controls < 2 ^ 32 }
-    ensures is { (s : SessionState) → s.screen ≡ screen → result ≡ input_target_of names.now s (cell_values values.now) input }
+    ensures is { (s : SessionState) → s.screen ≡ screen
+        → result ≡ input_target_of names.now s (cell_values values.now) input }
     ensures detail { IfErr result (λ r. Fits r.code r.detail) }
 {
     match control_named(names, &input.control) {

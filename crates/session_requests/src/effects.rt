@@ -1,6 +1,7 @@
 //! What an event or an input that passed its checks does.
 ghost use Rattle.std.specs.Option.{option_to_list};
-ghost use Rattle.std.specs.Prelude.{◌≡◌, ◌<◌, ◌++◌, [], IfErr, IfOk, IfSome, IsSome, OnErr, OnOk, Some, false, length, option_map, vec_capacity, vec_len};
+ghost use Rattle.std.specs.Prelude.{◌≡◌, ◌<◌, ◌++◌, [], IfErr, IfOk, IfSome, IsSome, OnErr, OnOk};
+ghost use Rattle.std.specs.Prelude.{Some, false, length, option_map, vec_capacity, vec_len};
 ghost use Rattle.fx_base.specs.Silence.{SilenceCause};
 ghost use Rattle.fx_base.specs.Telling.{Stays};
 ghost use Rattle.fx_types.specs.ValueView.{view};
@@ -20,12 +21,20 @@ ghost use Rattle.numbered_requests.specs.Directory.{find};
 ghost use Rattle.recalc.specs.app_cells.declared.app.App.{App as AnApp};
 ghost use Rattle.session_state.specs.Sessions.{SessionState};
 ghost use Rattle.session_requests.specs.Caching.{AreSources, IsCached, IsTouchedIf};
-ghost use Rattle.session_requests.specs.Acting.{EffectWrites, EndsEvent, EndsInput, EventWrites, InputWrites, IsBefore, TakesEffect, session_answered, item_chosen as chosen_by_item, input_trigger as input_trigger_of, item_seen as item_seen_of, trigger_of as trigger_of_kind, with_input, with_target};
+ghost use Rattle.session_requests.specs.Acting.{EffectWrites, EndsEvent, EndsInput, EventWrites};
+ghost use Rattle.session_requests.specs.Acting.{InputWrites, IsBefore, TakesEffect};
+ghost use Rattle.session_requests.specs.Acting.{session_answered, item_chosen as chosen_by_item};
+ghost use Rattle.session_requests.specs.Acting.{input_trigger as input_trigger_of};
+ghost use Rattle.session_requests.specs.Acting.{item_seen as item_seen_of};
+ghost use Rattle.session_requests.specs.Acting.{trigger_of as trigger_of_kind, with_input};
+ghost use Rattle.session_requests.specs.Acting.{with_target};
 ghost use Rattle.session_requests.specs.Posting.{SessionsFit};
 ghost use Rattle.session_requests.specs.Shown.{cell_values};
 ghost use Rattle.session_requests.specs.Targets.{IsTarget, input_target};
-ghost use Rattle.session_requests.specs.WrittenWhole.{GivenAndWrites, InputGivenWrites, IsInAll, TargetWrites};
-ghost use Rattle.session_requests.specs.Writable.{AllSources, EffectMayWrite, GivenMayWrite, TargetMayWrite};
+ghost use Rattle.session_requests.specs.WrittenWhole.{GivenAndWrites, InputGivenWrites, IsInAll};
+ghost use Rattle.session_requests.specs.WrittenWhole.{TargetWrites};
+ghost use Rattle.session_requests.specs.Writable.{AllSources, EffectMayWrite, GivenMayWrite};
+ghost use Rattle.session_requests.specs.Writable.{TargetMayWrite};
 ghost use Rattle.session_requests.specs.declared.input.Input.{Input as Asked};
 ghost use Rattle.view_text.specs.RefusalText.{Fits};
 ghost use Rattle.row_keeper.specs.Over.{Becomes, HasCause};
@@ -119,7 +128,8 @@ fn input_trigger(
     control: u32,
 ) -> Result<Trigger, Memory>
     requires { Holds session.now (source.Input control) }
-    ensures { IfOk result (λ t. t ≡ input_trigger_of names.now session.now (cached_value cache.now) control) }
+    ensures { IfOk result (λ t. t ≡ input_trigger_of names.now session.now (cached_value cache.now)
+        control) }
 {
     let value = cache.values().input(alloc, names, session, control)?;
     let checked = is_true(Some(&value));
@@ -136,7 +146,8 @@ fn row_of(
     values: &[Value],
     item: Option<Item>,
 ) -> Result<Option<Value>, Memory>
-    ensures { IfOk result (λ o. option_map view o ≡ item_seen_of names.now (cell_values values.now) item) }
+    ensures { IfOk result (λ o. option_map view o
+        ≡ item_seen_of names.now (cell_values values.now) item) }
 {
     let Some(item) = item else {
         return Ok(None);
@@ -157,12 +168,14 @@ fn item_seen(
     cache: &Cache,
     item: Option<Item>,
 ) -> Result<Option<Value>, Memory>
-    ensures { IfOk result (λ o. option_map view o ≡ item_seen_of names.now (cached_value cache.now) item) }
+    ensures { IfOk result (λ o. option_map view o
+        ≡ item_seen_of names.now (cached_value cache.now) item) }
 {
     row_of(alloc, names, cache.values().as_slice(), item)
 }
 
-/// Ends an input of a session whose formulas have these values: what is accepted acts, and what is refused leaves all.
+/// Ends an input of a session whose formulas have these values: what is accepted acts, and what is
+/// refused leaves all.
 #[tactic(auto, using(recalc::proofs::Leaving::left_same))]
 pub(crate) fn end_input<K: Keeper, L: Ledger>(
     alloc: Global,
@@ -181,7 +194,8 @@ pub(crate) fn end_input<K: Keeper, L: Ledger>(
 ) -> Result<Reply, KeeperEnd>
     requires sound { IsSoundApp app.now }
     requires fits { FitsNames app.now.names session }
-    requires verdict { (i : Asked) × (verdict ≡ input_target app.now.names session (cached_value cache.old) i) }
+    requires verdict { (i : Asked) × (verdict
+        ≡ input_target app.now.names session (cached_value cache.old) i) }
     requires detail { IfErr verdict (λ r. Fits r.code r.detail) }
     requires fit { SessionsFit app.now.names sessions.old.items }
     requires kept { SessionsKeepReplies sessions.old.items }
@@ -191,7 +205,10 @@ pub(crate) fn end_input<K: Keeper, L: Ledger>(
     requires found { find name.now sessions.old.items ≡ Some session }
     requires cached { IsCached app.now session (K.told keeper.old) moment cache.old }
     requires wrote { wrote.old.items ≡ [] }
-    ensures done { IfOk result (λ r. EndsInput (SilenceCause (K.marks keeper.old) (K.marks keeper.new)) app.now moment name.now body.now seq session (cached_value cache.old) verdict (K.told keeper.old) sessions.old.items (said r) (K.told keeper.new) sessions.new.items) }
+    ensures done { IfOk result (λ r. EndsInput
+        (SilenceCause (K.marks keeper.old) (K.marks keeper.new)) app.now moment name.now body.now
+        seq session (cached_value cache.old) verdict (K.told keeper.old) sessions.old.items (said r)
+        (K.told keeper.new) sessions.new.items) }
     ensures whole { IfOk result IsReply }
     ensures stopped { OnErr result (sessions.new.items ≡ sessions.old.items) }
     ensures left { OnErr result (Becomes K.Keeper keeper.old keeper.new Stays) }
@@ -201,15 +218,19 @@ pub(crate) fn end_input<K: Keeper, L: Ledger>(
     ensures shaped { K.shaped keeper.new ≡ Some app.now.names.schema }
     ensures idle { K.in_transaction keeper.new ≡ false }
     ensures cause { HasCause K.Keeper keeper.old keeper.new result }
-    ensures cached { (s : SessionState) → find name.now sessions.new.items ≡ Some s → IsCached app.now s (K.told keeper.new) moment cache.new }
+    ensures cached { (s : SessionState) → find name.now sessions.new.items ≡ Some s
+        → IsCached app.now s (K.told keeper.new) moment cache.new }
     ensures tables { Becomes K.Keeper keeper.old keeper.new (SameTablesExcept wrote.new.items) }
     ensures sources { AreSources app.now.names wrote.new.items }
     ensures clean { StaysCleanExcept app.now wrote.new.items cache.old cache.new }
-    ensures wrote { IfOk result (λ r. InputWrites (SilenceCause (K.marks keeper.old) (K.marks keeper.new)) app.now moment session (cached_value cache.old) verdict (K.told keeper.old) (K.told keeper.new) wrote.new.items) }
+    ensures wrote { IfOk result (λ r. InputWrites
+        (SilenceCause (K.marks keeper.old) (K.marks keeper.new)) app.now moment session
+        (cached_value cache.old) verdict (K.told keeper.old) (K.told keeper.new) wrote.new.items) }
     ensures only { Becomes K.Keeper keeper.old keeper.new
         (λ t u. AllSources (GivenMayWrite app.now verdict) wrote.new.items) }
     ensures cut { OnErr result (Becomes K.Keeper keeper.old keeper.new
-        (λ t u. AllSources (IsInAll (InputGivenWrites app.now moment session (cached_value cache.old) verdict t)) wrote.new.items)) }
+        (λ t u. AllSources (IsInAll (InputGivenWrites app.now moment session
+        (cached_value cache.old) verdict t)) wrote.new.items)) }
     ensures loan { K.loan keeper.new ≡ K.loan keeper.old }
 {
     match verdict {
@@ -226,7 +247,8 @@ pub(crate) fn end_input<K: Keeper, L: Ledger>(
     }
 }
 
-/// Ends an event of a session whose formulas have these values: what is accepted acts, and what is refused leaves all.
+/// Ends an event of a session whose formulas have these values: what is accepted acts, and what is
+/// refused leaves all.
 #[tactic(auto, using(recalc::proofs::Leaving::left_same))]
 pub(crate) fn end_event<K: Keeper, L: Ledger>(
     alloc: Global,
@@ -255,7 +277,10 @@ pub(crate) fn end_event<K: Keeper, L: Ledger>(
     requires found { find name.now sessions.old.items ≡ Some session }
     requires cached { IsCached app.now session (K.told keeper.old) moment cache.old }
     requires wrote { wrote.old.items ≡ [] }
-    ensures done { IfOk result (λ r. EndsEvent (SilenceCause (K.marks keeper.old) (K.marks keeper.new)) app.now moment name.now body.now seq session (cached_value cache.old) verdict (K.told keeper.old) sessions.old.items (said r) (K.told keeper.new) sessions.new.items) }
+    ensures done { IfOk result (λ r. EndsEvent
+        (SilenceCause (K.marks keeper.old) (K.marks keeper.new)) app.now moment name.now body.now
+        seq session (cached_value cache.old) verdict (K.told keeper.old) sessions.old.items (said r)
+        (K.told keeper.new) sessions.new.items) }
     ensures whole { IfOk result IsReply }
     ensures stopped { OnErr result (sessions.new.items ≡ sessions.old.items) }
     ensures left { OnErr result (Becomes K.Keeper keeper.old keeper.new Stays) }
@@ -265,15 +290,19 @@ pub(crate) fn end_event<K: Keeper, L: Ledger>(
     ensures shaped { K.shaped keeper.new ≡ Some app.now.names.schema }
     ensures idle { K.in_transaction keeper.new ≡ false }
     ensures cause { HasCause K.Keeper keeper.old keeper.new result }
-    ensures cached { (s : SessionState) → find name.now sessions.new.items ≡ Some s → IsCached app.now s (K.told keeper.new) moment cache.new }
+    ensures cached { (s : SessionState) → find name.now sessions.new.items ≡ Some s
+        → IsCached app.now s (K.told keeper.new) moment cache.new }
     ensures tables { Becomes K.Keeper keeper.old keeper.new (SameTablesExcept wrote.new.items) }
     ensures sources { AreSources app.now.names wrote.new.items }
     ensures clean { StaysCleanExcept app.now wrote.new.items cache.old cache.new }
-    ensures wrote { IfOk result (λ r. EventWrites (SilenceCause (K.marks keeper.old) (K.marks keeper.new)) app.now moment session (cached_value cache.old) verdict (K.told keeper.old) (K.told keeper.new) wrote.new.items) }
+    ensures wrote { IfOk result (λ r. EventWrites
+        (SilenceCause (K.marks keeper.old) (K.marks keeper.new)) app.now moment session
+        (cached_value cache.old) verdict (K.told keeper.old) (K.told keeper.new) wrote.new.items) }
     ensures only { Becomes K.Keeper keeper.old keeper.new
         (λ t u. AllSources (TargetMayWrite app.now verdict) wrote.new.items) }
     ensures cut { OnErr result (Becomes K.Keeper keeper.old keeper.new
-        (λ t u. AllSources (IsInAll (TargetWrites app.now moment session (cached_value cache.old) verdict t)) wrote.new.items)) }
+        (λ t u. AllSources (IsInAll (TargetWrites app.now moment session (cached_value cache.old)
+        verdict t)) wrote.new.items)) }
     ensures loan { K.loan keeper.new ≡ K.loan keeper.old }
 {
     match verdict {
@@ -312,8 +341,8 @@ struct Entry {
     body: Vec<u8>,
 }
 
-/// Takes the memory that an accepted request is kept in, so that keeping it takes none, and tells the cache of what was given or
-/// chosen.
+/// Takes the memory that an accepted request is kept in, so that keeping it takes none, and tells
+/// the cache of what was given or chosen.
 fn make_room(
     alloc: Global,
     app: &App,
@@ -340,8 +369,9 @@ fn make_room(
     Ok(Entry { name, body })
 }
 
-/// Does what an accepted request does to its session, in which what is given or chosen stands already: it acts, is answered and
-/// is kept. What stops leaves the sessions and the tables, and the cache of the session then stands as it was.
+/// Does what an accepted request does to its session, in which what is given or chosen stands
+/// already: it acts, is answered and is kept. What stops leaves the sessions and the tables, and
+/// the cache of the session then stands as it was.
 #[tactic(auto, using(recalc::proofs::Leaving::left_same))]
 fn take_effect<K: Keeper, L: Ledger>(
     alloc: Global,
@@ -368,10 +398,14 @@ fn take_effect<K: Keeper, L: Ledger>(
     requires shaped { K.shaped keeper.old ≡ Some app.now.names.schema }
     requires rows { AreSound app.now.names.schema (K.told keeper.old) }
     requires idle { K.in_transaction keeper.old ≡ false }
-    requires before { IsBefore app.now name.now (option_to_list given) session (K.told keeper.old) moment cache.old sessions.old.items }
+    requires before { IsBefore app.now name.now (option_to_list given) session (K.told keeper.old)
+        moment cache.old sessions.old.items }
     requires given { AreSources app.now.names (option_to_list given) }
     requires wrote { wrote.old.items ≡ [] }
-    ensures done { IfOk result (λ r. TakesEffect (SilenceCause (K.marks keeper.old) (K.marks keeper.new)) app.now moment trigger (option_map view item) name.now body.now seq session (K.told keeper.old) sessions.old.items (said r) (K.told keeper.new) sessions.new.items) }
+    ensures done { IfOk result (λ r. TakesEffect
+        (SilenceCause (K.marks keeper.old) (K.marks keeper.new)) app.now moment trigger
+        (option_map view item) name.now body.now seq session (K.told keeper.old) sessions.old.items
+        (said r) (K.told keeper.new) sessions.new.items) }
     ensures whole { IfOk result IsReply }
     ensures stopped { OnErr result (sessions.new.items ≡ sessions.old.items) }
     ensures left { OnErr result (Becomes K.Keeper keeper.old keeper.new Stays) }
@@ -381,15 +415,20 @@ fn take_effect<K: Keeper, L: Ledger>(
     ensures shaped { K.shaped keeper.new ≡ Some app.now.names.schema }
     ensures idle { K.in_transaction keeper.new ≡ false }
     ensures cause { HasCause K.Keeper keeper.old keeper.new result }
-    ensures cached { (s : SessionState) → find name.now sessions.new.items ≡ Some s → IsCached app.now s (K.told keeper.new) moment cache.new }
+    ensures cached { (s : SessionState) → find name.now sessions.new.items ≡ Some s
+        → IsCached app.now s (K.told keeper.new) moment cache.new }
     ensures tables { Becomes K.Keeper keeper.old keeper.new (SameTablesExcept wrote.new.items) }
     ensures sources { AreSources app.now.names wrote.new.items }
     ensures clean { StaysCleanExcept app.now wrote.new.items cache.old cache.new }
-    ensures wrote { IfOk result (λ r. EffectWrites (SilenceCause (K.marks keeper.old) (K.marks keeper.new)) app.now moment trigger (option_map view item) (option_to_list given) session (K.told keeper.old) (K.told keeper.new) wrote.new.items) }
+    ensures wrote { IfOk result (λ r. EffectWrites
+        (SilenceCause (K.marks keeper.old) (K.marks keeper.new)) app.now moment trigger
+        (option_map view item) (option_to_list given) session (K.told keeper.old)
+        (K.told keeper.new) wrote.new.items) }
     ensures only { Becomes K.Keeper keeper.old keeper.new
         (λ t u. AllSources (EffectMayWrite app.now (option_to_list given) trigger) wrote.new.items) }
     ensures cut { OnErr result (Becomes K.Keeper keeper.old keeper.new
-        (λ t u. AllSources (IsInAll (GivenAndWrites app.now moment trigger (option_map view item) (option_to_list given) session t)) wrote.new.items)) }
+        (λ t u. AllSources (IsInAll (GivenAndWrites app.now moment trigger (option_map view item)
+        (option_to_list given) session t)) wrote.new.items)) }
     ensures loan { K.loan keeper.new ≡ K.loan keeper.old }
 {
     let entry = make_room(alloc, app, sessions, cache, name, body, wrote, given)?;
@@ -412,7 +451,8 @@ fn keep(
 ) -> Reply
     requires room { vec_len sessions.old < vec_capacity sessions.old }
     ensures reply { result ≡ accepted.reply }
-    ensures kept { sessions.new.items ≡ put_into name (session_answered seq body.items accepted.kept.items accepted.session) sessions.old.items }
+    ensures kept { sessions.new.items ≡ put_into name
+        (session_answered seq body.items accepted.kept.items accepted.session) sessions.old.items }
 {
     let Accepted {
         mut session,

@@ -2,7 +2,9 @@
 ghost use Rattle.std.specs.Prelude.{◌≡◌, ◌≤◌, IfOk, IfSome, codes, option_and_then};
 ghost use Rattle.serde_json.specs.Find.{get};
 ghost use Rattle.serde_json.specs.View.{view as json_view};
-ghost use Rattle.session_requests.specs.Bodies.{IsSoundEvent, event_in, event_with as event_of, id_at as id_at_key, is_null, place_member as place_of};
+ghost use Rattle.session_requests.specs.Bodies.{IsSoundEvent, event_in, event_with as event_of};
+ghost use Rattle.session_requests.specs.Bodies.{id_at as id_at_key, is_null};
+ghost use Rattle.session_requests.specs.Bodies.{place_member as place_of};
 
 use fx_base::Memory;
 use fx_types::Words;

@@ -10,12 +10,14 @@ pub fn leaves_others()
     ensures { LeavesOthers }
 {}
 
-/// A law, and no work: the last accepted request of a session, when it comes again, gets the kept reply and acts no more.
+/// A law, and no work: the last accepted request of a session, when it comes again, gets the kept
+/// reply and acts no more.
 pub fn acts_once()
     ensures { RequestActsOnce }
 {}
 
-/// A law, and no work: what a session sends has one outcome where tables are told, and the reply hangs on no other session.
+/// A law, and no work: what a session sends has one outcome where tables are told, and the reply
+/// hangs on no other session.
 pub fn one_outcome()
     ensures { IsOneOutcome }
 {

@@ -1,8 +1,10 @@
-//! The requests of sessions: what is shown to one, what it sends, and what the formulas of an app then do.
+//! The requests of sessions: what is shown to one, what it sends, and what the formulas of an app
+//! then do.
 //!
-//! `specs/Performing` says what performing a behaviour formula does: `PerformsCell` takes the tables and the session to others, with a
-//! value, and with the sources that were written. What sources give meanwhile says `source_gives` of `specs/WorldContext`: cells have fresh
-//! values over what is there at each moment, so that what a formula writes is seen by all that it reads later.
+//! `specs/Performing` says what performing a behaviour formula does: `PerformsCell` takes the
+//! tables and the session to others, with a value, and with the sources that were written. What
+//! sources give meanwhile says `source_gives` of `specs/WorldContext`: cells have fresh values over
+//! what is there at each moment, so that what a formula writes is seen by all that it reads later.
 #![tactic(auto)]
 
 mod accepted;

@@ -39,10 +39,14 @@ fn prepare_session<K: Keeper, L: Ledger>(
     requires cached { IsCached app.now (opened app.now.names) (K.told keeper.old) moment cache.old }
     requires began { K.began keeper.old ≡ K.told keeper.old }
     requires wrote { wrote.old.items ≡ [] }
-    ensures wrote { IfOk result (λ s. OpensNewWriting (SilenceCause (K.marks keeper.old) (K.marks keeper.new)) app.now moment (K.told keeper.old) (K.told keeper.new) s wrote.new.items) }
+    ensures wrote { IfOk result (λ s. OpensNewWriting
+        (SilenceCause (K.marks keeper.old) (K.marks keeper.new)) app.now moment (K.told keeper.old)
+        (K.told keeper.new) s wrote.new.items) }
     ensures cached { IfOk result (λ s. IsCached app.now s (K.told keeper.new) moment cache.new) }
-    ensures undoable { CanGoBack K.Keeper app.now moment (opened app.now.names) cache.new keeper.new wrote.new.items }
-    ensures goes_on { GoesOn K.Keeper app.now cache.old cache.new keeper.old keeper.new wrote.old.items wrote.new.items }
+    ensures undoable { CanGoBack K.Keeper app.now moment (opened app.now.names) cache.new keeper.new
+        wrote.new.items }
+    ensures goes_on { GoesOn K.Keeper app.now cache.old cache.new keeper.old keeper.new
+        wrote.old.items wrote.new.items }
     ensures cause { HasCause K.Keeper keeper.old keeper.new result }
 {
     let before = Session::new(alloc, &app.names)?;
@@ -64,9 +68,10 @@ fn prepare_session<K: Keeper, L: Ledger>(
     Ok(session)
 }
 
-/// Opens a session, in one transaction: `App.OnStart` acts, and then the `OnVisible` of the screen that is then current, once. Its
-/// cache stands for a session at first, and then for what it has become. `wrote` is told the sources that were written. All memory
-/// is taken before the transaction ends. What stops leaves the tables.
+/// Opens a session, in one transaction: `App.OnStart` acts, and then the `OnVisible` of the screen
+/// that is then current, once. Its cache stands for a session at first, and then for what it has
+/// become. `wrote` is told the sources that were written. All memory is taken before the
+/// transaction ends. What stops leaves the tables.
 pub fn open_session<K: Keeper, L: Ledger>(
     alloc: Global,
     app: &App,
@@ -83,8 +88,12 @@ pub fn open_session<K: Keeper, L: Ledger>(
     requires idle { K.in_transaction keeper.old ≡ false }
     requires cached { IsCached app.now (opened app.now.names) (K.told keeper.old) moment cache.old }
     requires wrote { wrote.old.items ≡ [] }
-    ensures opens { IfOk result (λ s. OpensNew (SilenceCause (K.marks keeper.old) (K.marks keeper.new)) app.now moment (K.told keeper.old) (K.told keeper.new) s) }
-    ensures wrote { IfOk result (λ s. OpensNewWriting (SilenceCause (K.marks keeper.old) (K.marks keeper.new)) app.now moment (K.told keeper.old) (K.told keeper.new) s wrote.new.items) }
+    ensures opens { IfOk result (λ s. OpensNew
+        (SilenceCause (K.marks keeper.old) (K.marks keeper.new)) app.now moment (K.told keeper.old)
+        (K.told keeper.new) s) }
+    ensures wrote { IfOk result (λ s. OpensNewWriting
+        (SilenceCause (K.marks keeper.old) (K.marks keeper.new)) app.now moment (K.told keeper.old)
+        (K.told keeper.new) s wrote.new.items) }
     ensures stopped { OnErr result (Becomes K.Keeper keeper.old keeper.new Stays) }
     ensures rows { AreSound app.now.names.schema (K.told keeper.new) }
     ensures shaped { K.shaped keeper.new ≡ Some app.now.names.schema }

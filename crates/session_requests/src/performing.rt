@@ -32,9 +32,10 @@ use std::alloc::Global;
 use std::marker::{Brand, PhantomData};
 use std::sync::ledger::Ledger;
 
-/// Performs a behaviour formula of an app over a session and the tables of a keeper, at a moment in seconds since 1970-01-01
-/// UTC, and for an item where it sees one. `before` is the session as the request found it, and `wrote` are the sources that
-/// were written since; the cache is told of each at once. Where it gives no answer, a part of it may have been done.
+/// Performs a behaviour formula of an app over a session and the tables of a keeper, at a moment in
+/// seconds since 1970-01-01 UTC, and for an item where it sees one. `before` is the session as the
+/// request found it, and `wrote` are the sources that were written since; the cache is told of each
+/// at once. Where it gives no answer, a part of it may have been done.
 pub fn perform<K: Keeper, L: Ledger>(
     alloc: Global,
     app: &App,
@@ -51,18 +52,23 @@ pub fn perform<K: Keeper, L: Ledger>(
     requires sound { IsSoundApp app.now }
     requires acting { IsActingCell app.now info.now }
     requires item { IsItemFit (option_map view item) (item_context app.now.names info.now.cell.item) }
-    requires under_way { IsUnderWay K.Keeper app.now moment before.now session.old cache.old keeper.old wrote.old.items }
+    requires under_way { IsUnderWay K.Keeper app.now moment before.now session.old cache.old
+        keeper.old wrote.old.items }
     ensures acted { IfOk result (λ v. Becomes K.Keeper keeper.old keeper.new
-        (λ t u. PerformsCell app.now moment info.now (option_map view item) t session.old (view v) u session.new (drop (length wrote.old.items) wrote.new.items))) }
+        (λ t u. PerformsCell app.now moment info.now (option_map view item) t session.old (view v) u
+        session.new (drop (length wrote.old.items) wrote.new.items))) }
     ensures value { IfOk result (λ v. fits_in (view v) (shape info.now.ty) ≡ true) }
     ensures cut { OnErr result (Becomes K.Keeper keeper.old keeper.new
-        (λ t u. AllSources (IsInAll (FormulaWrites app.now moment info.now (option_map view item) t session.old)) (drop (length wrote.old.items) wrote.new.items))) }
+        (λ t u. AllSources (IsInAll (FormulaWrites app.now moment info.now (option_map view item) t
+        session.old)) (drop (length wrote.old.items) wrote.new.items))) }
     ensures only { Becomes K.Keeper keeper.old keeper.new
         (λ t u. AllSources (MayWrite info.now.core) (drop (length wrote.old.items) wrote.new.items)) }
     ensures leaves { Becomes K.Keeper keeper.old keeper.new
         (λ t u. ChangesOnlyWritten app.now moment t session.old u session.new) }
-    ensures under_way { IsUnderWay K.Keeper app.now moment before.now session.new cache.new keeper.new wrote.new.items }
-    ensures goes_on { GoesOn K.Keeper app.now cache.old cache.new keeper.old keeper.new wrote.old.items wrote.new.items }
+    ensures under_way { IsUnderWay K.Keeper app.now moment before.now session.new cache.new
+        keeper.new wrote.new.items }
+    ensures goes_on { GoesOn K.Keeper app.now cache.old cache.new keeper.old keeper.new
+        wrote.old.items wrote.new.items }
     ensures cause { HasCause K.Keeper keeper.old keeper.new result }
 {
     let day = today(alloc, moment)?;
@@ -74,8 +80,8 @@ pub fn perform<K: Keeper, L: Ledger>(
     )
 }
 
-// The same on the day of the moment, where so many sources were written earlier. The world holds references alone, so that what
-// it leaves of each is known.
+// The same on the day of the moment, where so many sources were written earlier. The world holds
+// references alone, so that what it leaves of each is known.
 fn perform_over<'a, A: SoundApp, K: Keeper, L: Ledger, S: Start>(
     alloc: Global,
     app: &'a A,
@@ -95,23 +101,29 @@ fn perform_over<'a, A: SoundApp, K: Keeper, L: Ledger, S: Start>(
     requires earlier { earlier ≡ length wrote.old.items }
     requires start { S.start ≡ cache.old }
     requires acting { IsActingCell (A.app app.now) info.now }
-    requires item { IsItemFit (option_map view item) (item_context (A.app app.now).names info.now.cell.item) }
-    requires under_way { IsUnderWay K.Keeper (A.app app.now) moment before.now session.old cache.old keeper.old wrote.old.items }
+    requires item { IsItemFit (option_map view item)
+        (item_context (A.app app.now).names info.now.cell.item) }
+    requires under_way { IsUnderWay K.Keeper (A.app app.now) moment before.now session.old cache.old
+        keeper.old wrote.old.items }
     ensures acted { IfOk result (λ v. Becomes K.Keeper keeper.old keeper.new
-        (λ t u. PerformsCell (A.app app.now) moment info.now (option_map view item) t session.old (view v) u session.new (drop (length wrote.old.items) wrote.new.items))) }
+        (λ t u. PerformsCell (A.app app.now) moment info.now (option_map view item) t session.old
+        (view v) u session.new (drop (length wrote.old.items) wrote.new.items))) }
     ensures value { IfOk result (λ v. fits_in (view v) (shape info.now.ty) ≡ true) }
     ensures cut { OnErr result (Becomes K.Keeper keeper.old keeper.new
-        (λ t u. AllSources (IsInAll (FormulaWrites (A.app app.now) moment info.now (option_map view item) t session.old)) (drop (length wrote.old.items) wrote.new.items))) }
+        (λ t u. AllSources (IsInAll (FormulaWrites (A.app app.now) moment info.now
+        (option_map view item) t session.old)) (drop (length wrote.old.items) wrote.new.items))) }
     ensures only { Becomes K.Keeper keeper.old keeper.new
         (λ t u. AllSources (MayWrite info.now.core) (drop (length wrote.old.items) wrote.new.items)) }
     ensures leaves { Becomes K.Keeper keeper.old keeper.new
         (λ t u. ChangesOnlyWritten (A.app app.now) moment t session.old u session.new) }
-    ensures under_way { IsUnderWay K.Keeper (A.app app.now) moment before.now session.new cache.new keeper.new wrote.new.items }
-    ensures goes_on { GoesOn K.Keeper (A.app app.now) cache.old cache.new keeper.old keeper.new wrote.old.items wrote.new.items }
+    ensures under_way { IsUnderWay K.Keeper (A.app app.now) moment before.now session.new cache.new
+        keeper.new wrote.new.items }
+    ensures goes_on { GoesOn K.Keeper (A.app app.now) cache.old cache.new keeper.old keeper.new
+        wrote.old.items wrote.new.items }
     ensures cause { HasCause K.Keeper keeper.old keeper.new result }
 {
-    // Called for what they say: the app is sound, a source gives one value, and a whole performing goes on from where one is
-    // cut off.
+    // Called for what they say: the app is sound, a source gives one value, and a whole performing
+    // goes on from where one is cut off.
     app.is_sound();
     one_source_value();
     cuts_go_on::<SessionWorld<'_, A, K, S>>();

@@ -21,8 +21,11 @@ ghost use Rattle.session_state.specs.Changes.{FitsNames};
 ghost use Rattle.session_state.specs.Sessions.{SessionState};
 ghost use Rattle.view_text.specs.RefusalText.{Fits};
 ghost use Rattle.session_requests.specs.Caching.{AreFreshAt, AreSources, IsCached};
-ghost use Rattle.session_requests.specs.Posting.{EventLooksAt, InputLooksAt, IsVerdict, SendsEvent, SendsEventWriting, SendsInput, SendsInputWriting, SessionsFit};
-ghost use Rattle.session_requests.specs.Targets.{IsTarget, event_target as event_target_of, or_refused};
+ghost use Rattle.session_requests.specs.Posting.{EventLooksAt, InputLooksAt, IsVerdict, SendsEvent};
+ghost use Rattle.session_requests.specs.Posting.{SendsEventWriting, SendsInput, SendsInputWriting};
+ghost use Rattle.session_requests.specs.Posting.{SessionsFit};
+ghost use Rattle.session_requests.specs.Targets.{IsTarget, event_target as event_target_of};
+ghost use Rattle.session_requests.specs.Targets.{or_refused};
 ghost use Rattle.session_requests.specs.WrittenWhole.{EventWritesWhole, InputWritesWhole, IsInAll};
 ghost use Rattle.session_requests.specs.Writable.{AllSources, EventMayWrite, InputMayWrite};
 
@@ -47,11 +50,13 @@ use std::alloc::Global;
 use std::sync::ledger::Ledger;
 use view_text::Refusal;
 
-/// Sends an input that passed the checks of numbered requests: what its user gave to a control is kept, and then `OnChange` of the
-/// control acts, or `OnCheck` or `OnUncheck` of a box, as one transaction, and the reply is kept; or nothing changes and the reply is
-/// a refusal: no control (15), one that takes no input (16) or isn't shown (17), or a value that it doesn't take (20). Null takes away
-/// what was given. No other session changes. What stops leaves the sessions and the tables. The cache of the session stands
-/// afterwards in all cases, and `wrote` is told the sources that were written. It works on a copy of the session.
+/// Sends an input that passed the checks of numbered requests: what its user gave to a control is
+/// kept, and then `OnChange` of the control acts, or `OnCheck` or `OnUncheck` of a box, as one
+/// transaction, and the reply is kept; or nothing changes and the reply is a refusal: no control
+/// (15), one that takes no input (16) or isn't shown (17), or a value that it doesn't take (20).
+/// Null takes away what was given. No other session changes. What stops leaves the sessions and the
+/// tables. The cache of the session stands afterwards in all cases, and `wrote` is told the sources
+/// that were written. It works on a copy of the session.
 #[tactic(auto, using(recalc::proofs::Leaving::left_same))]
 pub fn send_input<K: Keeper, L: Ledger>(
     alloc: Global,
@@ -73,9 +78,13 @@ pub fn send_input<K: Keeper, L: Ledger>(
     requires shaped { K.shaped keeper.old ≡ Some app.now.names.schema }
     requires rows { AreSound app.now.names.schema (K.told keeper.old) }
     requires idle { K.in_transaction keeper.old ≡ false }
-    requires cached { (s : SessionState) → find name.now sessions.old.items ≡ Some s → IsCached app.now s (K.told keeper.old) moment cache.old }
+    requires cached { (s : SessionState) → find name.now sessions.old.items ≡ Some s
+        → IsCached app.now s (K.told keeper.old) moment cache.old }
     requires wrote { wrote.old.items ≡ [] }
-    ensures done { IfOk result (λ r. SendsInput (SilenceCause (K.marks keeper.old) (K.marks keeper.new)) app.now moment name.now body.now input (K.told keeper.old) sessions.old.items (said r) (K.told keeper.new) sessions.new.items) }
+    ensures done { IfOk result (λ r. SendsInput
+        (SilenceCause (K.marks keeper.old) (K.marks keeper.new)) app.now moment name.now body.now
+        input (K.told keeper.old) sessions.old.items (said r) (K.told keeper.new)
+        sessions.new.items) }
     ensures whole { IfOk result IsReply }
     ensures stopped { OnErr result (sessions.new.items ≡ sessions.old.items) }
     ensures left { OnErr result (Becomes K.Keeper keeper.old keeper.new Stays) }
@@ -85,15 +94,20 @@ pub fn send_input<K: Keeper, L: Ledger>(
     ensures shaped { K.shaped keeper.new ≡ Some app.now.names.schema }
     ensures idle { K.in_transaction keeper.new ≡ false }
     ensures cause { HasCause K.Keeper keeper.old keeper.new result }
-    ensures cached { (s : SessionState) → find name.now sessions.new.items ≡ Some s → IsCached app.now s (K.told keeper.new) moment cache.new }
+    ensures cached { (s : SessionState) → find name.now sessions.new.items ≡ Some s
+        → IsCached app.now s (K.told keeper.new) moment cache.new }
     ensures tables { Becomes K.Keeper keeper.old keeper.new (SameTablesExcept wrote.new.items) }
     ensures sources { AreSources app.now.names wrote.new.items }
     ensures clean { StaysCleanExcept app.now wrote.new.items cache.old cache.new }
-    ensures wrote { IfOk result (λ r. SendsInputWriting (SilenceCause (K.marks keeper.old) (K.marks keeper.new)) app.now moment name.now body.now input (K.told keeper.old) sessions.old.items (said r) (K.told keeper.new) sessions.new.items wrote.new.items) }
+    ensures wrote { IfOk result (λ r. SendsInputWriting
+        (SilenceCause (K.marks keeper.old) (K.marks keeper.new)) app.now moment name.now body.now
+        input (K.told keeper.old) sessions.old.items (said r) (K.told keeper.new) sessions.new.items
+        wrote.new.items) }
     ensures only { Becomes K.Keeper keeper.old keeper.new
         (λ t u. AllSources (InputMayWrite app.now input) wrote.new.items) }
     ensures cut { OnErr result (Becomes K.Keeper keeper.old keeper.new
-        (λ t u. AllSources (IsInAll (InputWritesWhole app.now moment name.now input t sessions.old.items)) wrote.new.items)) }
+        (λ t u. AllSources (IsInAll (InputWritesWhole app.now moment name.now input t
+        sessions.old.items)) wrote.new.items)) }
     ensures loan { K.loan keeper.new ≡ K.loan keeper.old }
 {
     match place_of(sessions, name) {
@@ -126,7 +140,9 @@ fn look_for_input<K: Keeper, L: Ledger>(
     requires shaped { K.shaped keeper.old ≡ Some app.now.names.schema }
     ensures cached { IsCached app.now session.now (K.told keeper.new) moment cache.new }
     ensures clean { StaysCleanExcept app.now [] cache.old cache.new }
-    ensures fresh { OnOk result ∥ ((tables : ToldRows) → IsHeardOf (K.told keeper.new) tables → AreFreshAt (present app.now session.now tables moment) (InputLooksAt app.now input.now) (cached_value cache.new)) ∥₁ }
+    ensures fresh { OnOk result ∥ ((tables : ToldRows) → IsHeardOf (K.told keeper.new) tables
+        → AreFreshAt (present app.now session.now tables moment) (InputLooksAt app.now input.now)
+        (cached_value cache.new)) ∥₁ }
     ensures read { HasRead K.Keeper keeper.old keeper.new }
     ensures cause { HasCause K.Keeper keeper.old keeper.new result }
 {
@@ -166,7 +182,10 @@ fn act_input<K: Keeper, L: Ledger>(
     requires idle { K.in_transaction keeper.old ≡ false }
     requires cached { IsCached app.now session (K.told keeper.old) moment cache.old }
     requires wrote { wrote.old.items ≡ [] }
-    ensures done { IfOk result (λ r. SendsInput (SilenceCause (K.marks keeper.old) (K.marks keeper.new)) app.now moment name.now body.now input (K.told keeper.old) sessions.old.items (said r) (K.told keeper.new) sessions.new.items) }
+    ensures done { IfOk result (λ r. SendsInput
+        (SilenceCause (K.marks keeper.old) (K.marks keeper.new)) app.now moment name.now body.now
+        input (K.told keeper.old) sessions.old.items (said r) (K.told keeper.new)
+        sessions.new.items) }
     ensures whole { IfOk result IsReply }
     ensures stopped { OnErr result (sessions.new.items ≡ sessions.old.items) }
     ensures left { OnErr result (Becomes K.Keeper keeper.old keeper.new Stays) }
@@ -176,15 +195,20 @@ fn act_input<K: Keeper, L: Ledger>(
     ensures shaped { K.shaped keeper.new ≡ Some app.now.names.schema }
     ensures idle { K.in_transaction keeper.new ≡ false }
     ensures cause { HasCause K.Keeper keeper.old keeper.new result }
-    ensures cached { (s : SessionState) → find name.now sessions.new.items ≡ Some s → IsCached app.now s (K.told keeper.new) moment cache.new }
+    ensures cached { (s : SessionState) → find name.now sessions.new.items ≡ Some s
+        → IsCached app.now s (K.told keeper.new) moment cache.new }
     ensures tables { Becomes K.Keeper keeper.old keeper.new (SameTablesExcept wrote.new.items) }
     ensures sources { AreSources app.now.names wrote.new.items }
     ensures clean { StaysCleanExcept app.now wrote.new.items cache.old cache.new }
-    ensures wrote { IfOk result (λ r. SendsInputWriting (SilenceCause (K.marks keeper.old) (K.marks keeper.new)) app.now moment name.now body.now input (K.told keeper.old) sessions.old.items (said r) (K.told keeper.new) sessions.new.items wrote.new.items) }
+    ensures wrote { IfOk result (λ r. SendsInputWriting
+        (SilenceCause (K.marks keeper.old) (K.marks keeper.new)) app.now moment name.now body.now
+        input (K.told keeper.old) sessions.old.items (said r) (K.told keeper.new) sessions.new.items
+        wrote.new.items) }
     ensures only { Becomes K.Keeper keeper.old keeper.new
         (λ t u. AllSources (InputMayWrite app.now input) wrote.new.items) }
     ensures cut { OnErr result (Becomes K.Keeper keeper.old keeper.new
-        (λ t u. AllSources (IsInAll (InputWritesWhole app.now moment name.now input t sessions.old.items)) wrote.new.items)) }
+        (λ t u. AllSources (IsInAll (InputWritesWhole app.now moment name.now input t
+        sessions.old.items)) wrote.new.items)) }
     ensures loan { K.loan keeper.new ≡ K.loan keeper.old }
 {
     fitting_holds();
@@ -199,12 +223,13 @@ fn act_input<K: Keeper, L: Ledger>(
     )
 }
 
-/// Sends an event that passed the checks of numbered requests: the item that it has becomes the chosen one of its gallery, and then
-/// `OnSelect` of the control acts, as one transaction, and the reply is kept; or nothing changes and the reply is a refusal: no
-/// control (15), no such event of it (16), a control that isn't shown (17), no such item (18), one that has moved (19), or a control
-/// in a gallery that isn't visible for the item (17). No other session changes. What stops leaves the sessions and the tables. The
-/// cache of the session stands afterwards in all cases, and `wrote` is told the sources that were written. It works on a copy of the
-/// session.
+/// Sends an event that passed the checks of numbered requests: the item that it has becomes the
+/// chosen one of its gallery, and then `OnSelect` of the control acts, as one transaction, and the
+/// reply is kept; or nothing changes and the reply is a refusal: no control (15), no such event of
+/// it (16), a control that isn't shown (17), no such item (18), one that has moved (19), or a
+/// control in a gallery that isn't visible for the item (17). No other session changes. What stops
+/// leaves the sessions and the tables. The cache of the session stands afterwards in all cases, and
+/// `wrote` is told the sources that were written. It works on a copy of the session.
 #[tactic(auto, using(recalc::proofs::Leaving::left_same))]
 pub fn send_event<K: Keeper, L: Ledger>(
     alloc: Global,
@@ -226,9 +251,13 @@ pub fn send_event<K: Keeper, L: Ledger>(
     requires shaped { K.shaped keeper.old ≡ Some app.now.names.schema }
     requires rows { AreSound app.now.names.schema (K.told keeper.old) }
     requires idle { K.in_transaction keeper.old ≡ false }
-    requires cached { (s : SessionState) → find name.now sessions.old.items ≡ Some s → IsCached app.now s (K.told keeper.old) moment cache.old }
+    requires cached { (s : SessionState) → find name.now sessions.old.items ≡ Some s
+        → IsCached app.now s (K.told keeper.old) moment cache.old }
     requires wrote { wrote.old.items ≡ [] }
-    ensures done { IfOk result (λ r. SendsEvent (SilenceCause (K.marks keeper.old) (K.marks keeper.new)) app.now moment name.now body.now event.now (K.told keeper.old) sessions.old.items (said r) (K.told keeper.new) sessions.new.items) }
+    ensures done { IfOk result (λ r. SendsEvent
+        (SilenceCause (K.marks keeper.old) (K.marks keeper.new)) app.now moment name.now body.now
+        event.now (K.told keeper.old) sessions.old.items (said r) (K.told keeper.new)
+        sessions.new.items) }
     ensures whole { IfOk result IsReply }
     ensures stopped { OnErr result (sessions.new.items ≡ sessions.old.items) }
     ensures left { OnErr result (Becomes K.Keeper keeper.old keeper.new Stays) }
@@ -238,15 +267,20 @@ pub fn send_event<K: Keeper, L: Ledger>(
     ensures shaped { K.shaped keeper.new ≡ Some app.now.names.schema }
     ensures idle { K.in_transaction keeper.new ≡ false }
     ensures cause { HasCause K.Keeper keeper.old keeper.new result }
-    ensures cached { (s : SessionState) → find name.now sessions.new.items ≡ Some s → IsCached app.now s (K.told keeper.new) moment cache.new }
+    ensures cached { (s : SessionState) → find name.now sessions.new.items ≡ Some s
+        → IsCached app.now s (K.told keeper.new) moment cache.new }
     ensures tables { Becomes K.Keeper keeper.old keeper.new (SameTablesExcept wrote.new.items) }
     ensures sources { AreSources app.now.names wrote.new.items }
     ensures clean { StaysCleanExcept app.now wrote.new.items cache.old cache.new }
-    ensures wrote { IfOk result (λ r. SendsEventWriting (SilenceCause (K.marks keeper.old) (K.marks keeper.new)) app.now moment name.now body.now event.now (K.told keeper.old) sessions.old.items (said r) (K.told keeper.new) sessions.new.items wrote.new.items) }
+    ensures wrote { IfOk result (λ r. SendsEventWriting
+        (SilenceCause (K.marks keeper.old) (K.marks keeper.new)) app.now moment name.now body.now
+        event.now (K.told keeper.old) sessions.old.items (said r) (K.told keeper.new)
+        sessions.new.items wrote.new.items) }
     ensures only { Becomes K.Keeper keeper.old keeper.new
         (λ t u. AllSources (EventMayWrite app.now event.now) wrote.new.items) }
     ensures cut { OnErr result (Becomes K.Keeper keeper.old keeper.new
-        (λ t u. AllSources (IsInAll (EventWritesWhole app.now moment name.now event.now t sessions.old.items)) wrote.new.items)) }
+        (λ t u. AllSources (IsInAll (EventWritesWhole app.now moment name.now event.now t
+        sessions.old.items)) wrote.new.items)) }
     ensures loan { K.loan keeper.new ≡ K.loan keeper.old }
 {
     match place_of(sessions, name) {
@@ -279,7 +313,9 @@ fn look_for_event<K: Keeper, L: Ledger>(
     requires shaped { K.shaped keeper.old ≡ Some app.now.names.schema }
     ensures cached { IsCached app.now session.now (K.told keeper.new) moment cache.new }
     ensures clean { StaysCleanExcept app.now [] cache.old cache.new }
-    ensures fresh { OnOk result ∥ ((tables : ToldRows) → IsHeardOf (K.told keeper.new) tables → AreFreshAt (present app.now session.now tables moment) (EventLooksAt app.now event.now) (cached_value cache.new)) ∥₁ }
+    ensures fresh { OnOk result ∥ ((tables : ToldRows) → IsHeardOf (K.told keeper.new) tables
+        → AreFreshAt (present app.now session.now tables moment) (EventLooksAt app.now event.now)
+        (cached_value cache.new)) ∥₁ }
     ensures read { HasRead K.Keeper keeper.old keeper.new }
     ensures cause { HasCause K.Keeper keeper.old keeper.new result }
 {
@@ -319,7 +355,10 @@ fn act_event<K: Keeper, L: Ledger>(
     requires idle { K.in_transaction keeper.old ≡ false }
     requires cached { IsCached app.now session (K.told keeper.old) moment cache.old }
     requires wrote { wrote.old.items ≡ [] }
-    ensures done { IfOk result (λ r. SendsEvent (SilenceCause (K.marks keeper.old) (K.marks keeper.new)) app.now moment name.now body.now event.now (K.told keeper.old) sessions.old.items (said r) (K.told keeper.new) sessions.new.items) }
+    ensures done { IfOk result (λ r. SendsEvent
+        (SilenceCause (K.marks keeper.old) (K.marks keeper.new)) app.now moment name.now body.now
+        event.now (K.told keeper.old) sessions.old.items (said r) (K.told keeper.new)
+        sessions.new.items) }
     ensures whole { IfOk result IsReply }
     ensures stopped { OnErr result (sessions.new.items ≡ sessions.old.items) }
     ensures left { OnErr result (Becomes K.Keeper keeper.old keeper.new Stays) }
@@ -329,15 +368,20 @@ fn act_event<K: Keeper, L: Ledger>(
     ensures shaped { K.shaped keeper.new ≡ Some app.now.names.schema }
     ensures idle { K.in_transaction keeper.new ≡ false }
     ensures cause { HasCause K.Keeper keeper.old keeper.new result }
-    ensures cached { (s : SessionState) → find name.now sessions.new.items ≡ Some s → IsCached app.now s (K.told keeper.new) moment cache.new }
+    ensures cached { (s : SessionState) → find name.now sessions.new.items ≡ Some s
+        → IsCached app.now s (K.told keeper.new) moment cache.new }
     ensures tables { Becomes K.Keeper keeper.old keeper.new (SameTablesExcept wrote.new.items) }
     ensures sources { AreSources app.now.names wrote.new.items }
     ensures clean { StaysCleanExcept app.now wrote.new.items cache.old cache.new }
-    ensures wrote { IfOk result (λ r. SendsEventWriting (SilenceCause (K.marks keeper.old) (K.marks keeper.new)) app.now moment name.now body.now event.now (K.told keeper.old) sessions.old.items (said r) (K.told keeper.new) sessions.new.items wrote.new.items) }
+    ensures wrote { IfOk result (λ r. SendsEventWriting
+        (SilenceCause (K.marks keeper.old) (K.marks keeper.new)) app.now moment name.now body.now
+        event.now (K.told keeper.old) sessions.old.items (said r) (K.told keeper.new)
+        sessions.new.items wrote.new.items) }
     ensures only { Becomes K.Keeper keeper.old keeper.new
         (λ t u. AllSources (EventMayWrite app.now event.now) wrote.new.items) }
     ensures cut { OnErr result (Becomes K.Keeper keeper.old keeper.new
-        (λ t u. AllSources (IsInAll (EventWritesWhole app.now moment name.now event.now t sessions.old.items)) wrote.new.items)) }
+        (λ t u. AllSources (IsInAll (EventWritesWhole app.now moment name.now event.now t
+        sessions.old.items)) wrote.new.items)) }
     ensures loan { K.loan keeper.new ≡ K.loan keeper.old }
 {
     fitting_holds();
@@ -368,8 +412,11 @@ fn judge_event<K: Keeper, L: Ledger>(
     requires day { (moment : ℕ) × IsToday moment valued.now.day }
     requires shaped { K.shaped keeper.old ≡ Some app.now.names.schema }
     ensures judged { IfOk result (λ v. (moment : ℕ) → IsToday moment valued.now.day →
-        IsVerdict (present app.now session.now (rows_told (K.told keeper.new)) moment) (value_of_cells valued.now) (event_target_of app.now.names session.now (value_of_cells valued.now) event.now) v) }
-    ensures target { IfOk result (λ v. IfOk v (λ t. IsTarget app.now.names (value_of_cells valued.now) t)) }
+        IsVerdict (present app.now session.now (rows_told (K.told keeper.new)) moment)
+        (value_of_cells valued.now) (event_target_of app.now.names session.now
+        (value_of_cells valued.now) event.now) v) }
+    ensures target { IfOk result (λ v. IfOk v
+        (λ t. IsTarget app.now.names (value_of_cells valued.now) t)) }
     ensures detail { IfOk result (λ v. IfErr v (λ r. Fits r.code r.detail)) }
     ensures read { HasRead K.Keeper keeper.old keeper.new }
     ensures cause { HasCause K.Keeper keeper.old keeper.new result }

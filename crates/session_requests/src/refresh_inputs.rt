@@ -39,7 +39,8 @@ pub(crate) fn has_value(app: &App, cell: u32) -> bool
 
 /// The cell on which leans who reads a source, if it has a value by itself.
 fn alone_behind(app: &App, source: Source) -> Option<u32>
-    ensures there { (d : ℕ) → behind app.now.names source ≡ Some d → is_alone app.now.cells d ≡ true → result ≡ Some d }
+    ensures there { (d : ℕ) → behind app.now.names source ≡ Some d → is_alone app.now.cells d ≡ true
+        → result ≡ Some d }
     ensures alone { IfSome result (λ d. is_alone app.now.cells d ≡ true) }
 {
     match cell_behind(&app.names, source) {
@@ -60,8 +61,10 @@ fn put(cells: &mut Vec<u32>, cell: Option<u32>) -> Result<(), Memory>
 
 /// The cells that have a value by themselves, and on which leans who reads these sources.
 pub(crate) fn cells_behind(alloc: Global, app: &App, reads: &[Source]) -> Result<Vec<u32>, Memory>
-    ensures behind { IfOk result (λ v. (x : Src) (d : ℕ) → IsAmong x reads.now → behind app.now.names x ≡ Some d → is_alone app.now.cells d ≡ true → Contains v.items d) }
-    ensures alone { IfOk result (λ v. (k : ℕ) → Contains v.items k → is_alone app.now.cells k ≡ true) }
+    ensures behind { IfOk result (λ v. (x : Src) (d : ℕ) → IsAmong x reads.now
+        → behind app.now.names x ≡ Some d → is_alone app.now.cells d ≡ true → Contains v.items d) }
+    ensures alone { IfOk result (λ v. (k : ℕ) → Contains v.items k
+        → is_alone app.now.cells k ≡ true) }
 {
     let mut cells = Vec::new(alloc);
     for source in reads {
@@ -70,7 +73,8 @@ pub(crate) fn cells_behind(alloc: Global, app: &App, reads: &[Source]) -> Result
     Ok(cells)
 }
 
-/// Brings the cells up to date on which a formula leans. Then the values that are kept are fresh at those.
+/// Brings the cells up to date on which a formula leans. Then the values that are kept are fresh at
+/// those.
 #[tactic(auto, using(recalc::proofs::Asked::read_none, recalc::proofs::Leaving::left_same))]
 pub(crate) fn refresh_behind<K: Keeper, L: Ledger>(
     alloc: Global,
@@ -90,8 +94,11 @@ pub(crate) fn refresh_behind<K: Keeper, L: Ledger>(
     ensures order { IsInOrder app.now cache.new }
     ensures but { StaysCleanExcept app.now [] cache.old cache.new }
     ensures day { cache.new.values.day ≡ cache.old.values.day }
-    ensures right { IsRightOver app.now session.now (K.told keeper.old) moment cache.old → IsRightOver app.now session.now (K.told keeper.new) moment cache.new }
-    ensures fresh { OnOk result (IsRightOver app.now session.now (K.told keeper.old) moment cache.old → (tables : ToldRows) (x : Src) → IsHeardOf (K.told keeper.new) tables → IsAmong x (sources_in core.now) →
+    ensures right { IsRightOver app.now session.now (K.told keeper.old) moment cache.old
+        → IsRightOver app.now session.now (K.told keeper.new) moment cache.new }
+    ensures fresh { OnOk result (IsRightOver app.now session.now (K.told keeper.old) moment
+        cache.old → (tables : ToldRows) (x : Src) → IsHeardOf (K.told keeper.new) tables
+        → IsAmong x (sources_in core.now) →
         IsFreshBehind (present app.now session.now tables moment) (cached_value cache.new) x) }
     ensures read { HasRead K.Keeper keeper.old keeper.new }
     ensures cause { HasCause K.Keeper keeper.old keeper.new result }

@@ -3,12 +3,15 @@ ghost use Rattle.std.specs.Prelude.{IfOk, None, OnErr, OnOk, drop, length, optio
 ghost use Rattle.recalc.specs.app_semantics.Sound.{IsSoundApp};
 ghost use Rattle.fx_types.specs.ValueView.{view};
 ghost use Rattle.row_keeper.specs.Over.{Becomes, HasCause};
-ghost use Rattle.session_requests.specs.Running.{ActsWriting, OpensWriting, RunsWriting, ShowsWriting};
+ghost use Rattle.session_requests.specs.Running.{ActsWriting, OpensWriting, RunsWriting};
+ghost use Rattle.session_requests.specs.Running.{ShowsWriting};
 ghost use Rattle.session_requests.specs.Scenes.{scene};
 ghost use Rattle.session_requests.specs.Transactions.{GoesOn, IsUnderWay};
 ghost use Rattle.session_requests.specs.Triggers.{ItemFits, cell_at as cell_of};
-ghost use Rattle.session_requests.specs.WrittenWhole.{IsInAll, RequestWrites, ScreenWrites, TriggerWrites};
-ghost use Rattle.session_requests.specs.Writable.{AllSources, RequestMayWrite, ScreenMayWrite, TriggerMayWrite};
+ghost use Rattle.session_requests.specs.WrittenWhole.{IsInAll, RequestWrites, ScreenWrites};
+ghost use Rattle.session_requests.specs.WrittenWhole.{TriggerWrites};
+ghost use Rattle.session_requests.specs.Writable.{AllSources, RequestMayWrite, ScreenMayWrite};
+ghost use Rattle.session_requests.specs.Writable.{TriggerMayWrite};
 
 use crate::acting_laws::one_acting;
 use crate::app_cells::App;
@@ -39,15 +42,22 @@ fn act<K: Keeper, L: Ledger>(
 ) -> Result<Value, KeeperEnd>
     requires sound { IsSoundApp app.now }
     requires item { ItemFits app.now trigger (option_map view item) }
-    requires under_way { IsUnderWay K.Keeper app.now moment before.now session.old cache.old keeper.old wrote.old.items }
+    requires under_way { IsUnderWay K.Keeper app.now moment before.now session.old cache.old
+        keeper.old wrote.old.items }
     ensures wrote { IfOk result (λ v. Becomes K.Keeper keeper.old keeper.new
-        (λ t u. ActsWriting app.now moment (cell_of trigger app.now) (option_map view item) (scene t session.old) (view v) (scene u session.new) (drop (length wrote.old.items) wrote.new.items))) }
+        (λ t u. ActsWriting app.now moment (cell_of trigger app.now) (option_map view item)
+        (scene t session.old) (view v) (scene u session.new)
+        (drop (length wrote.old.items) wrote.new.items))) }
     ensures cut { OnErr result (Becomes K.Keeper keeper.old keeper.new
-        (λ t u. AllSources (IsInAll (TriggerWrites app.now moment trigger (option_map view item) (scene t session.old))) (drop (length wrote.old.items) wrote.new.items))) }
+        (λ t u. AllSources (IsInAll (TriggerWrites app.now moment trigger (option_map view item)
+        (scene t session.old))) (drop (length wrote.old.items) wrote.new.items))) }
     ensures only { Becomes K.Keeper keeper.old keeper.new
-        (λ t u. AllSources (TriggerMayWrite app.now trigger) (drop (length wrote.old.items) wrote.new.items)) }
-    ensures under_way { IsUnderWay K.Keeper app.now moment before.now session.new cache.new keeper.new wrote.new.items }
-    ensures goes_on { GoesOn K.Keeper app.now cache.old cache.new keeper.old keeper.new wrote.old.items wrote.new.items }
+        (λ t u. AllSources (TriggerMayWrite app.now trigger)
+        (drop (length wrote.old.items) wrote.new.items)) }
+    ensures under_way { IsUnderWay K.Keeper app.now moment before.now session.new cache.new
+        keeper.new wrote.new.items }
+    ensures goes_on { GoesOn K.Keeper app.now cache.old cache.new keeper.old keeper.new
+        wrote.old.items wrote.new.items }
     ensures cause { HasCause K.Keeper keeper.old keeper.new result }
 {
     // The law is called for what it says of formulas that act.
@@ -76,15 +86,20 @@ fn show<K: Keeper, L: Ledger>(
     steps: &mut Steps<L>,
 ) -> Result<(), KeeperEnd>
     requires sound { IsSoundApp app.now }
-    requires under_way { IsUnderWay K.Keeper app.now moment before.now session.old cache.old keeper.old wrote.old.items }
+    requires under_way { IsUnderWay K.Keeper app.now moment before.now session.old cache.old
+        keeper.old wrote.old.items }
     ensures wrote { OnOk result (Becomes K.Keeper keeper.old keeper.new
-        (λ t u. ShowsWriting app.now moment (scene t session.old) (scene u session.new) (drop (length wrote.old.items) wrote.new.items))) }
+        (λ t u. ShowsWriting app.now moment (scene t session.old) (scene u session.new)
+        (drop (length wrote.old.items) wrote.new.items))) }
     ensures cut { OnErr result (Becomes K.Keeper keeper.old keeper.new
-        (λ t u. AllSources (IsInAll (ScreenWrites app.now moment (scene t session.old))) (drop (length wrote.old.items) wrote.new.items))) }
+        (λ t u. AllSources (IsInAll (ScreenWrites app.now moment (scene t session.old)))
+        (drop (length wrote.old.items) wrote.new.items))) }
     ensures only { Becomes K.Keeper keeper.old keeper.new
         (λ t u. AllSources (ScreenMayWrite app.now) (drop (length wrote.old.items) wrote.new.items)) }
-    ensures under_way { IsUnderWay K.Keeper app.now moment before.now session.new cache.new keeper.new wrote.new.items }
-    ensures goes_on { GoesOn K.Keeper app.now cache.old cache.new keeper.old keeper.new wrote.old.items wrote.new.items }
+    ensures under_way { IsUnderWay K.Keeper app.now moment before.now session.new cache.new
+        keeper.new wrote.new.items }
+    ensures goes_on { GoesOn K.Keeper app.now cache.old cache.new keeper.old keeper.new
+        wrote.old.items wrote.new.items }
     ensures cause { HasCause K.Keeper keeper.old keeper.new result }
 {
     session.take_navigated();
@@ -96,8 +111,9 @@ fn show<K: Keeper, L: Ledger>(
     Ok(())
 }
 
-/// What a request does at a trigger: its formula acts, and then the screen is shown that was navigated to, once. The value is
-/// the formula's, and blank where none is written. Where it gives no answer, a part of it may have been done.
+/// What a request does at a trigger: its formula acts, and then the screen is shown that was
+/// navigated to, once. The value is the formula's, and blank where none is written. Where it gives
+/// no answer, a part of it may have been done.
 pub(crate) fn run<K: Keeper, L: Ledger>(
     alloc: Global,
     app: &App,
@@ -113,15 +129,21 @@ pub(crate) fn run<K: Keeper, L: Ledger>(
 ) -> Result<Value, KeeperEnd>
     requires sound { IsSoundApp app.now }
     requires item { ItemFits app.now trigger (option_map view item) }
-    requires under_way { IsUnderWay K.Keeper app.now moment before.now session.old cache.old keeper.old wrote.old.items }
+    requires under_way { IsUnderWay K.Keeper app.now moment before.now session.old cache.old
+        keeper.old wrote.old.items }
     ensures wrote { IfOk result (λ v. Becomes K.Keeper keeper.old keeper.new
-        (λ t u. RunsWriting app.now moment trigger (option_map view item) (scene t session.old) (view v) (scene u session.new) (drop (length wrote.old.items) wrote.new.items))) }
+        (λ t u. RunsWriting app.now moment trigger (option_map view item) (scene t session.old)
+        (view v) (scene u session.new) (drop (length wrote.old.items) wrote.new.items))) }
     ensures cut { OnErr result (Becomes K.Keeper keeper.old keeper.new
-        (λ t u. AllSources (IsInAll (RequestWrites app.now moment trigger (option_map view item) (scene t session.old))) (drop (length wrote.old.items) wrote.new.items))) }
+        (λ t u. AllSources (IsInAll (RequestWrites app.now moment trigger (option_map view item)
+        (scene t session.old))) (drop (length wrote.old.items) wrote.new.items))) }
     ensures only { Becomes K.Keeper keeper.old keeper.new
-        (λ t u. AllSources (RequestMayWrite app.now trigger) (drop (length wrote.old.items) wrote.new.items)) }
-    ensures under_way { IsUnderWay K.Keeper app.now moment before.now session.new cache.new keeper.new wrote.new.items }
-    ensures goes_on { GoesOn K.Keeper app.now cache.old cache.new keeper.old keeper.new wrote.old.items wrote.new.items }
+        (λ t u. AllSources (RequestMayWrite app.now trigger)
+        (drop (length wrote.old.items) wrote.new.items)) }
+    ensures under_way { IsUnderWay K.Keeper app.now moment before.now session.new cache.new
+        keeper.new wrote.new.items }
+    ensures goes_on { GoesOn K.Keeper app.now cache.old cache.new keeper.old keeper.new
+        wrote.old.items wrote.new.items }
     ensures cause { HasCause K.Keeper keeper.old keeper.new result }
 {
     // The law is called for what it says: a formula does one thing at most.
@@ -138,8 +160,8 @@ pub(crate) fn run<K: Keeper, L: Ledger>(
     Ok(value)
 }
 
-/// What opening a session does: `App.OnStart` acts, and the screen that is then current is shown. Where it gives no answer, a
-/// part of it may have been done.
+/// What opening a session does: `App.OnStart` acts, and the screen that is then current is shown.
+/// Where it gives no answer, a part of it may have been done.
 pub(crate) fn open<K: Keeper, L: Ledger>(
     alloc: Global,
     app: &App,
@@ -152,11 +174,15 @@ pub(crate) fn open<K: Keeper, L: Ledger>(
     steps: &mut Steps<L>,
 ) -> Result<(), KeeperEnd>
     requires sound { IsSoundApp app.now }
-    requires under_way { IsUnderWay K.Keeper app.now moment before.now session.old cache.old keeper.old wrote.old.items }
+    requires under_way { IsUnderWay K.Keeper app.now moment before.now session.old cache.old
+        keeper.old wrote.old.items }
     ensures wrote { OnOk result (Becomes K.Keeper keeper.old keeper.new
-        (λ t u. OpensWriting app.now moment (scene t session.old) (scene u session.new) (drop (length wrote.old.items) wrote.new.items))) }
-    ensures under_way { IsUnderWay K.Keeper app.now moment before.now session.new cache.new keeper.new wrote.new.items }
-    ensures goes_on { GoesOn K.Keeper app.now cache.old cache.new keeper.old keeper.new wrote.old.items wrote.new.items }
+        (λ t u. OpensWriting app.now moment (scene t session.old) (scene u session.new)
+        (drop (length wrote.old.items) wrote.new.items))) }
+    ensures under_way { IsUnderWay K.Keeper app.now moment before.now session.new cache.new
+        keeper.new wrote.new.items }
+    ensures goes_on { GoesOn K.Keeper app.now cache.old cache.new keeper.old keeper.new
+        wrote.old.items wrote.new.items }
     ensures cause { HasCause K.Keeper keeper.old keeper.new result }
 {
     act(

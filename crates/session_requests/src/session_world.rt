@@ -14,7 +14,8 @@ ghost use Rattle.row_requests.specs.Sound.{AreSound};
 ghost use Rattle.session_state.specs.Changes.{FitsNames};
 ghost use Rattle.session_requests.specs.WorldIdentity.{anchor};
 ghost use Rattle.session_requests.specs.Caching.{SameSessionExcept, AreSources};
-ghost use Rattle.session_requests.specs.Propositions.{cache_prop, left_prop, names_prop, sessions_prop, sound_prop, sources_prop};
+ghost use Rattle.session_requests.specs.Propositions.{cache_prop, left_prop, names_prop};
+ghost use Rattle.session_requests.specs.Propositions.{sessions_prop, sound_prop, sources_prop};
 ghost use Rattle.session_requests.specs.WorldContext.{WorldContext, source_gives, grounds};
 ghost use Rattle.session_requests.specs.WorldLaws.{collections_told, rows_are, state_told};
 ghost use Rattle.session_requests.specs.Worlds.{fixed_in, told_in};
@@ -37,8 +38,9 @@ use std::alloc::Global;
 use std::marker::PhantomData;
 use std::sync::ledger::Ledger;
 
-/// An app at a moment and on its day, a session of it whose values fit, with its cache, and a keeper that is shaped by its schema
-/// and in a transaction. The cache is right at each moment, and the session is as the request found it but for what was written.
+/// An app at a moment and on its day, a session of it whose values fit, with its cache, and a
+/// keeper that is shaped by its schema and in a transaction. The cache is right at each moment, and
+/// the session is as the request found it but for what was written.
 #[derive(Drop)]
 pub(crate) struct SessionWorld<'a, A: SoundApp, K: Keeper, S: Start> {
     pub(crate) alloc: Global,
@@ -73,9 +75,13 @@ pub(crate) struct SessionWorld<'a, A: SoundApp, K: Keeper, S: Start> {
 impl<A: SoundApp, K: Keeper, S: Start> Env for SessionWorld<'_, A, K, S> {
     ghost Beside = { WorldState WorldContext };
 
-    ghost fixed = { λ w. fixed_in (anchor (A.app w.app.now) w.moment w.before.now (take w.earlier w.wrote.now.items)) w.session.ghost_name w.cache.ghost_name w.keeper.ghost_name w.wrote.ghost_name (K.loan w.keeper.now) (K.in_transaction w.keeper.now) };
+    ghost fixed = { λ w. fixed_in (anchor (A.app w.app.now) w.moment w.before.now
+        (take w.earlier w.wrote.now.items)) w.session.ghost_name w.cache.ghost_name
+        w.keeper.ghost_name w.wrote.ghost_name (K.loan w.keeper.now) (K.in_transaction w.keeper.now) };
 
-    ghost told = { λ w. option_map (told_in (view w.day.now) (grounds (A.app w.app.now) w.moment (K.began w.keeper.now)) w.session.now w.cache.now.values.cells (drop w.earlier w.wrote.now.items)) (K.told w.keeper.now) };
+    ghost told = { λ w. option_map (told_in (view w.day.now)
+        (grounds (A.app w.app.now) w.moment (K.began w.keeper.now)) w.session.now
+        w.cache.now.values.cells (drop w.earlier w.wrote.now.items)) (K.told w.keeper.now) };
 
     ghost marks = { λ w. K.marks w.keeper.now };
 
@@ -84,7 +90,8 @@ impl<A: SoundApp, K: Keeper, S: Start> Env for SessionWorld<'_, A, K, S> {
     ghost visited = { λ w. K.visited w.keeper.now };
 
     fn read<L: Ledger>(&mut self, source: Source, _steps: &mut Steps<L>) -> Result<Value, Stop> {
-        // Called for what they say: rows that fit a table are a value of its type, and the app is sound.
+        // Called for what they say: rows that fit a table are a value of its type, and the app is
+        // sound.
         rows_fit();
         self.app.is_sound();
         let app = self.app.get();
@@ -147,7 +154,10 @@ impl<A: SoundApp, K: Keeper, S: Start> World for SessionWorld<'_, A, K, S> {
 
     ghost names = { λ w. (A.app w.app.now).names };
 
-    ghost state = { λ w. state_told (option_map (told_in (view w.day.now) (grounds (A.app w.app.now) w.moment (K.began w.keeper.now)) w.session.now w.cache.now.values.cells (drop w.earlier w.wrote.now.items)) (K.told w.keeper.now)) };
+    ghost state = { λ w. state_told (option_map
+        (told_in (view w.day.now) (grounds (A.app w.app.now) w.moment (K.began w.keeper.now))
+        w.session.now w.cache.now.values.cells (drop w.earlier w.wrote.now.items))
+        (K.told w.keeper.now)) };
 
     fn names(&self) -> &Names {
         &self.app.get().names
@@ -244,9 +254,13 @@ impl<A: SoundApp, K: Keeper, S: Start> World for SessionWorld<'_, A, K, S> {
 
     ghost lost = { λ w e. ap state_told e };
 
-    ghost collections = { λ w s e p q k. collections_told (view w.day.now) (grounds (A.app w.app.now) w.moment (K.began w.keeper.now)) w.session.now w.cache.now.values.cells (drop w.earlier w.wrote.now.items) (K.told w.keeper.now) s e p q k };
+    ghost collections = { λ w s e p q k. collections_told (view w.day.now)
+        (grounds (A.app w.app.now) w.moment (K.began w.keeper.now)) w.session.now
+        w.cache.now.values.cells (drop w.earlier w.wrote.now.items) (K.told w.keeper.now) s e p q k };
 
-    ghost rows = { λ w s e p q. rows_are (view w.day.now) (grounds (A.app w.app.now) w.moment (K.began w.keeper.now)) w.session.now w.cache.now.values.cells (drop w.earlier w.wrote.now.items) (K.told w.keeper.now) s e p q };
+    ghost rows = { λ w s e p q. rows_are (view w.day.now)
+        (grounds (A.app w.app.now) w.moment (K.began w.keeper.now)) w.session.now
+        w.cache.now.values.cells (drop w.earlier w.wrote.now.items) (K.told w.keeper.now) s e p q };
 
     ghost typed = { λ w x. refl };
 

@@ -7,7 +7,8 @@ ghost use Rattle.fx_types.specs.ValueView.{view};
 ghost use Rattle.fx_types.specs.Values.{blank, number as number_data};
 ghost use Rattle.recalc.specs.fx_semantics.Rows.{rows_in};
 ghost use Rattle.session_state.specs.Sessions.{SessionState};
-ghost use Rattle.session_requests.specs.Shown.{cell_values, control_number as control_of, is_shown_or_in_shown_gallery as is_shown_of};
+ghost use Rattle.session_requests.specs.Shown.{cell_values, control_number as control_of};
+ghost use Rattle.session_requests.specs.Shown.{is_shown_or_in_shown_gallery as is_shown_of};
 ghost use Rattle.session_requests.specs.Targets.{bound_of};
 
 use fx_core::Names;
@@ -35,12 +36,14 @@ pub(crate) fn is_shown(
     number: u32,
     control: &ControlName,
 ) -> bool
-    ensures { (s : SessionState) → s.screen ≡ screen → result ≡ is_shown_of names.now s (cell_values values.now) number control.now }
+    ensures { (s : SessionState) → s.screen ≡ screen
+        → result ≡ is_shown_of names.now s (cell_values values.now) number control.now }
 {
     control.screen == screen && is_visible(names, values, control.gallery.unwrap_or(number))
 }
 
-/// The bound that a property of a slider sets, or another where it isn't written. An error sets none.
+/// The bound that a property of a slider sets, or another where it isn't written. An error sets
+/// none.
 pub(crate) fn bound(
     names: &Names,
     values: &[Value],
@@ -48,7 +51,8 @@ pub(crate) fn bound(
     name: &str,
     unwritten: i64,
 ) -> Option<i64>
-    ensures { result ≡ bound_of (property_value names.now (cell_values values.now) control name.now (number_data unwritten)) }
+    ensures { result ≡ bound_of (property_value names.now (cell_values values.now) control name.now
+        (number_data unwritten)) }
 {
     match cell_of_property(names, control, name) {
         Some(cell) => bound_in(values.get(cell as usize)),
@@ -74,7 +78,8 @@ pub(crate) fn item_row<'a>(
     gallery: u32,
     at: u32,
 ) -> Option<&'a Fields>
-    ensures { option_map (λ f. f.now) result ≡ row_at_position at (rows_in (items_of names.now (cell_values values.now) gallery)) }
+    ensures { option_map (λ f. f.now) result ≡ row_at_position at
+        (rows_in (items_of names.now (cell_values values.now) gallery)) }
 {
     match cell_of_property(names, gallery, "Items") {
         Some(cell) => match values.get(cell as usize) {

@@ -10,7 +10,8 @@ ghost use Rattle.session_requests.specs.Caching.{AreSources, AreTouched, IsCache
 ghost use Rattle.row_keeper.specs.Over.{Becomes, HasCause};
 ghost use Rattle.session_requests.specs.Requests.{accepted_reply};
 ghost use Rattle.session_requests.specs.Scenes.{begun, quiet, scene};
-ghost use Rattle.session_requests.specs.Transactions.{CanBegin, CanGoBack, GoesOn, HasEnded, IsAccepted, IsUnderWay};
+ghost use Rattle.session_requests.specs.Transactions.{CanBegin, CanGoBack, GoesOn, HasEnded};
+ghost use Rattle.session_requests.specs.Transactions.{IsAccepted, IsUnderWay};
 ghost use Rattle.session_requests.specs.Triggers.{ItemFits};
 ghost use Rattle.session_requests.specs.WrittenWhole.{IsInAll, RequestWrites};
 ghost use Rattle.session_requests.specs.Writable.{AllSources, RequestMayWrite};
@@ -31,7 +32,8 @@ use std::alloc::Global;
 use std::sync::ledger::Ledger;
 use view_text::event_json;
 
-/// What an accepted event or input leaves of its session, with its reply and a copy of that to keep.
+/// What an accepted event or input leaves of its session, with its reply and a copy of that to
+/// keep.
 #[derive(Drop)]
 pub struct Accepted {
     pub session: Session,
@@ -56,14 +58,21 @@ fn prepare<K: Keeper, L: Ledger>(
 ) -> Result<Accepted, KeeperEnd>
     requires sound { IsSoundApp app.now }
     requires item { ItemFits app.now trigger (option_map view item) }
-    requires under_way { IsUnderWay K.Keeper app.now moment before.now session cache.old keeper.old wrote.old.items }
-    ensures accepted { IfOk result (IsAccepted K.Keeper app.now moment trigger (option_map view item) seq session cache.new keeper.old keeper.new (drop (length wrote.old.items) wrote.new.items)) }
+    requires under_way { IsUnderWay K.Keeper app.now moment before.now session cache.old keeper.old
+        wrote.old.items }
+    ensures accepted { IfOk result (IsAccepted K.Keeper app.now moment trigger
+        (option_map view item) seq session cache.new keeper.old keeper.new
+        (drop (length wrote.old.items) wrote.new.items)) }
     ensures cut { OnErr result (Becomes K.Keeper keeper.old keeper.new
-        (λ t u. AllSources (IsInAll (RequestWrites app.now moment trigger (option_map view item) (scene t (begun session)))) (drop (length wrote.old.items) wrote.new.items))) }
+        (λ t u. AllSources (IsInAll (RequestWrites app.now moment trigger (option_map view item)
+        (scene t (begun session)))) (drop (length wrote.old.items) wrote.new.items))) }
     ensures only { Becomes K.Keeper keeper.old keeper.new
-        (λ t u. AllSources (RequestMayWrite app.now trigger) (drop (length wrote.old.items) wrote.new.items)) }
-    ensures undoable { CanGoBack K.Keeper app.now moment before.now cache.new keeper.new wrote.new.items }
-    ensures goes_on { GoesOn K.Keeper app.now cache.old cache.new keeper.old keeper.new wrote.old.items wrote.new.items }
+        (λ t u. AllSources (RequestMayWrite app.now trigger)
+        (drop (length wrote.old.items) wrote.new.items)) }
+    ensures undoable { CanGoBack K.Keeper app.now moment before.now cache.new keeper.new
+        wrote.new.items }
+    ensures goes_on { GoesOn K.Keeper app.now cache.old cache.new keeper.old keeper.new
+        wrote.old.items wrote.new.items }
     ensures cause { HasCause K.Keeper keeper.old keeper.new result }
 {
     // The law is called for what it says: a formula does one thing at most.
@@ -109,8 +118,8 @@ fn accept_reply(
     })
 }
 
-/// Does what an accepted request does, in one transaction. What stops leaves the tables, and of what was written the cache is still
-/// to be told that it has changed back.
+/// Does what an accepted request does, in one transaction. What stops leaves the tables, and of
+/// what was written the cache is still to be told that it has changed back.
 fn transact<K: Keeper, L: Ledger>(
     alloc: Global,
     app: &App,
@@ -127,15 +136,22 @@ fn transact<K: Keeper, L: Ledger>(
 ) -> Result<Accepted, KeeperEnd>
     requires sound { IsSoundApp app.now }
     requires item { ItemFits app.now trigger (option_map view item) }
-    requires ready { CanBegin K.Keeper app.now moment before.now session cache.old keeper.old wrote.old.items }
-    ensures accepted { IfOk result (IsAccepted K.Keeper app.now moment trigger (option_map view item) seq session cache.new keeper.old keeper.new (drop (length wrote.old.items) wrote.new.items)) }
+    requires ready { CanBegin K.Keeper app.now moment before.now session cache.old keeper.old
+        wrote.old.items }
+    ensures accepted { IfOk result (IsAccepted K.Keeper app.now moment trigger
+        (option_map view item) seq session cache.new keeper.old keeper.new
+        (drop (length wrote.old.items) wrote.new.items)) }
     ensures stopped { OnErr result (Becomes K.Keeper keeper.old keeper.new Stays) }
-    ensures pending { OnErr result (IsPending app.now before.now (K.told keeper.new) moment wrote.new.items cache.new) }
+    ensures pending { OnErr result (IsPending app.now before.now (K.told keeper.new) moment
+        wrote.new.items cache.new) }
     ensures cut { OnErr result (Becomes K.Keeper keeper.old keeper.new
-        (λ t u. AllSources (IsInAll (RequestWrites app.now moment trigger (option_map view item) (scene t (begun session)))) (drop (length wrote.old.items) wrote.new.items))) }
+        (λ t u. AllSources (IsInAll (RequestWrites app.now moment trigger (option_map view item)
+        (scene t (begun session)))) (drop (length wrote.old.items) wrote.new.items))) }
     ensures only { Becomes K.Keeper keeper.old keeper.new
-        (λ t u. AllSources (RequestMayWrite app.now trigger) (drop (length wrote.old.items) wrote.new.items)) }
-    ensures ended { HasEnded K.Keeper app.now cache.old cache.new keeper.old keeper.new wrote.old.items wrote.new.items }
+        (λ t u. AllSources (RequestMayWrite app.now trigger)
+        (drop (length wrote.old.items) wrote.new.items)) }
+    ensures ended { HasEnded K.Keeper app.now cache.old cache.new keeper.old keeper.new
+        wrote.old.items wrote.new.items }
     ensures cause { HasCause K.Keeper keeper.old keeper.new result }
 {
     // The law is called for what it says: a formula does one thing at most.
@@ -161,16 +177,18 @@ fn transact<K: Keeper, L: Ledger>(
 /// Tells a cache that these sources have changed.
 fn touch_all(app: &App, cache: &mut Cache, sources: &[Source])
     requires { (a : AnApp) × IsInOrder a cache.old × AreSources a.names sources.now }
-    ensures { (a : AnApp) → AreSources a.names sources.now → AreTouched a sources.now cache.old cache.new }
+    ensures { (a : AnApp) → AreSources a.names sources.now
+        → AreTouched a sources.now cache.old cache.new }
 {
     for source in sources {
         cache.touched(app, *source);
     }
 }
 
-/// Does what an accepted event or input does, in one transaction, to a session in which what is given or chosen stands
-/// already; `before` is the session without it. All memory is taken before the transaction ends. `wrote` is told the sources that are
-/// written. What stops leaves the tables, and the cache then stands for the session as it was before.
+/// Does what an accepted event or input does, in one transaction, to a session in which what is
+/// given or chosen stands already; `before` is the session without it. All memory is taken before
+/// the transaction ends. `wrote` is told the sources that are written. What stops leaves the
+/// tables, and the cache then stands for the session as it was before.
 pub fn accept_request<K: Keeper, L: Ledger>(
     alloc: Global,
     app: &App,
@@ -187,15 +205,21 @@ pub fn accept_request<K: Keeper, L: Ledger>(
 ) -> Result<Accepted, KeeperEnd>
     requires sound { IsSoundApp app.now }
     requires item { ItemFits app.now trigger (option_map view item) }
-    requires ready { CanBegin K.Keeper app.now moment before.now session cache.old keeper.old wrote.old.items }
-    ensures accepted { IfOk result (IsAccepted K.Keeper app.now moment trigger (option_map view item) seq session cache.new keeper.old keeper.new (drop (length wrote.old.items) wrote.new.items)) }
+    requires ready { CanBegin K.Keeper app.now moment before.now session cache.old keeper.old
+        wrote.old.items }
+    ensures accepted { IfOk result (IsAccepted K.Keeper app.now moment trigger
+        (option_map view item) seq session cache.new keeper.old keeper.new
+        (drop (length wrote.old.items) wrote.new.items)) }
     ensures stopped { OnErr result (Becomes K.Keeper keeper.old keeper.new Stays) }
     ensures undone { OnErr result (IsCached app.now before.now (K.told keeper.new) moment cache.new) }
     ensures cut { OnErr result (Becomes K.Keeper keeper.old keeper.new
-        (λ t u. AllSources (IsInAll (RequestWrites app.now moment trigger (option_map view item) (scene t (begun session)))) (drop (length wrote.old.items) wrote.new.items))) }
+        (λ t u. AllSources (IsInAll (RequestWrites app.now moment trigger (option_map view item)
+        (scene t (begun session)))) (drop (length wrote.old.items) wrote.new.items))) }
     ensures only { Becomes K.Keeper keeper.old keeper.new
-        (λ t u. AllSources (RequestMayWrite app.now trigger) (drop (length wrote.old.items) wrote.new.items)) }
-    ensures ended { HasEnded K.Keeper app.now cache.old cache.new keeper.old keeper.new wrote.old.items wrote.new.items }
+        (λ t u. AllSources (RequestMayWrite app.now trigger)
+        (drop (length wrote.old.items) wrote.new.items)) }
+    ensures ended { HasEnded K.Keeper app.now cache.old cache.new keeper.old keeper.new
+        wrote.old.items wrote.new.items }
     ensures cause { HasCause K.Keeper keeper.old keeper.new result }
 {
     match transact(

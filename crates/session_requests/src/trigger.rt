@@ -1,6 +1,8 @@
 //! What makes formulas act, and which formulas these are.
 ghost use Rattle.std.specs.Prelude.{◌≡◌, ◌<◌, IfSome, length};
-ghost use Rattle.session_requests.specs.Triggers.{cell_at as cell_of, is_at as is_place_of, is_property_named as is_property_of, is_on_visible as is_visible_of};
+ghost use Rattle.session_requests.specs.Triggers.{cell_at as cell_of, is_at as is_place_of};
+ghost use Rattle.session_requests.specs.Triggers.{is_property_named as is_property_of};
+ghost use Rattle.session_requests.specs.Triggers.{is_on_visible as is_visible_of};
 
 use crate::app_cells::{App, CellInfo, Spot};
 

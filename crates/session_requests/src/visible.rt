@@ -11,7 +11,8 @@ ghost use Rattle.fx_value.specs.Columns.{Row};
 ghost use Rattle.recalc.specs.Asking.{IsHeardOf, ToldRows};
 ghost use Rattle.recalc.specs.Templates.{StandsIn};
 ghost use Rattle.recalc.specs.Values.{CellsFit, value_of};
-ghost use Rattle.session_requests.specs.Posting.{IsShownToUser, IsVisibleFor, gallery_around as gallery_around_of};
+ghost use Rattle.session_requests.specs.Posting.{IsShownToUser, IsVisibleFor};
+ghost use Rattle.session_requests.specs.Posting.{gallery_around as gallery_around_of};
 ghost use Rattle.session_requests.specs.Targets.{IsTarget};
 ghost use Rattle.row_keeper.specs.Over.{HasCause};
 
@@ -24,8 +25,8 @@ use session_state::Session;
 use std::alloc::Global;
 use std::sync::ledger::Ledger;
 
-/// Whether the control of a target is visible for its item, in at most one step. Of a control that stands in no gallery nothing
-/// is left to ask.
+/// Whether the control of a target is visible for its item, in at most one step. Of a control that
+/// stands in no gallery nothing is left to ask.
 #[tactic(auto, using(recalc::proofs::Asked::read_none))]
 pub(crate) fn is_shown_for<K: Keeper, L: Ledger>(
     alloc: Global,
@@ -42,8 +43,10 @@ pub(crate) fn is_shown_for<K: Keeper, L: Ledger>(
     requires day { (moment : ℕ) × IsToday moment valued.now.day }
     requires target { IsTarget app.now.names (value_of valued.now) target }
     requires shaped { K.shaped keeper.old ≡ Some app.now.names.schema }
-    ensures shows { IfOk result (λ b. (moment : ℕ) (tables : ToldRows) → IsToday moment valued.now.day → IsHeardOf (K.told keeper.new) tables →
-        IsShownToUser (present app.now session.now tables moment) (value_of valued.now) target.control (gallery_around_of app.now target.control) target.item b) }
+    ensures shows { IfOk result (λ b. (moment : ℕ) (tables : ToldRows)
+        → IsToday moment valued.now.day → IsHeardOf (K.told keeper.new) tables →
+        IsShownToUser (present app.now session.now tables moment) (value_of valued.now)
+        target.control (gallery_around_of app.now target.control) target.item b) }
     ensures read { HasRead K.Keeper keeper.old keeper.new }
     ensures cause { HasCause K.Keeper keeper.old keeper.new result }
 {
@@ -88,10 +91,13 @@ fn is_visible_at<K: Keeper, L: Ledger>(
     requires fits { CellsFit app.now (value_of valued.now) }
     requires day { (moment : ℕ) × IsToday moment valued.now.day }
     requires stands { StandsIn app.now.names control item.gallery }
-    requires there { (row : Row) × (row_at_position item.at (rows_in (items_of app.now.names (value_of valued.now) item.gallery)) ≡ Some row) }
+    requires there { (row : Row) × (row_at_position item.at
+        (rows_in (items_of app.now.names (value_of valued.now) item.gallery)) ≡ Some row) }
     requires shaped { K.shaped keeper.old ≡ Some app.now.names.schema }
-    ensures shows { IfOk result (λ b. (moment : ℕ) (tables : ToldRows) → IsToday moment valued.now.day → IsHeardOf (K.told keeper.new) tables →
-        IsVisibleFor (present app.now session.now tables moment) (value_of valued.now) control item.gallery item.at b) }
+    ensures shows { IfOk result (λ b. (moment : ℕ) (tables : ToldRows)
+        → IsToday moment valued.now.day → IsHeardOf (K.told keeper.new) tables →
+        IsVisibleFor (present app.now session.now tables moment) (value_of valued.now) control
+        item.gallery item.at b) }
     ensures read { HasRead K.Keeper keeper.old keeper.new }
     ensures cause { HasCause K.Keeper keeper.old keeper.new result }
 {

@@ -1,5 +1,6 @@
 -- What changes make of a session, which are refused, and what fits an app's names.
-use Rattle.std.specs.Prelude.{◌≡◌, ℕ, ◌<◌, ◌++◌, ◌∷◌, [], nat_le, not, ◌||◌, length, slice_set, Bool, true, false, Some, None, option_map}
+use Rattle.std.specs.Prelude.{◌≡◌, ℕ, ◌<◌, ◌++◌, ◌∷◌, [], nat_le, not, ◌||◌, length, slice_set}
+use Rattle.std.specs.Prelude.{Bool, true, false, Some, None, option_map}
 use Rattle.fx_types.specs.Values.{Data, blank, tab, no_rows}
 use Rattle.fx_types.specs.ValueView.{view}
 use Rattle.fx_types.specs.Types.{Shape}
@@ -9,8 +10,10 @@ use Rattle.fx_core.specs.declared.sources.Source.TheVariants as source
 use Rattle.fx_core.specs.declared.names.Names.{Names}
 use Rattle.fx_core.specs.SourceTypes.{sources}
 use Rattle.session_state.specs.declared.change.Change.{Change}
-use Rattle.session_state.specs.declared.change.Change.TheVariants.{Global, Context, Gather, Empty, Input, Choose, Screen, Notice}
-use Rattle.session_state.specs.Sessions.{SessionState, no_session_room, weight, may_weigh, stored_value, Holds}
+use Rattle.session_state.specs.declared.change.Change.TheVariants.{Global, Context, Gather, Empty}
+use Rattle.session_state.specs.declared.change.Change.TheVariants.{Input, Choose, Screen, Notice}
+use Rattle.session_state.specs.Sessions.{SessionState, no_session_room, weight, may_weigh}
+use Rattle.session_state.specs.Sessions.{stored_value, Holds}
 
 -- the session that a change makes
 abbrev pub made : Change → SessionState → SessionState
@@ -56,18 +59,20 @@ IsOwn (source.Gathered k) = Unit {0}
 IsOwn (source.Input k) = Unit {0}
 IsOwn x = ⊥
 
--- a session fits an app's names where its screen is one, each control has a place, each of its sources that has a type is
--- held, with a value that fits it, and there is no room beside it
+-- a session fits an app's names where its screen is one, each control has a place, each of its
+-- sources that has a type is held, with a value that fits it, and there is no room beside it
 pub record FitsNames (n : Names) (s : SessionState) : Type 0 where
   pub screen : s.screen < length n.screens
   pub controls : length s.chosen ≡ length n.controls
   pub sources_held : (x : Source) (t : Shape) → IsOwn x → sources n x ≡ Some t → Holds s x
-  pub values_fit : (x : Source) (t : Shape) → IsOwn x → sources n x ≡ Some t → fits_in (stored_value s x) t ≡ true
+  pub values_fit : (x : Source) (t : Shape) → IsOwn x → sources n x ≡ Some t
+      → fits_in (stored_value s x) t ≡ true
   pub spare : s.room ≡ no_session_room
 
 -- an empty table fits the type of each collection
 abbrev pub HoldsTables : Names → Type 0
-HoldsTables n = (k : ℕ) (t : Shape) → sources n (source.Gathered k) ≡ Some t → fits_in (tab no_rows) t ≡ true
+HoldsTables n = (k : ℕ) (t : Shape) → sources n (source.Gathered k) ≡ Some t
+    → fits_in (tab no_rows) t ≡ true
 
 -- a value fits where a source of the names has a type that it fits
 abbrev pub FitsSource : Names → Source → Data → Type 0

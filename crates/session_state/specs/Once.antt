@@ -17,4 +17,5 @@ nobody = record { last = 0; body = []; reply = [] }
 abbrev pub turn_of : LastRequest → ℕ → List ℕ → Turn
 turn_of k seq body =
     if seq == k.last + 1 then New
-    else (if seq == k.last then (if bytes_eq body k.body then Again else Reused) else OutOfStep k.last)
+    else (if seq == k.last then (if bytes_eq body k.body then Again else Reused) else OutOfStep
+    k.last)

@@ -1,5 +1,6 @@
 -- What is kept of a session.
-use Rattle.std.specs.Prelude.{ℕ, ◌+◌, ◌-◌, ◌^◌, ◌<◌, ◌≤◌, min, max, nat_le, ◌||◌, List, [], length, Bool, false, Option, None, unwrap_or, replicate}
+use Rattle.std.specs.Prelude.{ℕ, ◌+◌, ◌-◌, ◌^◌, ◌<◌, ◌≤◌, min, max, nat_le, ◌||◌, List, [], length}
+use Rattle.std.specs.Prelude.{Bool, false, Option, None, unwrap_or, replicate}
 use Rattle.std.specs.List.{slice_index_or, sum_by}
 use Rattle.fx_types.specs.Values.{Data, blank, tab, no_rows}
 use Rattle.fx_value.specs.Weight.{weight_of}
@@ -18,16 +19,20 @@ no_session_room = record { variables = 0; collections = 0 }
 
 -- as much as the names want, and no less than there is
 abbrev pub room_with : Names → SessionRoom → SessionRoom
-room_with n r = record { variables = max (length n.variables) r.variables; collections = max (length n.collections) r.collections }
+room_with n r = record {
+  variables = max (length n.variables) r.variables;
+  collections = max (length n.collections) r.collections;
+}
 
 -- there is as much as the names want
 pub record HasSessionRoom (n : Names) (r : SessionRoom) : Type 0 where
   pub variables : length n.variables ≤ r.variables
   pub collections : length n.collections ≤ r.collections
 
--- The current screen, and whether one was made current in this request; variables and collections, by their numbers; by the
--- numbers of controls what users gave, and the position and the id of what is chosen; the last accepted request; the notices
--- of this request; and the spare room, which there is while an app is edited.
+-- The current screen, and whether one was made current in this request; variables and collections,
+-- by their numbers; by the numbers of controls what users gave, and the position and the id of what
+-- is chosen; the last accepted request; the notices of this request; and the spare room, which
+-- there is while an app is edited.
 pub record SessionState : Type 0 where
   pub screen : ℕ
   pub navigated : Bool

@@ -7,7 +7,8 @@ use fx_base::Memory;
 use std::alloc::Global;
 use std::marker::Model;
 
-/// What is kept of a caller: its last number, 0 at first, and the body and the reply of the request that had it.
+/// What is kept of a caller: its last number, 0 at first, and the body and the reply of the request
+/// that had it.
 #[derive(Drop)]
 pub(crate) struct Caller {
     last: u32,

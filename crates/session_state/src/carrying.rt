@@ -1,5 +1,6 @@
 //! What a session keeps as an app is edited.
-ghost use Rattle.std.specs.Prelude.{◌≡◌, ◌+◌, ◌<◌, ◌≤◌, ◌++◌, ◌∷◌, [], MatchOption, map, length, slice_get, slice_set, vec_capacity, vec_len};
+ghost use Rattle.std.specs.Prelude.{◌≡◌, ◌+◌, ◌<◌, ◌≤◌, ◌++◌, ◌∷◌, [], MatchOption, map, length};
+ghost use Rattle.std.specs.Prelude.{slice_get, slice_set, vec_capacity, vec_len};
 ghost use Rattle.fx_types.specs.ValueView.{view};
 ghost use Rattle.fx_types.specs.Values.{blank, tab, no_rows};
 ghost use Rattle.session_state.specs.Carrying as carrying;
@@ -12,9 +13,11 @@ use fx_typing::ways::same_shape;
 use std::alloc::Global;
 use std::mem;
 
-// Whether two screens are there, the one among these names and the other among others, and have one name.
+// Whether two screens are there, the one among these names and the other among others, and have one
+// name.
 fn are_one(names: &Names, others: &Names, one: usize, other: usize) -> bool
-    ensures { result ≡ carrying.is_same_name (slice_get names.now.screens one) (slice_get others.now.screens other) }
+    ensures { result ≡ carrying.is_same_name (slice_get names.now.screens one)
+        (slice_get others.now.screens other) }
 {
     match (names.screens.get(one), others.screens.get(other)) {
         (Some(one), Some(other)) => one.is(other),
@@ -99,10 +102,12 @@ pub fn collection_was(old: &Names, new: &Names, place: usize) -> Option<usize>
     }
 }
 
-// Takes the value at a place away, and leaves another for it, which is given back where there is none.
+// Takes the value at a place away, and leaves another for it, which is given back where there is
+// none.
 fn take(values: &mut Vec<Value>, place: Option<usize>, other: Value) -> Value
     ensures value { result ≡ value_or other values.old.items place }
-    ensures left { MatchOption place (values.new.items ≡ values.old.items) (λ k. values.new.items ≡ slice_set values.old.items k other) }
+    ensures left { MatchOption place (values.new.items ≡ values.old.items)
+        (λ k. values.new.items ≡ slice_set values.old.items k other) }
 {
     match place {
         Some(place) if place < values.len() => mem::replace(&mut values[place], other),
@@ -127,7 +132,8 @@ fn put(values: &mut Vec<Value>, value: Value)
 pub(crate) fn carry_variables(old: &Names, new: &Names, from: &mut Vec<Value>, to: &mut Vec<Value>)
     requires empty { to.old.items ≡ [] }
     requires room { length new.now.variables ≤ vec_capacity to.old }
-    ensures { map view to.new.items ≡ carried_values (carrying.variable_was old.now new.now) blank (map view from.old.items) (length new.now.variables) }
+    ensures { map view to.new.items ≡ carried_values (carrying.variable_was old.now new.now) blank
+        (map view from.old.items) (length new.now.variables) }
 {
     for place in 0..new.variables.len() {
         put(to, take(from, variable_was(old, new, place), Value::Blank));
@@ -144,7 +150,8 @@ pub(crate) fn carry_collections(
 )
     requires empty { to.old.items ≡ [] }
     requires room { length new.now.collections ≤ vec_capacity to.old }
-    ensures { map view to.new.items ≡ carried_values (carrying.collection_was old.now new.now) (tab no_rows) (map view from.old.items) (length new.now.collections) }
+    ensures { map view to.new.items ≡ carried_values (carrying.collection_was old.now new.now)
+        (tab no_rows) (map view from.old.items) (length new.now.collections) }
 {
     for place in 0..new.collections.len() {
         let none = Value::Tab(Rows::new(alloc));

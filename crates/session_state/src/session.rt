@@ -1,5 +1,6 @@
 //! Sessions.
-ghost use Rattle.std.specs.Prelude.{◌≡◌, ◌<◌, IfOk, OnOk, OnErr, length, [], slice_index_or, slice_set, nat_le, ◌++◌, ◌∷◌, Some, None, not, if◌then◌else◌};
+ghost use Rattle.std.specs.Prelude.{◌≡◌, ◌<◌, IfOk, OnOk, OnErr, length, [], slice_index_or};
+ghost use Rattle.std.specs.Prelude.{slice_set, nat_le, ◌++◌, ◌∷◌, Some, None, not, if◌then◌else◌};
 
 use crate::caller::Caller;
 use crate::carrying::{carry_collections, carry_variables};
@@ -40,7 +41,8 @@ pub struct Session {
     spare_collections: Vec<Value>,
 }
 
-// By hand, so that it is called: what is derived is opened wherever a value may end, which costs proofs seconds each time.
+// By hand, so that it is called: what is derived is opened wherever a value may end, which costs
+// proofs seconds each time.
 impl Drop for Session {
     fn drop(self) {
         let Session {
@@ -80,11 +82,15 @@ impl Model for Session {
       chosen = s.chosen.items;
       kept = s.caller;
       notices = s.notices.items;
-      room = record { variables = vec_capacity s.spare_variables; collections = vec_capacity s.spare_collections };
+      room = record {
+        variables = vec_capacity s.spare_variables;
+        collections = vec_capacity s.spare_collections;
+      };
     } };
 
     ghost invariant = { λ s.
-        (s.weight ≡ weight_of_values (map value_view s.variables.items) (map value_view s.collections.items))
+        (s.weight ≡ weight_of_values (map value_view s.variables.items)
+        (map value_view s.collections.items))
         × (s.spare_variables.items ≡ []) × (s.spare_collections.items ≡ []) };
 }
 
@@ -100,14 +106,18 @@ impl Session {
     ghost use Rattle.fx_core.specs.SourceTypes.{sources};
     ghost use Rattle.session_state.specs.Once.{turn_of};
     ghost use Rattle.session_state.specs.Carrying.{carried};
-    ghost use Rattle.session_state.specs.Sessions.{HasSessionRoom, opened, stored_value, Holds, no_session_room, room_with, weight as weight_of, may_weigh};
-    ghost use Rattle.session_state.specs.Changes.{made, is_change_refused, IsNotice, IsThere, FitsNames, FitsChange, HoldsTables};
+    ghost use Rattle.session_state.specs.Sessions.{HasSessionRoom, opened, stored_value, Holds};
+    ghost use Rattle.session_state.specs.Sessions.{no_session_room, room_with, weight as weight_of};
+    ghost use Rattle.session_state.specs.Sessions.{may_weigh};
+    ghost use Rattle.session_state.specs.Changes.{made, is_change_refused, IsNotice, IsThere};
+    ghost use Rattle.session_state.specs.Changes.{FitsNames, FitsChange, HoldsTables};
 
-    /// A session of an app: on its first screen, with blank variables, empty collections, and nothing given, chosen or
-    /// accepted yet.
+    /// A session of an app: on its first screen, with blank variables, empty collections, and
+    /// nothing given, chosen or accepted yet.
     pub fn new(alloc: Global, names: &Names) -> Result<Session, Memory>
         ensures opened { IfOk result (λ s. s ≡ opened names.now) }
-        ensures fits { 0 < length names.now.screens → HoldsTables names.now → FitsNames names.now (opened names.now) }
+        ensures fits { 0 < length names.now.screens → HoldsTables names.now
+            → FitsNames names.now (opened names.now) }
     {
         let count = names
             .variables
@@ -137,7 +147,8 @@ impl Session {
         ensures { IfOk result (λ s. s ≡ self.now) }
     {
         let alloc = self.alloc;
-        // Filled part by part, so that one session, and not each part by itself, ends where memory runs out.
+        // Filled part by part, so that one session, and not each part by itself, ends where memory
+        // runs out.
         let mut copy = Session {
             alloc,
             screen: self.screen,
@@ -163,7 +174,8 @@ impl Session {
 
     /// Makes room for the variables and the collections that an edited app has.
     pub fn make_room(&mut self, names: &Names) -> Result<(), Memory>
-        ensures made { IfOk result (λ _. self.new ≡ record self.old { room = room_with names.now self.old.room }) }
+        ensures made { IfOk result (λ _. self.new
+            ≡ record self.old { room = room_with names.now self.old.room }) }
         ensures err { OnErr result (self.new ≡ self.old) }
     {
         let variables = names.variables.len().max(self.spare_variables.capacity());
@@ -186,7 +198,8 @@ impl Session {
         self.spare_collections = Vec::new(self.alloc);
     }
 
-    /// Goes over to an edited app. What both apps have keeps its value, and the room is used up. It takes no memory.
+    /// Goes over to an edited app. What both apps have keeps its value, and the room is used up. It
+    /// takes no memory.
     pub fn carry(&mut self, old: &Names, new: &Names)
         requires { HasSessionRoom new.now self.old.room }
         ensures { self.new ≡ carried old.now new.now self.old }
@@ -206,11 +219,13 @@ impl Session {
         self.collections = collections;
     }
 
-    /// The value of a variable or a collection, or what the user gave, which is blank where nothing was given.
+    /// The value of a variable or a collection, or what the user gave, which is blank where nothing
+    /// was given.
     pub fn get(&self, source: Source) -> Result<Value, Memory>
         requires { Holds self.now source }
         ensures value { IfOk result (λ v. view v ≡ stored_value self.now source) }
-        ensures fits { (names : AppNames) (t : Shape) → FitsNames names self.now → sources names source ≡ Some t → fits_in (stored_value self.now source) t ≡ true }
+        ensures fits { (names : AppNames) (t : Shape) → FitsNames names self.now
+            → sources names source ≡ Some t → fits_in (stored_value self.now source) t ≡ true }
     {
         match source {
             Source::Global(number) | Source::Context(number) => {
@@ -226,25 +241,29 @@ impl Session {
         }
     }
 
-    /// Makes a change, and says whether it was made. It is refused where the variables and collections would come to
-    /// weigh more than before and more than 4,194,304 bytes, and at the eleventh notice. Only a notice takes memory.
+    /// Makes a change, and says whether it was made. It is refused where the variables and
+    /// collections would come to weigh more than before and more than 4,194,304 bytes, and at the
+    /// eleventh notice. Only a notice takes memory.
     pub fn change(&mut self, change: Change) -> Result<bool, Memory>
         requires { IsThere change self.old }
         ensures answer { IfOk result (λ done. done ≡ not (is_change_refused change self.old)) }
-        ensures changed { IfOk result (λ done. self.new ≡ (if done then made change self.old else self.old)) }
+        ensures changed { IfOk result (λ done. self.new
+            ≡ (if done then made change self.old else self.old)) }
         ensures err { OnErr result (self.new ≡ self.old) }
         ensures memory { OnErr result (IsNotice change) }
-        ensures fits { (names : AppNames) → FitsNames names self.old → FitsChange names change → FitsNames names self.new }
+        ensures fits { (names : AppNames) → FitsNames names self.old → FitsChange names change
+            → FitsNames names self.new }
     {
         self.make(change)
     }
 
-    // Makes a change, where it isn't refused. That the session goes on fitting the app's names is proved in `change`,
-    // over these clauses alone.
+    // Makes a change, where it isn't refused. That the session goes on fitting the app's names is
+    // proved in `change`, over these clauses alone.
     fn make(&mut self, change: Change) -> Result<bool, Memory>
         requires { IsThere change self.old }
         ensures answer { IfOk result (λ done. done ≡ not (is_change_refused change self.old)) }
-        ensures changed { IfOk result (λ done. self.new ≡ (if done then made change self.old else self.old)) }
+        ensures changed { IfOk result (λ done. self.new
+            ≡ (if done then made change self.old else self.old)) }
         ensures err { OnErr result (self.new ≡ self.old) }
         ensures memory { OnErr result (IsNotice change) }
     {
@@ -277,8 +296,13 @@ impl Session {
     // Gives a variable its value, where the weight allows it.
     fn put_variable(&mut self, number: u32, value: Value) -> bool
         requires { number < length self.old.variables }
-        ensures answer { result ≡ may_weigh (weight_of self.old) (weight_of (record self.old { variables = slice_set self.old.variables number (view value) })) }
-        ensures changed { self.new ≡ (if result then record self.old { variables = slice_set self.old.variables number (view value) } else self.old) }
+        ensures answer { result ≡ may_weigh (weight_of self.old)
+            (weight_of (record self.old {
+              variables = slice_set self.old.variables number
+                  (view value);
+            })) }
+        ensures changed { self.new ≡ (if result then record self.old
+            { variables = slice_set self.old.variables number (view value) } else self.old) }
     {
         put(&mut self.variables, &mut self.weight, number, value)
     }
@@ -286,8 +310,13 @@ impl Session {
     // Makes a collection this table, where the weight allows it.
     fn put_collection(&mut self, number: u32, value: Value) -> bool
         requires { number < length self.old.collections }
-        ensures answer { result ≡ may_weigh (weight_of self.old) (weight_of (record self.old { collections = slice_set self.old.collections number (view value) })) }
-        ensures changed { self.new ≡ (if result then record self.old { collections = slice_set self.old.collections number (view value) } else self.old) }
+        ensures answer { result ≡ may_weigh (weight_of self.old)
+            (weight_of (record self.old {
+              collections = slice_set self.old.collections number
+                  (view value);
+            })) }
+        ensures changed { self.new ≡ (if result then record self.old
+            { collections = slice_set self.old.collections number (view value) } else self.old) }
     {
         put(&mut self.collections, &mut self.weight, number, value)
     }
@@ -295,7 +324,9 @@ impl Session {
     // Adds a notice, of which there are ten at most.
     fn add_notice(&mut self, text: Words) -> Result<bool, Memory>
         ensures answer { IfOk result (λ done. done ≡ not (nat_le 10 (length self.old.notices))) }
-        ensures changed { IfOk result (λ done. self.new ≡ (if done then record self.old { notices = self.old.notices ++ text ∷ [] } else self.old)) }
+        ensures changed { IfOk result (λ done. self.new
+            ≡ (if done then record self.old { notices = self.old.notices ++ text ∷ [] } else
+            self.old)) }
         ensures err { OnErr result (self.new ≡ self.old) }
     {
         if self.notices.len() >= MOST_NOTICES {
@@ -314,7 +345,13 @@ impl Session {
 
     /// A request was accepted and answered so.
     pub fn keep(&mut self, seq: u32, body: Vec<u8>, reply: Vec<u8>)
-        ensures { self.new ≡ record self.old { kept = record { last = seq; body = body.items; reply = reply.items } } }
+        ensures { self.new ≡ record self.old {
+          kept = record {
+            last = seq;
+            body = body.items;
+            reply = reply.items;
+          };
+        } }
     {
         self.caller.keep(seq, body, reply);
     }
@@ -333,8 +370,8 @@ impl Session {
         self.screen
     }
 
-    /// What is chosen of a gallery: the position of the item, from 1, and its id where it has one. None where nothing was
-    /// chosen.
+    /// What is chosen of a gallery: the position of the item, from 1, and its id where it has one.
+    /// None where nothing was chosen.
     pub fn chosen(&self, gallery: u32) -> Option<(u32, Option<u32>)>
         ensures { result ≡ slice_index_or self.now.chosen gallery None }
     {

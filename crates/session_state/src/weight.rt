@@ -1,5 +1,6 @@
 //! The weight of a session, and how much it may become.
-ghost use Rattle.std.specs.Prelude.{◌≡◌, ◌+◌, ◌-◌, ◌^◌, ◌<◌, ◌≤◌, MatchOption, length, map, vec_len, slice_set, true, false, if◌then◌else◌};
+ghost use Rattle.std.specs.Prelude.{◌≡◌, ◌+◌, ◌-◌, ◌^◌, ◌<◌, ◌≤◌, MatchOption, length, map};
+ghost use Rattle.std.specs.Prelude.{vec_len, slice_set, true, false, if◌then◌else◌};
 ghost use Rattle.std.specs.List.{sum_by};
 ghost use Rattle.fx_types.specs.ValueView.{view};
 ghost use Rattle.session_state.specs.Sessions.{may_weigh, weighed};
@@ -10,8 +11,8 @@ use fx_value::weighing::weigh;
 /// The most that a session's variables and collections may come to weigh, in bytes.
 const MOST: u128 = 4_194_304;
 
-/// The weight where one part is changed for another. None where it is refused: where it would both have grown and be
-/// over the most.
+/// The weight where one part is changed for another. None where it is refused: where it would both
+/// have grown and be over the most.
 fn weight_after(weight: u128, old: u64, new: u64) -> Option<u128>
     requires { old ≤ weight }
     ensures { MatchOption result (may_weigh weight (weight - old + new) ≡ false)
@@ -25,15 +26,19 @@ fn weight_after(weight: u128, old: u64, new: u64) -> Option<u128>
     }
 }
 
-/// Changes one of the values of which the weight is a part, where the weight may become what it then is.
+/// Changes one of the values of which the weight is a part, where the weight may become what it
+/// then is.
 pub(crate) fn put(values: &mut Vec<Value>, weight: &mut u128, number: u32, value: Value) -> bool
     requires there { number < vec_len values.old }
     requires part { sum_by weighed (map view values.old.items) ≤ weight.old }
     ensures answer { result ≡ may_weigh weight.old
-        (weight.old - sum_by weighed (map view values.old.items) + sum_by weighed (slice_set (map view values.old.items) number (view value))) }
-    ensures values { values.new.items ≡ (if result then slice_set values.old.items number value else values.old.items) }
+        (weight.old - sum_by weighed (map view values.old.items)
+        + sum_by weighed (slice_set (map view values.old.items) number (view value))) }
+    ensures values { values.new.items ≡ (if result then slice_set values.old.items number value else
+        values.old.items) }
     ensures weight { weight.new ≡ (if result
-        then weight.old - sum_by weighed (map view values.old.items) + sum_by weighed (slice_set (map view values.old.items) number (view value))
+        then weight.old - sum_by weighed (map view values.old.items)
+        + sum_by weighed (slice_set (map view values.old.items) number (view value))
         else weight.old) }
 {
     let place = number as usize;

@@ -1,5 +1,6 @@
 -- The cells that are looked at when controls are shown.
-use Rattle.std.specs.Prelude.{◌≡◌, ◌↔◌, ◌⊎◌, ℕ, ◌==◌, ◌&&◌, List, Bool, true, false, not, is_none, Option, Some, None, option_map, slice_get, unwrap_or}
+use Rattle.std.specs.Prelude.{◌≡◌, ◌↔◌, ◌⊎◌, ℕ, ◌==◌, ◌&&◌, List, Bool, true, false, not, is_none}
+use Rattle.std.specs.Prelude.{Option, Some, None, option_map, slice_get, unwrap_or}
 use Rattle.std.specs.List.{Contains}
 use Rattle.recalc.specs.app_cells.Leaning.{LeansOn}
 use Rattle.recalc.specs.app_cells.declared.app.App.{App}
@@ -17,7 +18,8 @@ use Rattle.session_views.specs.declared.roots.Part.TheVariants as part
 
 -- a control stands on a screen, and in no gallery
 abbrev pub is_on_screen : Names → ℕ → ℕ → Bool
-is_on_screen n s k = unwrap_or (option_map (λ (c : ControlName). is_none c.gallery && (c.screen == s)) (slice_get n.controls k)) false
+is_on_screen n s k = unwrap_or (option_map (λ (c : ControlName). is_none c.gallery
+    && (c.screen == s)) (slice_get n.controls k)) false
 
 -- it is this one
 abbrev pub is_it : ℕ → ℕ → Bool
@@ -51,14 +53,16 @@ IsLeanedOn n of c k = (is_in_template of c ≡ true) × LeansOn n c k
 abbrev pub IsThrough : {A : Type 0} → (A → ℕ → Type 0) → List A → ℕ → Type 0
 IsThrough {A} P xs k = (i : ℕ) × (x : A) × (slice_get xs i ≡ Some x) × P x k
 
--- A CELL IS LOOKED AT for these controls: it is the formula of a property of one of them, or a formula leans on it that stands in
--- the template of one
+-- A CELL IS LOOKED AT for these controls: it is the formula of a property of one of them, or a
+-- formula leans on it that stands in the template of one
 abbrev pub IsLookedAt : App → (ℕ → Bool) → ℕ → Type 0
-IsLookedAt a of k = IsThrough (IsOwnCell a.names of) a.names.properties k ⊎ IsThrough (IsLeanedOn a.names of) a.cells k
+IsLookedAt a of k = IsThrough (IsOwnCell a.names of) a.names.properties k
+    ⊎ IsThrough (IsLeanedOn a.names of) a.cells k
 
 -- these are the cells that are looked at, but those that have no value by themselves
 abbrev pub AreLookedAt : App → (ℕ → Bool) → List ℕ → Type 0
-AreLookedAt a of roots = (k : ℕ) → Contains roots k ↔ (IsLookedAt a of k × (is_alone a.cells k ≡ true))
+AreLookedAt a of roots = (k : ℕ) → Contains roots k
+    ↔ (IsLookedAt a of k × (is_alone a.cells k ≡ true))
 
 -- the cells that are looked at have their fresh values
 abbrev pub AreFreshFor : Present → (ℕ → Data) → (ℕ → Bool) → Type 0

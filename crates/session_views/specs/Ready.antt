@@ -31,4 +31,5 @@ IsGalleryOf n g = (c : ControlName) × IsGalleryAt n g c
 
 -- a row is an item of the gallery of this number
 abbrev pub IsItemOf : Names → ℕ → Row → Type 0
-IsItemOf n g r = (c : ControlName) × IsGalleryAt n g c × (fits_in (record_of r) (item_type c) ≡ true)
+IsItemOf n g r = (c : ControlName) × IsGalleryAt n g c
+    × (fits_in (record_of r) (item_type c) ≡ true)

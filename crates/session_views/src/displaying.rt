@@ -82,7 +82,8 @@ fn property(
     name: &str,
     unwritten: Value,
 ) -> Result<Value, Memory>
-    ensures { IfOk result (λ v. view v ≡ properties.property_value names.now (value_of valued.now) control name.now (view unwritten)) }
+    ensures { IfOk result (λ v. view v ≡ properties.property_value names.now (value_of valued.now)
+        control name.now (view unwritten)) }
 {
     match cell_of_property(names, control, name) {
         Some(cell) => valued.value(alloc, cell),
@@ -125,7 +126,8 @@ fn most_unwritten() -> Value
 
 // The text of a label, a button or a checkbox.
 fn text(alloc: Global, names: &Names, valued: &Valued, control: u32) -> Result<Value, Memory>
-    ensures { IfOk result (λ v. view v ≡ properties.property_value names.now (value_of valued.now) control (codes "Text") (text_data [])) }
+    ensures { IfOk result (λ v. view v ≡ properties.property_value names.now (value_of valued.now)
+        control (codes "Text") (text_data [])) }
 {
     let unwritten = no_text(alloc)?;
     property(alloc, names, valued, control, "Text", unwritten)
@@ -139,7 +141,8 @@ fn slider(
     control: u32,
 ) -> Result<Fields, Memory>
     requires { Holds session.now (source.Input control) }
-    ensures { IfOk result (λ f. f ≡ views.displayed names.now session.now (value_of valued.now) control kinds.Slider) }
+    ensures { IfOk result (λ f. f ≡ views.displayed names.now session.now (value_of valued.now)
+        control kinds.Slider) }
 {
     let least = property(alloc, names, valued, control, "Min", least_unwritten())?;
     let most = property(alloc, names, valued, control, "Max", most_unwritten())?;
@@ -161,7 +164,8 @@ fn checkbox(
     control: u32,
 ) -> Result<Fields, Memory>
     requires { Holds session.now (source.Input control) }
-    ensures { IfOk result (λ f. f ≡ views.displayed names.now session.now (value_of valued.now) control kinds.Checkbox) }
+    ensures { IfOk result (λ f. f ≡ views.displayed names.now session.now (value_of valued.now)
+        control kinds.Checkbox) }
 {
     let text = text(alloc, names, valued, control)?;
     let value = valued.input(alloc, names, session, control)?;
@@ -179,7 +183,8 @@ fn text_input(
     control: u32,
 ) -> Result<Fields, Memory>
     requires { Holds session.now (source.Input control) }
-    ensures { IfOk result (λ f. f ≡ views.displayed names.now session.now (value_of valued.now) control kinds.TextInput) }
+    ensures { IfOk result (λ f. f ≡ views.displayed names.now session.now (value_of valued.now)
+        control kinds.TextInput) }
 {
     let value = valued.input(alloc, names, session, control)?;
     text_alone(alloc, value)
@@ -193,7 +198,8 @@ fn date_picker(
     control: u32,
 ) -> Result<Fields, Memory>
     requires { Holds session.now (source.Input control) }
-    ensures { IfOk result (λ f. f ≡ views.displayed names.now session.now (value_of valued.now) control kinds.DatePicker) }
+    ensures { IfOk result (λ f. f ≡ views.displayed names.now session.now (value_of valued.now)
+        control kinds.DatePicker) }
 {
     let value = valued.input(alloc, names, session, control)?;
     let name = date_name(alloc)?;
@@ -202,7 +208,11 @@ fn date_picker(
 
 // The text alone, of a label or a button.
 fn text_shown(alloc: Global, names: &Names, valued: &Valued, control: u32) -> Result<Fields, Memory>
-    ensures { IfOk result (λ f. f ≡ (codes "Text", properties.property_value names.now (value_of valued.now) control (codes "Text") (text_data [])) ∷ []) }
+    ensures { IfOk result (λ f. f ≡ (
+      codes "Text",
+      properties.property_value names.now
+          (value_of valued.now) control (codes "Text") (text_data []),
+    ) ∷ []) }
 {
     let text = text(alloc, names, valued, control)?;
     text_alone(alloc, text)
@@ -219,7 +229,8 @@ pub(crate) fn display(
 ) -> Result<Fields, Memory>
     requires holds { HoldsFitting names.now session.now }
     requires control { slice_get names.now.controls number ≡ Some control.now }
-    ensures { IfOk result (λ f. f ≡ views.displayed names.now session.now (value_of valued.now) number control.now.kind) }
+    ensures { IfOk result (λ f. f ≡ views.displayed names.now session.now (value_of valued.now)
+        number control.now.kind) }
 {
     match control.kind {
         Control::Label => text_shown(alloc, names, valued, number),

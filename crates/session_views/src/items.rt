@@ -1,15 +1,21 @@
 //! The items of galleries.
-ghost use Rattle.std.specs.Prelude.{◌≡◌, ◌<◌, ◌≤◌, ◌+◌, ◌*◌, ◌^◌, ℕ, [], IfOk, IfSome, OnOk, Some, drop, length, slice_get, take};
+ghost use Rattle.std.specs.Prelude.{◌≡◌, ◌<◌, ◌≤◌, ◌+◌, ◌*◌, ◌^◌, ℕ, [], IfOk, IfSome, OnOk, Some};
+ghost use Rattle.std.specs.Prelude.{drop, length, slice_get, take};
 ghost use Rattle.recalc.specs.AskingOver.{HasRead};
 ghost use Rattle.recalc.specs.app_semantics.Holding.{HoldsFitting};
 ghost use Rattle.recalc.specs.app_semantics.Present.{present};
 ghost use Rattle.recalc.specs.app_semantics.Sound.{IsSoundApp};
 ghost use Rattle.session_views.specs.Bounds.{AreMade, AreSteps, formulas_for, items_steps};
 ghost use Rattle.session_views.specs.Looking.{is_it};
-ghost use Rattle.session_views.specs.Galleries.{gallery_named as named_gallery, is_gallery as is_gallery_kind, is_gallery_named as is_named_gallery};
+ghost use Rattle.session_views.specs.Galleries.{gallery_named as named_gallery};
+ghost use Rattle.session_views.specs.Galleries.{is_gallery as is_gallery_kind};
+ghost use Rattle.session_views.specs.Galleries.{is_gallery_named as is_named_gallery};
 ghost use Rattle.session_views.specs.Ready.{CanShow, IsGalleryOf, IsItemOf};
-ghost use Rattle.session_views.specs.Views.{AreFreshItems, AreEachGiven, AreItemsFrom, AreRowItems, AreSeenItems, IsItemAt, fault_in as fault_of, is_seen_at as is_seen_by_number};
-ghost use Rattle.session_views.specs.Visits.{AreRowsVisited, AreVisited, GivenItemsVisit, ItemAtVisits, ItemsVisit, RowItemsVisit};
+ghost use Rattle.session_views.specs.Views.{AreFreshItems, AreEachGiven, AreItemsFrom, AreRowItems};
+ghost use Rattle.session_views.specs.Views.{AreSeenItems, IsItemAt, fault_in as fault_of};
+ghost use Rattle.session_views.specs.Views.{is_seen_at as is_seen_by_number};
+ghost use Rattle.session_views.specs.Visits.{AreRowsVisited, AreVisited, GivenItemsVisit};
+ghost use Rattle.session_views.specs.Visits.{ItemAtVisits, ItemsVisit, RowItemsVisit};
 ghost use Rattle.fx_types.specs.ValueView.{view};
 ghost use Rattle.fx_scalar.specs.ScalarFunctions.{IsToday};
 ghost use Rattle.recalc.specs.fx_semantics.Rows.{rows_in as rows_of_value};
@@ -58,10 +64,16 @@ fn item_view<K: Keeper, L: Ledger>(
     requires ready { CanShow app.now session.now valued.now }
     requires row { IsItemOf app.now.names gallery row.now }
     requires shaped { K.shaped keeper.old ≡ Some app.now.names.schema }
-    ensures shows { IfOk result (λ i. (moment : ℕ) (tables : ToldRows) → IsToday moment valued.now.day → IsHeardOf (K.told keeper.new) tables → IsItemAt (present app.now session.now tables moment) (value_of valued.now) gallery at row.now (Some i)) }
-    ensures ticks { IfOk result (λ i. steps.new ≤ steps.old + formulas_for app.now.names (is_it gallery)) }
-    ensures visits { IfOk result (λ i. (moment : ℕ) → IsToday moment valued.now.day → WhereTold (K.told keeper.new) (λ told.
-        AtMost (ItemAtVisits app.now session.now told moment (value_of valued.now) gallery at row.now (Some i)) (K.visited keeper.old) (K.visited keeper.new))) }
+    ensures shows { IfOk result (λ i. (moment : ℕ) (tables : ToldRows)
+        → IsToday moment valued.now.day → IsHeardOf (K.told keeper.new) tables
+        → IsItemAt (present app.now session.now tables moment) (value_of valued.now) gallery at
+        row.now (Some i)) }
+    ensures ticks { IfOk result (λ i. steps.new ≤ steps.old
+        + formulas_for app.now.names (is_it gallery)) }
+    ensures visits { IfOk result (λ i. (moment : ℕ) → IsToday moment valued.now.day
+        → WhereTold (K.told keeper.new) (λ told.
+        AtMost (ItemAtVisits app.now session.now told moment (value_of valued.now) gallery at
+        row.now (Some i)) (K.visited keeper.old) (K.visited keeper.new))) }
     ensures read { HasRead K.Keeper keeper.old keeper.new }
     ensures cause { HasCause K.Keeper keeper.old keeper.new result }
 {
@@ -85,13 +97,20 @@ fn item_views<K: Keeper, L: Ledger>(
     steps: &mut Steps<L>,
 ) -> Result<ItemList, KeeperEnd>
     requires ready { CanShow app.now session.now valued.now }
-    requires rows { (i : ℕ) (r : Row) → slice_get rows.now i ≡ Some r → IsItemOf app.now.names gallery r }
+    requires rows { (i : ℕ) (r : Row) → slice_get rows.now i ≡ Some r
+        → IsItemOf app.now.names gallery r }
     requires few { first + length rows.now < 2 ^ 64 }
     requires shaped { K.shaped keeper.old ≡ Some app.now.names.schema }
-    ensures shows { IfOk result (λ l. (moment : ℕ) (tables : ToldRows) → IsToday moment valued.now.day → IsHeardOf (K.told keeper.new) tables → AreEachGiven (IsItemAt (present app.now session.now tables moment) (value_of valued.now) gallery) first rows.now l) }
-    ensures ticks { IfOk result (λ l. steps.new ≤ steps.old + length l * formulas_for app.now.names (is_it gallery)) }
-    ensures visits { IfOk result (λ l. (moment : ℕ) → IsToday moment valued.now.day → WhereTold (K.told keeper.new) (λ told.
-        AtMost (AreVisited (ItemAtVisits app.now session.now told moment (value_of valued.now) gallery) first rows.now l) (K.visited keeper.old) (K.visited keeper.new))) }
+    ensures shows { IfOk result (λ l. (moment : ℕ) (tables : ToldRows)
+        → IsToday moment valued.now.day → IsHeardOf (K.told keeper.new) tables
+        → AreEachGiven (IsItemAt (present app.now session.now tables moment) (value_of valued.now)
+        gallery) first rows.now l) }
+    ensures ticks { IfOk result (λ l. steps.new ≤ steps.old
+        + length l * formulas_for app.now.names (is_it gallery)) }
+    ensures visits { IfOk result (λ l. (moment : ℕ) → IsToday moment valued.now.day
+        → WhereTold (K.told keeper.new) (λ told.
+        AtMost (AreVisited (ItemAtVisits app.now session.now told moment (value_of valued.now)
+        gallery) first rows.now l) (K.visited keeper.old) (K.visited keeper.new))) }
     ensures read { HasRead K.Keeper keeper.old keeper.new }
     ensures cause { HasCause K.Keeper keeper.old keeper.new result }
 {
@@ -129,12 +148,19 @@ fn table_items<K: Keeper, L: Ledger>(
     steps: &mut Steps<L>,
 ) -> Result<Items, KeeperEnd>
     requires ready { CanShow app.now session.now valued.now }
-    requires rows { (i : ℕ) (r : Row) → slice_get rows.now i ≡ Some r → IsItemOf app.now.names gallery r }
+    requires rows { (i : ℕ) (r : Row) → slice_get rows.now i ≡ Some r
+        → IsItemOf app.now.names gallery r }
     requires shaped { K.shaped keeper.old ≡ Some app.now.names.schema }
-    ensures shows { IfOk result (λ i. (moment : ℕ) (tables : ToldRows) → IsToday moment valued.now.day → IsHeardOf (K.told keeper.new) tables → AreRowItems (present app.now session.now tables moment) (value_of valued.now) gallery from rows.now i) }
-    ensures ticks { IfOk result (λ i. steps.new ≤ steps.old + length i.list * formulas_for app.now.names (is_it gallery)) }
-    ensures visits { IfOk result (λ i. (moment : ℕ) → IsToday moment valued.now.day → WhereTold (K.told keeper.new) (λ told.
-        AtMost (RowItemsVisit app.now session.now told moment (value_of valued.now) gallery from rows.now i) (K.visited keeper.old) (K.visited keeper.new))) }
+    ensures shows { IfOk result (λ i. (moment : ℕ) (tables : ToldRows)
+        → IsToday moment valued.now.day → IsHeardOf (K.told keeper.new) tables
+        → AreRowItems (present app.now session.now tables moment) (value_of valued.now) gallery from
+        rows.now i) }
+    ensures ticks { IfOk result (λ i. steps.new ≤ steps.old
+        + length i.list * formulas_for app.now.names (is_it gallery)) }
+    ensures visits { IfOk result (λ i. (moment : ℕ) → IsToday moment valued.now.day
+        → WhereTold (K.told keeper.new) (λ told.
+        AtMost (RowItemsVisit app.now session.now told moment (value_of valued.now) gallery from
+        rows.now i) (K.visited keeper.old) (K.visited keeper.new))) }
     ensures read { HasRead K.Keeper keeper.old keeper.new }
     ensures cause { HasCause K.Keeper keeper.old keeper.new result }
 {
@@ -158,8 +184,8 @@ fn table_items<K: Keeper, L: Ledger>(
     })
 }
 
-/// The items of a gallery from a position on, of which 0 counts as 1: a hundred at most, and how many the gallery has; or
-/// the error that stands in their place.
+/// The items of a gallery from a position on, of which 0 counts as 1: a hundred at most, and how
+/// many the gallery has; or the error that stands in their place.
 #[tactic(auto, using(recalc::proofs::Asked::read_none, recalc::proofs::Asked::read_on))]
 pub(crate) fn items_from<K: Keeper, L: Ledger>(
     alloc: Global,
@@ -174,10 +200,16 @@ pub(crate) fn items_from<K: Keeper, L: Ledger>(
     requires ready { CanShow app.now session.now valued.now }
     requires gallery { IsGalleryOf app.now.names gallery }
     requires shaped { K.shaped keeper.old ≡ Some app.now.names.schema }
-    ensures shows { IfOk result (λ i. (moment : ℕ) (tables : ToldRows) → IsToday moment valued.now.day → IsHeardOf (K.told keeper.new) tables → AreItemsFrom (present app.now session.now tables moment) (value_of valued.now) gallery from i) }
-    ensures ticks { IfOk result (λ i. steps.new ≤ steps.old + length i.list * formulas_for app.now.names (is_it gallery)) }
-    ensures visits { IfOk result (λ i. (moment : ℕ) → IsToday moment valued.now.day → WhereTold (K.told keeper.new) (λ told.
-        AtMost (ItemsVisit app.now session.now told moment (value_of valued.now) gallery from i) (K.visited keeper.old) (K.visited keeper.new))) }
+    ensures shows { IfOk result (λ i. (moment : ℕ) (tables : ToldRows)
+        → IsToday moment valued.now.day → IsHeardOf (K.told keeper.new) tables
+        → AreItemsFrom (present app.now session.now tables moment) (value_of valued.now) gallery
+        from i) }
+    ensures ticks { IfOk result (λ i. steps.new ≤ steps.old
+        + length i.list * formulas_for app.now.names (is_it gallery)) }
+    ensures visits { IfOk result (λ i. (moment : ℕ) → IsToday moment valued.now.day
+        → WhereTold (K.told keeper.new) (λ told.
+        AtMost (ItemsVisit app.now session.now told moment (value_of valued.now) gallery from i)
+        (K.visited keeper.old) (K.visited keeper.new))) }
     ensures read { HasRead K.Keeper keeper.old keeper.new }
     ensures cause { HasCause K.Keeper keeper.old keeper.new result }
 {
@@ -236,10 +268,11 @@ fn is_seen_at(names: &Names, session: &Session, valued: &Valued, number: u32) ->
     }
 }
 
-/// The items of a gallery over a session at a moment, in seconds since 1970-01-01 UTC: those from a position on, of which 0
-/// counts as 1, a hundred at most, and how many the gallery has; or the error that stands in their place. None where the
-/// gallery isn't on the current screen or isn't visible. What was kept right stays so, also where it stops; the cells that are
-/// looked at are clean afterwards, and what was clean stays so. `Failed` only where the keeper counted a fault.
+/// The items of a gallery over a session at a moment, in seconds since 1970-01-01 UTC: those from a
+/// position on, of which 0 counts as 1, a hundred at most, and how many the gallery has; or the
+/// error that stands in their place. None where the gallery isn't on the current screen or isn't
+/// visible. What was kept right stays so, also where it stops; the cells that are looked at are
+/// clean afterwards, and what was clean stays so. `Failed` only where the keeper counted a fault.
 #[tactic(auto, using(recalc::proofs::Asked::read_none, recalc::proofs::Asked::read_on, crate::proofs::Needing::leaves_none))]
 pub fn items_of<K: Keeper, L: Ledger>(
     alloc: Global,
@@ -258,16 +291,24 @@ pub fn items_of<K: Keeper, L: Ledger>(
     requires shaped { K.shaped keeper.old ≡ Some app.now.names.schema }
     requires day { IsToday moment cache.old.values.day }
     requires order { IsInOrder app.now cache.old }
-    ensures shows { IfOk result (λ o. IsRightOver app.now session.now (K.told keeper.old) moment cache.old → (tables : ToldRows) → IsHeardOf (K.told keeper.new) tables → AreFreshItems (present app.now session.now tables moment) gallery from o) }
+    ensures shows { IfOk result (λ o. IsRightOver app.now session.now (K.told keeper.old) moment
+        cache.old → (tables : ToldRows) → IsHeardOf (K.told keeper.new) tables
+        → AreFreshItems (present app.now session.now tables moment) gallery from o) }
     ensures order { IsInOrder app.now cache.new }
-    ensures right { IsRightOver app.now session.now (K.told keeper.old) moment cache.old → IsRightOver app.now session.now (K.told keeper.new) moment cache.new }
+    ensures right { IsRightOver app.now session.now (K.told keeper.old) moment cache.old
+        → IsRightOver app.now session.now (K.told keeper.new) moment cache.new }
     ensures day { cache.new.values.day ≡ cache.old.values.day }
     ensures left { HasNumbersLeft cache.old.last → KeepsClean app.now cache.old cache.new }
     ensures but { StaysCleanExcept app.now [] cache.old cache.new }
     ensures made { OnOk result (AreMade app.now (is_it gallery) cache.new) }
-    ensures ticks { IfOk result (λ o. HasNumbersLeft cache.old.last → AreSteps app.now (is_it gallery) cache.old cache.new (items_steps app.now.names gallery o) steps.old steps.new) }
-    ensures visits { IfOk result (λ o. IsRightOver app.now session.now (K.told keeper.old) moment cache.old → HasNumbersLeft cache.old.last → WhereTold (K.told keeper.new) (λ told.
-        AreRowsVisited app.now session.now told moment (is_it gallery) cache.old cache.new (λ values. GivenItemsVisit app.now session.now told moment values gallery from o) steps.old (K.visited keeper.old) (K.visited keeper.new))) }
+    ensures ticks { IfOk result (λ o. HasNumbersLeft cache.old.last
+        → AreSteps app.now (is_it gallery) cache.old cache.new (items_steps app.now.names gallery o)
+        steps.old steps.new) }
+    ensures visits { IfOk result (λ o. IsRightOver app.now session.now (K.told keeper.old) moment
+        cache.old → HasNumbersLeft cache.old.last → WhereTold (K.told keeper.new) (λ told.
+        AreRowsVisited app.now session.now told moment (is_it gallery) cache.old cache.new
+        (λ values. GivenItemsVisit app.now session.now told moment values gallery from o) steps.old
+        (K.visited keeper.old) (K.visited keeper.new))) }
     ensures read { HasRead K.Keeper keeper.old keeper.new }
     ensures cause { HasCause K.Keeper keeper.old keeper.new result }
 {
@@ -300,10 +341,15 @@ fn items_by<K: Keeper, L: Ledger>(
     requires ready { CanShow app.now session.now valued.now }
     requires gallery { IsGalleryOf app.now.names gallery }
     requires shaped { K.shaped keeper.old ≡ Some app.now.names.schema }
-    ensures shows { IfOk result (λ o. (moment : ℕ) (tables : ToldRows) → IsToday moment valued.now.day → IsHeardOf (K.told keeper.new) tables → AreSeenItems (present app.now session.now tables moment) (value_of valued.now) gallery from o) }
+    ensures shows { IfOk result (λ o. (moment : ℕ) (tables : ToldRows)
+        → IsToday moment valued.now.day → IsHeardOf (K.told keeper.new) tables
+        → AreSeenItems (present app.now session.now tables moment) (value_of valued.now) gallery
+        from o) }
     ensures ticks { IfOk result (λ o. steps.new ≤ steps.old + items_steps app.now.names gallery o) }
-    ensures visits { IfOk result (λ o. (moment : ℕ) → IsToday moment valued.now.day → WhereTold (K.told keeper.new) (λ told.
-        AtMost (GivenItemsVisit app.now session.now told moment (value_of valued.now) gallery from o) (K.visited keeper.old) (K.visited keeper.new))) }
+    ensures visits { IfOk result (λ o. (moment : ℕ) → IsToday moment valued.now.day
+        → WhereTold (K.told keeper.new) (λ told.
+        AtMost (GivenItemsVisit app.now session.now told moment (value_of valued.now) gallery from
+        o) (K.visited keeper.old) (K.visited keeper.new))) }
     ensures read { HasRead K.Keeper keeper.old keeper.new }
     ensures cause { HasCause K.Keeper keeper.old keeper.new result }
 {

@@ -1,5 +1,6 @@
 //! Laws of views.
-ghost use Rattle.session_views.specs.Laws.{OneItems, OneItemsReply, OneItemsVisit, OneScreenVisits, OneView, OneViewReply};
+ghost use Rattle.session_views.specs.Laws.{OneItems, OneItemsReply, OneItemsVisit, OneScreenVisits};
+ghost use Rattle.session_views.specs.Laws.{OneView, OneViewReply};
 
 use crate::app_semantics::one_fresh_at;
 use crate::fx_semantics::one_value;
@@ -35,8 +36,8 @@ pub fn one_items_reply()
     one_items();
 }
 
-/// A law, and no work: how many rows the formulas of templates visit for what a screen shows is one number, where all that its app
-/// reads is told.
+/// A law, and no work: how many rows the formulas of templates visit for what a screen shows is one
+/// number, where all that its app reads is told.
 pub fn screen_visits_are_one()
     ensures { OneScreenVisits }
 {

@@ -1,7 +1,9 @@
 // Which cells are looked at.
 ghost use Rattle.std.specs.Prelude.{◌≡◌, ◌↔◌, ◌⊎◌, ℕ, IfOk, OnOk, Some, true};
 ghost use Rattle.std.specs.List.{Contains};
-ghost use Rattle.session_views.specs.Looking.{AreLookedAt, IsThrough, IsOwnCell, IsLeanedOn, is_control_among as is_among_of, is_in_template as is_in_template_of};
+ghost use Rattle.session_views.specs.Looking.{AreLookedAt, IsThrough, IsOwnCell, IsLeanedOn};
+ghost use Rattle.session_views.specs.Looking.{is_control_among as is_among_of};
+ghost use Rattle.session_views.specs.Looking.{is_in_template as is_in_template_of};
 ghost use Rattle.recalc.specs.app_cells.Leaning.{LeansOn, cell_behind as behind};
 ghost use Rattle.recalc.specs.app_semantics.Needed.{is_alone as is_alone_in};
 
@@ -55,7 +57,8 @@ fn is_alone(app: &App, cell: u32) -> bool
 
 // Adds a cell, if it has a value by itself.
 fn add_cell(app: &App, cell: u32, roots: &mut Vec<u32>) -> Result<(), Memory>
-    ensures { OnOk result ((k : ℕ) → Contains roots.new.items k ↔ (Contains roots.old.items k ⊎ ((cell ≡ k) × (is_alone_in app.now.cells k ≡ true)))) }
+    ensures { OnOk result ((k : ℕ) → Contains roots.new.items k
+        ↔ (Contains roots.old.items k ⊎ ((cell ≡ k) × (is_alone_in app.now.cells k ≡ true)))) }
 {
     if is_alone(app, cell) {
         roots.push(cell)?;
@@ -65,7 +68,9 @@ fn add_cell(app: &App, cell: u32, roots: &mut Vec<u32>) -> Result<(), Memory>
 
 // Adds the cell on which leans who reads a source.
 fn add_behind(app: &App, source: &Source, roots: &mut Vec<u32>) -> Result<(), Memory>
-    ensures { OnOk result ((k : ℕ) → Contains roots.new.items k ↔ (Contains roots.old.items k ⊎ ((behind app.now.names source.now ≡ Some k) × (is_alone_in app.now.cells k ≡ true)))) }
+    ensures { OnOk result ((k : ℕ) → Contains roots.new.items k
+        ↔ (Contains roots.old.items k ⊎ ((behind app.now.names source.now ≡ Some k)
+        × (is_alone_in app.now.cells k ≡ true)))) }
 {
     match cell_behind(&app.names, *source) {
         Some(cell) => add_cell(app, cell, roots),
@@ -75,7 +80,9 @@ fn add_behind(app: &App, source: &Source, roots: &mut Vec<u32>) -> Result<(), Me
 
 // Adds the cells on which a formula leans.
 fn add_leaned(app: &App, info: &CellInfo, roots: &mut Vec<u32>) -> Result<(), Memory>
-    ensures { OnOk result ((k : ℕ) → Contains roots.new.items k ↔ (Contains roots.old.items k ⊎ (LeansOn app.now.names info.now k × (is_alone_in app.now.cells k ≡ true)))) }
+    ensures { OnOk result ((k : ℕ) → Contains roots.new.items k
+        ↔ (Contains roots.old.items k ⊎ (LeansOn app.now.names info.now k
+        × (is_alone_in app.now.cells k ≡ true)))) }
 {
     for source in info.reads.as_slice() {
         add_behind(app, source, roots)?;
@@ -85,7 +92,9 @@ fn add_leaned(app: &App, info: &CellInfo, roots: &mut Vec<u32>) -> Result<(), Me
 
 // The same, if it stands in the template of a gallery of a part.
 fn add_under(app: &App, part: Part, info: &CellInfo, roots: &mut Vec<u32>) -> Result<(), Memory>
-    ensures { OnOk result ((k : ℕ) → Contains roots.new.items k ↔ (Contains roots.old.items k ⊎ (IsLeanedOn app.now.names (is_among_of app.now.names part) info.now k × (is_alone_in app.now.cells k ≡ true)))) }
+    ensures { OnOk result ((k : ℕ) → Contains roots.new.items k
+        ↔ (Contains roots.old.items k ⊎ (IsLeanedOn app.now.names (is_among_of app.now.names part)
+        info.now k × (is_alone_in app.now.cells k ≡ true)))) }
 {
     if is_in_template(&app.names, part, info) {
         add_leaned(app, info, roots)
@@ -96,7 +105,10 @@ fn add_under(app: &App, part: Part, info: &CellInfo, roots: &mut Vec<u32>) -> Re
 
 // Adds the cells on which the formulas of templates lean.
 fn add_all_under(app: &App, part: Part, roots: &mut Vec<u32>) -> Result<(), Memory>
-    ensures { OnOk result ((k : ℕ) → Contains roots.new.items k ↔ (Contains roots.old.items k ⊎ (IsThrough (IsLeanedOn app.now.names (is_among_of app.now.names part)) app.now.cells k × (is_alone_in app.now.cells k ≡ true)))) }
+    ensures { OnOk result ((k : ℕ) → Contains roots.new.items k
+        ↔ (Contains roots.old.items k ⊎ (IsThrough
+        (IsLeanedOn app.now.names (is_among_of app.now.names part)) app.now.cells k
+        × (is_alone_in app.now.cells k ≡ true)))) }
 {
     for info in app.cells.as_slice() {
         add_under(app, part, info, roots)?;
@@ -112,7 +124,9 @@ fn add_own(
     cell: u32,
     roots: &mut Vec<u32>,
 ) -> Result<(), Memory>
-    ensures { OnOk result ((k : ℕ) → Contains roots.new.items k ↔ (Contains roots.old.items k ⊎ (((is_among_of app.now.names part control ≡ true) × (cell ≡ k)) × (is_alone_in app.now.cells k ≡ true)))) }
+    ensures { OnOk result ((k : ℕ) → Contains roots.new.items k
+        ↔ (Contains roots.old.items k ⊎ (((is_among_of app.now.names part control ≡ true)
+        × (cell ≡ k)) × (is_alone_in app.now.cells k ≡ true)))) }
 {
     if is_among(&app.names, part, control) {
         add_cell(app, cell, roots)
@@ -123,7 +137,10 @@ fn add_own(
 
 // Adds the formulas of all properties of a part's controls.
 fn add_all_own(app: &App, part: Part, roots: &mut Vec<u32>) -> Result<(), Memory>
-    ensures { OnOk result ((k : ℕ) → Contains roots.new.items k ↔ (Contains roots.old.items k ⊎ (IsThrough (IsOwnCell app.now.names (is_among_of app.now.names part)) app.now.names.properties k × (is_alone_in app.now.cells k ≡ true)))) }
+    ensures { OnOk result ((k : ℕ) → Contains roots.new.items k
+        ↔ (Contains roots.old.items k ⊎ (IsThrough
+        (IsOwnCell app.now.names (is_among_of app.now.names part)) app.now.names.properties k
+        × (is_alone_in app.now.cells k ≡ true)))) }
 {
     for property in app.names.properties.as_slice() {
         add_own(app, part, property.control, property.cell, roots)?;

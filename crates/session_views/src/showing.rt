@@ -4,7 +4,9 @@ ghost use Rattle.session_views.specs.Bounds.{AreMade};
 ghost use Rattle.session_views.specs.Galleries.{gallery_named as named_gallery};
 ghost use Rattle.session_views.specs.Looking.{is_on_screen};
 ghost use Rattle.session_views.specs.Ready.{IsGalleryOf};
-ghost use Rattle.session_views.specs.Shows.{CostsItems, CostsView, MakesItems, SaysItemsOf, ShowsItemsTo, ShowsViewTo, VisitsItems, VisitsView, items_reply as reply_of_items};
+ghost use Rattle.session_views.specs.Shows.{CostsItems, CostsView, MakesItems, SaysItemsOf};
+ghost use Rattle.session_views.specs.Shows.{ShowsItemsTo, ShowsViewTo, VisitsItems, VisitsView};
+ghost use Rattle.session_views.specs.Shows.{items_reply as reply_of_items};
 ghost use Rattle.app_wire.specs.ReplyBytes.{reply};
 ghost use Rattle.recalc.specs.AskingOver.{HasRead};
 ghost use Rattle.recalc.specs.app_semantics.Present.{present};
@@ -37,9 +39,10 @@ use std::alloc::Global;
 use std::sync::ledger::Ledger;
 use view_text::{Items, View, items_json, view_json};
 
-/// Shows a live session its view over the rows of a keeper at a moment, in seconds since 1970-01-01 UTC. What is kept for it is
-/// right afterwards, also where it stops; the cells to which the view looks are then clean, and what was clean stays so. `Failed`
-/// only where the keeper counted a fault.
+/// Shows a live session its view over the rows of a keeper at a moment, in seconds since 1970-01-01
+/// UTC. What is kept for it is right afterwards, also where it stops; the cells to which the view
+/// looks are then clean, and what was clean stays so. `Failed` only where the keeper counted a
+/// fault.
 pub fn show_view<K: Keeper, L: Ledger>(
     alloc: Global,
     app: &App,
@@ -55,16 +58,22 @@ pub fn show_view<K: Keeper, L: Ledger>(
     requires day { IsToday moment cache.old.values.day }
     requires order { IsInOrder app.now cache.old }
     requires right { ∥ IsRightOver app.now session.now (K.told keeper.old) moment cache.old ∥₁ }
-    ensures done { IfOk result (λ r. ShowsViewTo (SilenceCause (K.marks keeper.old) (K.marks keeper.new)) app.now moment (Some session.now) (K.told keeper.old) (said r) (K.told keeper.new)) }
+    ensures done { IfOk result (λ r. ShowsViewTo
+        (SilenceCause (K.marks keeper.old) (K.marks keeper.new)) app.now moment (Some session.now)
+        (K.told keeper.old) (said r) (K.told keeper.new)) }
     ensures whole { IfOk result IsReply }
     ensures order { IsInOrder app.now cache.new }
     ensures right { ∥ IsRightOver app.now session.now (K.told keeper.new) moment cache.new ∥₁ }
     ensures day { cache.new.values.day ≡ cache.old.values.day }
     ensures left { HasNumbersLeft cache.old.last → KeepsClean app.now cache.old cache.new }
     ensures but { StaysCleanExcept app.now [] cache.old cache.new }
-    ensures made { OnOk result (AreMade app.now (is_on_screen app.now.names session.now.screen) cache.new) }
-    ensures ticks { IfOk result (λ r. HasNumbersLeft cache.old.last → CostsView app.now session.now cache.old cache.new steps.old steps.new (said r)) }
-    ensures visits { IfOk result (λ r. HasNumbersLeft cache.old.last → WhereTold (K.told keeper.new) (λ told. VisitsView app.now session.now told moment cache.old cache.new steps.old (K.visited keeper.old) (K.visited keeper.new) (said r))) }
+    ensures made { OnOk result (AreMade app.now (is_on_screen app.now.names session.now.screen)
+        cache.new) }
+    ensures ticks { IfOk result (λ r. HasNumbersLeft cache.old.last
+        → CostsView app.now session.now cache.old cache.new steps.old steps.new (said r)) }
+    ensures visits { IfOk result (λ r. HasNumbersLeft cache.old.last
+        → WhereTold (K.told keeper.new) (λ told. VisitsView app.now session.now told moment
+        cache.old cache.new steps.old (K.visited keeper.old) (K.visited keeper.new) (said r))) }
     ensures read { HasRead K.Keeper keeper.old keeper.new }
     ensures cause { HasCause K.Keeper keeper.old keeper.new result }
 {
@@ -82,10 +91,11 @@ fn view_reply(alloc: Global, view: &View) -> Result<Reply, Memory>
     Reply::accept(alloc, &body)
 }
 
-/// Shows a live session the items of a gallery from a position on, of which 0 counts as 1, over the rows of a keeper at a
-/// moment in seconds since 1970-01-01 UTC: a hundred at most. It is refused of no such gallery (15), and of one that isn't on the
-/// current screen or isn't visible (17). What is kept for it is right afterwards, also where it stops; the cells to which the items
-/// look are then clean, and what was clean stays so. `Failed` only where the keeper counted a fault.
+/// Shows a live session the items of a gallery from a position on, of which 0 counts as 1, over the
+/// rows of a keeper at a moment in seconds since 1970-01-01 UTC: a hundred at most. It is refused
+/// of no such gallery (15), and of one that isn't on the current screen or isn't visible (17). What
+/// is kept for it is right afterwards, also where it stops; the cells to which the items look are
+/// then clean, and what was clean stays so. `Failed` only where the keeper counted a fault.
 #[tactic(auto, using(recalc::proofs::Asked::read_none, crate::proofs::Needing::leaves_none, recalc::proofs::Leaving::left_same))]
 pub fn show_items<K: Keeper, L: Ledger>(
     alloc: Global,
@@ -104,7 +114,9 @@ pub fn show_items<K: Keeper, L: Ledger>(
     requires day { IsToday moment cache.old.values.day }
     requires order { IsInOrder app.now cache.old }
     requires right { ∥ IsRightOver app.now session.now (K.told keeper.old) moment cache.old ∥₁ }
-    ensures done { IfOk result (λ r. ShowsItemsTo (SilenceCause (K.marks keeper.old) (K.marks keeper.new)) app.now moment gallery.now from (Some session.now) (K.told keeper.old) (said r) (K.told keeper.new)) }
+    ensures done { IfOk result (λ r. ShowsItemsTo
+        (SilenceCause (K.marks keeper.old) (K.marks keeper.new)) app.now moment gallery.now from
+        (Some session.now) (K.told keeper.old) (said r) (K.told keeper.new)) }
     ensures whole { IfOk result IsReply }
     ensures reached { IsErrOf result Failed → IsSome (named_gallery gallery.now app.now.names) }
     ensures order { IsInOrder app.now cache.new }
@@ -112,9 +124,15 @@ pub fn show_items<K: Keeper, L: Ledger>(
     ensures day { cache.new.values.day ≡ cache.old.values.day }
     ensures left { HasNumbersLeft cache.old.last → KeepsClean app.now cache.old cache.new }
     ensures but { StaysCleanExcept app.now [] cache.old cache.new }
-    ensures made { OnOk result (MakesItems app.now (named_gallery gallery.now app.now.names) cache.new) }
-    ensures ticks { IfOk result (λ r. HasNumbersLeft cache.old.last → CostsItems app.now (named_gallery gallery.now app.now.names) cache.old cache.new steps.old steps.new (said r)) }
-    ensures visits { IfOk result (λ r. HasNumbersLeft cache.old.last → WhereTold (K.told keeper.new) (λ told. VisitsItems app.now session.now told moment from (named_gallery gallery.now app.now.names) cache.old cache.new steps.old (K.visited keeper.old) (K.visited keeper.new) (said r))) }
+    ensures made { OnOk result (MakesItems app.now (named_gallery gallery.now app.now.names)
+        cache.new) }
+    ensures ticks { IfOk result (λ r. HasNumbersLeft cache.old.last
+        → CostsItems app.now (named_gallery gallery.now app.now.names) cache.old cache.new steps.old
+        steps.new (said r)) }
+    ensures visits { IfOk result (λ r. HasNumbersLeft cache.old.last
+        → WhereTold (K.told keeper.new) (λ told. VisitsItems app.now session.now told moment from
+        (named_gallery gallery.now app.now.names) cache.old cache.new steps.old
+        (K.visited keeper.old) (K.visited keeper.new) (said r))) }
     ensures read { HasRead K.Keeper keeper.old keeper.new }
     ensures cause { HasCause K.Keeper keeper.old keeper.new result }
 {
@@ -145,7 +163,10 @@ fn show_items_of<K: Keeper, L: Ledger>(
     requires day { IsToday moment cache.old.values.day }
     requires order { IsInOrder app.now cache.old }
     requires right { ∥ IsRightOver app.now session.now (K.told keeper.old) moment cache.old ∥₁ }
-    ensures done { IfOk result (λ r. SaysItemsOf (SilenceCause (K.marks keeper.old) (K.marks keeper.new)) (present app.now session.now (rows_told (K.told keeper.new)) moment) from (Some gallery) (K.told keeper.old) (said r) (K.told keeper.new)) }
+    ensures done { IfOk result (λ r. SaysItemsOf
+        (SilenceCause (K.marks keeper.old) (K.marks keeper.new))
+        (present app.now session.now (rows_told (K.told keeper.new)) moment) from (Some gallery)
+        (K.told keeper.old) (said r) (K.told keeper.new)) }
     ensures whole { IfOk result IsReply }
     ensures order { IsInOrder app.now cache.new }
     ensures right { ∥ IsRightOver app.now session.now (K.told keeper.new) moment cache.new ∥₁ }
@@ -153,8 +174,12 @@ fn show_items_of<K: Keeper, L: Ledger>(
     ensures left { HasNumbersLeft cache.old.last → KeepsClean app.now cache.old cache.new }
     ensures but { StaysCleanExcept app.now [] cache.old cache.new }
     ensures made { OnOk result (MakesItems app.now (Some gallery) cache.new) }
-    ensures ticks { IfOk result (λ r. HasNumbersLeft cache.old.last → CostsItems app.now (Some gallery) cache.old cache.new steps.old steps.new (said r)) }
-    ensures visits { IfOk result (λ r. HasNumbersLeft cache.old.last → WhereTold (K.told keeper.new) (λ told. VisitsItems app.now session.now told moment from (Some gallery) cache.old cache.new steps.old (K.visited keeper.old) (K.visited keeper.new) (said r))) }
+    ensures ticks { IfOk result (λ r. HasNumbersLeft cache.old.last
+        → CostsItems app.now (Some gallery) cache.old cache.new steps.old steps.new (said r)) }
+    ensures visits { IfOk result (λ r. HasNumbersLeft cache.old.last
+        → WhereTold (K.told keeper.new) (λ told. VisitsItems app.now session.now told moment from
+        (Some gallery) cache.old cache.new steps.old (K.visited keeper.old) (K.visited keeper.new)
+        (said r))) }
     ensures read { HasRead K.Keeper keeper.old keeper.new }
     ensures cause { HasCause K.Keeper keeper.old keeper.new result }
 {

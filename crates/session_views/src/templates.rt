@@ -1,11 +1,14 @@
 // The controls of a template, as they are for an item.
-ghost use Rattle.std.specs.Prelude.{◌≡◌, ◌≤◌, ◌+◌, ◌++◌, ◌∷◌, [], ℕ, true, IfOk, OnOk, Some, codes, slice_get};
+ghost use Rattle.std.specs.Prelude.{◌≡◌, ◌≤◌, ◌+◌, ◌++◌, ◌∷◌, [], ℕ, true, IfOk, OnOk, Some, codes};
+ghost use Rattle.std.specs.Prelude.{slice_get};
 ghost use Rattle.recalc.specs.AskingOver.{HasRead};
 ghost use Rattle.recalc.specs.app_semantics.Present.{present};
 ghost use Rattle.recalc.specs.app_semantics.Properties.{IsPropertyForItem};
 ghost use Rattle.session_views.specs.Ready.{CanShow, IsItemOf};
-ghost use Rattle.session_views.specs.Views.{AreEachGiven, IsItemControlShown, is_in as is_in_of, put_if_some};
-ghost use Rattle.session_views.specs.Visits.{AreVisited, ControlVisits, PropertyVisits, TemplateVisits};
+ghost use Rattle.session_views.specs.Views.{AreEachGiven, IsItemControlShown, is_in as is_in_of};
+ghost use Rattle.session_views.specs.Views.{put_if_some};
+ghost use Rattle.session_views.specs.Visits.{AreVisited, ControlVisits, PropertyVisits};
+ghost use Rattle.session_views.specs.Visits.{TemplateVisits};
 ghost use Rattle.fx_types.specs.ValueView.{view};
 ghost use Rattle.fx_types.specs.Values.{text as text_data};
 ghost use Rattle.fx_scalar.specs.ScalarFunctions.{IsToday};
@@ -71,11 +74,16 @@ fn text_for<K: Keeper, L: Ledger>(
     requires within { is_in_of gallery control.now.gallery ≡ true }
     requires row { IsItemOf app.now.names gallery row.now }
     requires shaped { K.shaped keeper.old ≡ Some app.now.names.schema }
-    ensures shows { IfOk result (λ v. (moment : ℕ) (tables : ToldRows) → IsToday moment valued.now.day → IsHeardOf (K.told keeper.new) tables →
-        IsPropertyForItem (present app.now session.now tables moment) (value_of valued.now) (record_of row.now) number (codes "Text") (text_data []) (view v)) }
-    ensures ticks { IfOk result (λ v. steps.new ≡ steps.old + steps_of (cell_of_property app.now.names number (codes "Text"))) }
-    ensures visits { IfOk result (λ _. (moment : ℕ) → IsToday moment valued.now.day → WhereTold (K.told keeper.new) (λ told.
-        AtMost (PropertyVisits app.now session.now told moment (value_of valued.now) (record_of row.now) number (codes "Text")) (K.visited keeper.old) (K.visited keeper.new))) }
+    ensures shows { IfOk result (λ v. (moment : ℕ) (tables : ToldRows)
+        → IsToday moment valued.now.day → IsHeardOf (K.told keeper.new) tables →
+        IsPropertyForItem (present app.now session.now tables moment) (value_of valued.now)
+        (record_of row.now) number (codes "Text") (text_data []) (view v)) }
+    ensures ticks { IfOk result (λ v. steps.new
+        ≡ steps.old + steps_of (cell_of_property app.now.names number (codes "Text"))) }
+    ensures visits { IfOk result (λ _. (moment : ℕ) → IsToday moment valued.now.day
+        → WhereTold (K.told keeper.new) (λ told.
+        AtMost (PropertyVisits app.now session.now told moment (value_of valued.now)
+        (record_of row.now) number (codes "Text")) (K.visited keeper.old) (K.visited keeper.new))) }
     ensures read { HasRead K.Keeper keeper.old keeper.new }
     ensures cause { HasCause K.Keeper keeper.old keeper.new result }
 {
@@ -120,10 +128,16 @@ fn template_control<K: Keeper, L: Ledger>(
     requires within { is_in_of gallery control.now.gallery ≡ true }
     requires row { IsItemOf app.now.names gallery row.now }
     requires shaped { K.shaped keeper.old ≡ Some app.now.names.schema }
-    ensures shows { IfOk result (λ o. (moment : ℕ) (tables : ToldRows) → IsToday moment valued.now.day → IsHeardOf (K.told keeper.new) tables → IsItemControlShown (present app.now session.now tables moment) (value_of valued.now) gallery (record_of row.now) number control.now o) }
-    ensures ticks { IfOk result (λ o. steps.new ≤ steps.old + control_steps app.now.names number true) }
-    ensures visits { IfOk result (λ o. (moment : ℕ) → IsToday moment valued.now.day → WhereTold (K.told keeper.new) (λ told.
-        AtMost (ControlVisits app.now session.now told moment (value_of valued.now) (record_of row.now) number o) (K.visited keeper.old) (K.visited keeper.new))) }
+    ensures shows { IfOk result (λ o. (moment : ℕ) (tables : ToldRows)
+        → IsToday moment valued.now.day → IsHeardOf (K.told keeper.new) tables
+        → IsItemControlShown (present app.now session.now tables moment) (value_of valued.now)
+        gallery (record_of row.now) number control.now o) }
+    ensures ticks { IfOk result (λ o. steps.new ≤ steps.old
+        + control_steps app.now.names number true) }
+    ensures visits { IfOk result (λ o. (moment : ℕ) → IsToday moment valued.now.day
+        → WhereTold (K.told keeper.new) (λ told.
+        AtMost (ControlVisits app.now session.now told moment (value_of valued.now)
+        (record_of row.now) number o) (K.visited keeper.old) (K.visited keeper.new))) }
     ensures read { HasRead K.Keeper keeper.old keeper.new }
     ensures cause { HasCause K.Keeper keeper.old keeper.new result }
 {
@@ -159,10 +173,16 @@ fn item_control<K: Keeper, L: Ledger>(
     requires control { slice_get app.now.names.controls number ≡ Some control.now }
     requires row { IsItemOf app.now.names gallery row.now }
     requires shaped { K.shaped keeper.old ≡ Some app.now.names.schema }
-    ensures shows { IfOk result (λ o. (moment : ℕ) (tables : ToldRows) → IsToday moment valued.now.day → IsHeardOf (K.told keeper.new) tables → IsItemControlShown (present app.now session.now tables moment) (value_of valued.now) gallery (record_of row.now) number control.now o) }
-    ensures ticks { IfOk result (λ o. steps.new ≤ steps.old + control_steps app.now.names number (is_in_of gallery control.now.gallery)) }
-    ensures visits { IfOk result (λ o. (moment : ℕ) → IsToday moment valued.now.day → WhereTold (K.told keeper.new) (λ told.
-        AtMost (TemplateVisits app.now session.now told moment (value_of valued.now) gallery (record_of row.now) number control.now o) (K.visited keeper.old) (K.visited keeper.new))) }
+    ensures shows { IfOk result (λ o. (moment : ℕ) (tables : ToldRows)
+        → IsToday moment valued.now.day → IsHeardOf (K.told keeper.new) tables
+        → IsItemControlShown (present app.now session.now tables moment) (value_of valued.now)
+        gallery (record_of row.now) number control.now o) }
+    ensures ticks { IfOk result (λ o. steps.new ≤ steps.old
+        + control_steps app.now.names number (is_in_of gallery control.now.gallery)) }
+    ensures visits { IfOk result (λ o. (moment : ℕ) → IsToday moment valued.now.day
+        → WhereTold (K.told keeper.new) (λ told.
+        AtMost (TemplateVisits app.now session.now told moment (value_of valued.now) gallery
+        (record_of row.now) number control.now o) (K.visited keeper.old) (K.visited keeper.new))) }
     ensures read { HasRead K.Keeper keeper.old keeper.new }
     ensures cause { HasCause K.Keeper keeper.old keeper.new result }
 {
@@ -190,10 +210,17 @@ pub(crate) fn item_controls<K: Keeper, L: Ledger>(
     requires ready { CanShow app.now session.now valued.now }
     requires row { IsItemOf app.now.names gallery row.now }
     requires shaped { K.shaped keeper.old ≡ Some app.now.names.schema }
-    ensures shows { IfOk result (λ l. (moment : ℕ) (tables : ToldRows) → IsToday moment valued.now.day → IsHeardOf (K.told keeper.new) tables → AreEachGiven (IsItemControlShown (present app.now session.now tables moment) (value_of valued.now) gallery (record_of row.now)) 0 app.now.names.controls l) }
-    ensures ticks { IfOk result (λ l. steps.new ≤ steps.old + formulas_for app.now.names (is_it gallery)) }
-    ensures visits { IfOk result (λ l. (moment : ℕ) → IsToday moment valued.now.day → WhereTold (K.told keeper.new) (λ told.
-        AtMost (AreVisited (TemplateVisits app.now session.now told moment (value_of valued.now) gallery (record_of row.now)) 0 app.now.names.controls l) (K.visited keeper.old) (K.visited keeper.new))) }
+    ensures shows { IfOk result (λ l. (moment : ℕ) (tables : ToldRows)
+        → IsToday moment valued.now.day → IsHeardOf (K.told keeper.new) tables
+        → AreEachGiven (IsItemControlShown (present app.now session.now tables moment)
+        (value_of valued.now) gallery (record_of row.now)) 0 app.now.names.controls l) }
+    ensures ticks { IfOk result (λ l. steps.new ≤ steps.old
+        + formulas_for app.now.names (is_it gallery)) }
+    ensures visits { IfOk result (λ l. (moment : ℕ) → IsToday moment valued.now.day
+        → WhereTold (K.told keeper.new) (λ told.
+        AtMost (AreVisited (TemplateVisits app.now session.now told moment (value_of valued.now)
+        gallery (record_of row.now)) 0 app.now.names.controls l) (K.visited keeper.old)
+        (K.visited keeper.new))) }
     ensures read { HasRead K.Keeper keeper.old keeper.new }
     ensures cause { HasCause K.Keeper keeper.old keeper.new result }
 {

@@ -1,5 +1,6 @@
 //! What a session shows.
-ghost use Rattle.std.specs.Prelude.{◌≡◌, ◌+◌, ◌<◌, ◌≤◌, ◌∷◌, [], ℕ, IfOk, OnOk, Some, length, slice_get};
+ghost use Rattle.std.specs.Prelude.{◌≡◌, ◌+◌, ◌<◌, ◌≤◌, ◌∷◌, [], ℕ, IfOk, OnOk, Some, length};
+ghost use Rattle.std.specs.Prelude.{slice_get};
 ghost use Rattle.recalc.specs.AskingOver.{HasRead};
 ghost use Rattle.recalc.specs.app_semantics.Holding.{HoldsFitting};
 ghost use Rattle.recalc.specs.app_semantics.Present.{present};
@@ -7,8 +8,11 @@ ghost use Rattle.recalc.specs.app_semantics.Sound.{IsSoundApp};
 ghost use Rattle.session_views.specs.Bounds.{AreMade, AreSteps, items_steps, shown_steps};
 ghost use Rattle.session_views.specs.Looking.{is_on_screen};
 ghost use Rattle.session_views.specs.Ready.{CanShow};
-ghost use Rattle.session_views.specs.Views.{AreEachGiven, IsFreshView, IsShown, IsShownControl, IsView, ShowsFirstItems, is_top_level_shown as is_shown_of, put_if_some};
-ghost use Rattle.session_views.specs.Visits.{AreRowsVisited, GivenItemsVisit, ScreenVisits, ShownVisits};
+ghost use Rattle.session_views.specs.Views.{AreEachGiven, IsFreshView, IsShown, IsShownControl};
+ghost use Rattle.session_views.specs.Views.{IsView, ShowsFirstItems};
+ghost use Rattle.session_views.specs.Views.{is_top_level_shown as is_shown_of, put_if_some};
+ghost use Rattle.session_views.specs.Visits.{AreRowsVisited, GivenItemsVisit, ScreenVisits};
+ghost use Rattle.session_views.specs.Visits.{ShownVisits};
 ghost use Rattle.fx_scalar.specs.ScalarFunctions.{IsToday};
 ghost use Rattle.recalc.specs.Asking.{IsHeardOf, ToldRows};
 ghost use Rattle.recalc.specs.Values.{value_of};
@@ -35,9 +39,10 @@ use std::alloc::Global;
 use std::sync::ledger::Ledger;
 use view_text::{Items, Shown, ShownList, View};
 
-/// What a session shows at a moment, in seconds since 1970-01-01 UTC: its screen, and the controls that are shown on it, in
-/// the order of the app. What was kept right stays so, also where it stops; the cells that are looked at are clean afterwards, and
-/// what was clean stays so. `Failed` only where the keeper counted a fault.
+/// What a session shows at a moment, in seconds since 1970-01-01 UTC: its screen, and the controls
+/// that are shown on it, in the order of the app. What was kept right stays so, also where it
+/// stops; the cells that are looked at are clean afterwards, and what was clean stays so. `Failed`
+/// only where the keeper counted a fault.
 #[tactic(auto, using(recalc::proofs::Asked::read_none, recalc::proofs::Asked::read_on, crate::proofs::Needing::leaves_none, recalc::proofs::Leaving::left_same))]
 pub fn view_of<K: Keeper, L: Ledger>(
     alloc: Global,
@@ -54,16 +59,26 @@ pub fn view_of<K: Keeper, L: Ledger>(
     requires shaped { K.shaped keeper.old ≡ Some app.now.names.schema }
     requires day { IsToday moment cache.old.values.day }
     requires order { IsInOrder app.now cache.old }
-    ensures shows { IfOk result (λ v. IsRightOver app.now session.now (K.told keeper.old) moment cache.old → (tables : ToldRows) → IsHeardOf (K.told keeper.new) tables → IsFreshView (present app.now session.now tables moment) v) }
+    ensures shows { IfOk result (λ v. IsRightOver app.now session.now (K.told keeper.old) moment
+        cache.old → (tables : ToldRows) → IsHeardOf (K.told keeper.new) tables
+        → IsFreshView (present app.now session.now tables moment) v) }
     ensures order { IsInOrder app.now cache.new }
-    ensures right { IsRightOver app.now session.now (K.told keeper.old) moment cache.old → IsRightOver app.now session.now (K.told keeper.new) moment cache.new }
+    ensures right { IsRightOver app.now session.now (K.told keeper.old) moment cache.old
+        → IsRightOver app.now session.now (K.told keeper.new) moment cache.new }
     ensures day { cache.new.values.day ≡ cache.old.values.day }
     ensures left { HasNumbersLeft cache.old.last → KeepsClean app.now cache.old cache.new }
     ensures but { StaysCleanExcept app.now [] cache.old cache.new }
-    ensures made { OnOk result (AreMade app.now (is_on_screen app.now.names session.now.screen) cache.new) }
-    ensures ticks { IfOk result (λ v. HasNumbersLeft cache.old.last → AreSteps app.now (is_on_screen app.now.names session.now.screen) cache.old cache.new (shown_steps app.now.names v.shown) steps.old steps.new) }
-    ensures visits { IfOk result (λ v. IsRightOver app.now session.now (K.told keeper.old) moment cache.old → HasNumbersLeft cache.old.last → WhereTold (K.told keeper.new) (λ told.
-        AreRowsVisited app.now session.now told moment (is_on_screen app.now.names session.now.screen) cache.old cache.new (λ values. ScreenVisits app.now session.now told moment values v.shown) steps.old (K.visited keeper.old) (K.visited keeper.new))) }
+    ensures made { OnOk result (AreMade app.now (is_on_screen app.now.names session.now.screen)
+        cache.new) }
+    ensures ticks { IfOk result (λ v. HasNumbersLeft cache.old.last
+        → AreSteps app.now (is_on_screen app.now.names session.now.screen) cache.old cache.new
+        (shown_steps app.now.names v.shown) steps.old steps.new) }
+    ensures visits { IfOk result (λ v. IsRightOver app.now session.now (K.told keeper.old) moment
+        cache.old → HasNumbersLeft cache.old.last → WhereTold (K.told keeper.new) (λ told.
+        AreRowsVisited app.now session.now told moment
+        (is_on_screen app.now.names session.now.screen) cache.old cache.new
+        (λ values. ScreenVisits app.now session.now told moment values v.shown) steps.old
+        (K.visited keeper.old) (K.visited keeper.new))) }
     ensures read { HasRead K.Keeper keeper.old keeper.new }
     ensures cause { HasCause K.Keeper keeper.old keeper.new result }
 {
@@ -86,10 +101,14 @@ fn view_by<K: Keeper, L: Ledger>(
     requires ready { CanShow app.now session.now valued.now }
     requires screen { session.now.screen < length app.now.names.screens }
     requires shaped { K.shaped keeper.old ≡ Some app.now.names.schema }
-    ensures shows { IfOk result (λ v. (moment : ℕ) (tables : ToldRows) → IsToday moment valued.now.day → IsHeardOf (K.told keeper.new) tables → IsView (present app.now session.now tables moment) (value_of valued.now) v) }
+    ensures shows { IfOk result (λ v. (moment : ℕ) (tables : ToldRows)
+        → IsToday moment valued.now.day → IsHeardOf (K.told keeper.new) tables
+        → IsView (present app.now session.now tables moment) (value_of valued.now) v) }
     ensures ticks { IfOk result (λ v. steps.new ≤ steps.old + shown_steps app.now.names v.shown) }
-    ensures visits { IfOk result (λ v. (moment : ℕ) → IsToday moment valued.now.day → WhereTold (K.told keeper.new) (λ told.
-        AtMost (ScreenVisits app.now session.now told moment (value_of valued.now) v.shown) (K.visited keeper.old) (K.visited keeper.new))) }
+    ensures visits { IfOk result (λ v. (moment : ℕ) → IsToday moment valued.now.day
+        → WhereTold (K.told keeper.new) (λ told.
+        AtMost (ScreenVisits app.now session.now told moment (value_of valued.now) v.shown)
+        (K.visited keeper.old) (K.visited keeper.new))) }
     ensures read { HasRead K.Keeper keeper.old keeper.new }
     ensures cause { HasCause K.Keeper keeper.old keeper.new result }
 {
@@ -116,10 +135,15 @@ fn all_shown<K: Keeper, L: Ledger>(
 ) -> Result<ShownList, KeeperEnd>
     requires ready { CanShow app.now session.now valued.now }
     requires shaped { K.shaped keeper.old ≡ Some app.now.names.schema }
-    ensures shows { IfOk result (λ l. (moment : ℕ) (tables : ToldRows) → IsToday moment valued.now.day → IsHeardOf (K.told keeper.new) tables → AreEachGiven (IsShown (present app.now session.now tables moment) (value_of valued.now)) 0 app.now.names.controls l) }
+    ensures shows { IfOk result (λ l. (moment : ℕ) (tables : ToldRows)
+        → IsToday moment valued.now.day → IsHeardOf (K.told keeper.new) tables
+        → AreEachGiven (IsShown (present app.now session.now tables moment) (value_of valued.now)) 0
+        app.now.names.controls l) }
     ensures ticks { IfOk result (λ l. steps.new ≤ steps.old + shown_steps app.now.names l) }
-    ensures visits { IfOk result (λ l. (moment : ℕ) → IsToday moment valued.now.day → WhereTold (K.told keeper.new) (λ told.
-        AtMost (ScreenVisits app.now session.now told moment (value_of valued.now) l) (K.visited keeper.old) (K.visited keeper.new))) }
+    ensures visits { IfOk result (λ l. (moment : ℕ) → IsToday moment valued.now.day
+        → WhereTold (K.told keeper.new) (λ told.
+        AtMost (ScreenVisits app.now session.now told moment (value_of valued.now) l)
+        (K.visited keeper.old) (K.visited keeper.new))) }
     ensures read { HasRead K.Keeper keeper.old keeper.new }
     ensures cause { HasCause K.Keeper keeper.old keeper.new result }
 {
@@ -162,10 +186,16 @@ fn shown_control<K: Keeper, L: Ledger>(
     requires ready { CanShow app.now session.now valued.now }
     requires control { slice_get app.now.names.controls number ≡ Some control.now }
     requires shaped { K.shaped keeper.old ≡ Some app.now.names.schema }
-    ensures shows { IfOk result (λ o. (moment : ℕ) (tables : ToldRows) → IsToday moment valued.now.day → IsHeardOf (K.told keeper.new) tables → IsShown (present app.now session.now tables moment) (value_of valued.now) number control.now o) }
-    ensures ticks { IfOk result (λ o. steps.new ≤ steps.old + shown_steps app.now.names (put_if_some o [])) }
-    ensures visits { IfOk result (λ o. (moment : ℕ) → IsToday moment valued.now.day → WhereTold (K.told keeper.new) (λ told.
-        AtMost (ShownVisits app.now session.now told moment (value_of valued.now) number control.now o) (K.visited keeper.old) (K.visited keeper.new))) }
+    ensures shows { IfOk result (λ o. (moment : ℕ) (tables : ToldRows)
+        → IsToday moment valued.now.day → IsHeardOf (K.told keeper.new) tables
+        → IsShown (present app.now session.now tables moment) (value_of valued.now) number
+        control.now o) }
+    ensures ticks { IfOk result (λ o. steps.new ≤ steps.old
+        + shown_steps app.now.names (put_if_some o [])) }
+    ensures visits { IfOk result (λ o. (moment : ℕ) → IsToday moment valued.now.day
+        → WhereTold (K.told keeper.new) (λ told.
+        AtMost (ShownVisits app.now session.now told moment (value_of valued.now) number control.now
+        o) (K.visited keeper.old) (K.visited keeper.new))) }
     ensures read { HasRead K.Keeper keeper.old keeper.new }
     ensures cause { HasCause K.Keeper keeper.old keeper.new result }
 {
@@ -192,10 +222,15 @@ fn shown_with<K: Keeper, L: Ledger>(
     requires ready { CanShow app.now session.now valued.now }
     requires control { slice_get app.now.names.controls number ≡ Some control.now }
     requires shaped { K.shaped keeper.old ≡ Some app.now.names.schema }
-    ensures shows { IfOk result (λ s. (moment : ℕ) (tables : ToldRows) → IsToday moment valued.now.day → IsHeardOf (K.told keeper.new) tables → IsShownControl (present app.now session.now tables moment) (value_of valued.now) number control.now s) }
+    ensures shows { IfOk result (λ s. (moment : ℕ) (tables : ToldRows)
+        → IsToday moment valued.now.day → IsHeardOf (K.told keeper.new) tables
+        → IsShownControl (present app.now session.now tables moment) (value_of valued.now) number
+        control.now s) }
     ensures ticks { IfOk result (λ s. steps.new ≤ steps.old + shown_steps app.now.names (s ∷ [])) }
-    ensures visits { IfOk result (λ s. (moment : ℕ) → IsToday moment valued.now.day → WhereTold (K.told keeper.new) (λ told.
-        AtMost (GivenItemsVisit app.now session.now told moment (value_of valued.now) number 1 s.items) (K.visited keeper.old) (K.visited keeper.new))) }
+    ensures visits { IfOk result (λ s. (moment : ℕ) → IsToday moment valued.now.day
+        → WhereTold (K.told keeper.new) (λ told.
+        AtMost (GivenItemsVisit app.now session.now told moment (value_of valued.now) number 1
+        s.items) (K.visited keeper.old) (K.visited keeper.new))) }
     ensures read { HasRead K.Keeper keeper.old keeper.new }
     ensures cause { HasCause K.Keeper keeper.old keeper.new result }
 {
@@ -226,10 +261,15 @@ fn shown_items<K: Keeper, L: Ledger>(
     requires ready { CanShow app.now session.now valued.now }
     requires control { slice_get app.now.names.controls number ≡ Some control.now }
     requires shaped { K.shaped keeper.old ≡ Some app.now.names.schema }
-    ensures shows { IfOk result (λ o. (moment : ℕ) (tables : ToldRows) → IsToday moment valued.now.day → IsHeardOf (K.told keeper.new) tables → ShowsFirstItems (present app.now session.now tables moment) (value_of valued.now) number control.now.kind o) }
+    ensures shows { IfOk result (λ o. (moment : ℕ) (tables : ToldRows)
+        → IsToday moment valued.now.day → IsHeardOf (K.told keeper.new) tables
+        → ShowsFirstItems (present app.now session.now tables moment) (value_of valued.now) number
+        control.now.kind o) }
     ensures ticks { IfOk result (λ o. steps.new ≤ steps.old + items_steps app.now.names number o) }
-    ensures visits { IfOk result (λ o. (moment : ℕ) → IsToday moment valued.now.day → WhereTold (K.told keeper.new) (λ told.
-        AtMost (GivenItemsVisit app.now session.now told moment (value_of valued.now) number 1 o) (K.visited keeper.old) (K.visited keeper.new))) }
+    ensures visits { IfOk result (λ o. (moment : ℕ) → IsToday moment valued.now.day
+        → WhereTold (K.told keeper.new) (λ told.
+        AtMost (GivenItemsVisit app.now session.now told moment (value_of valued.now) number 1 o)
+        (K.visited keeper.old) (K.visited keeper.new))) }
     ensures read { HasRead K.Keeper keeper.old keeper.new }
     ensures cause { HasCause K.Keeper keeper.old keeper.new result }
 {

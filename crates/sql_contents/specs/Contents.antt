@@ -1,4 +1,5 @@
--- What the four tables hold, as lists. Any rows are read, those too that no statement of the product has written.
+-- What the four tables hold, as lists. Any rows are read, those too that no statement of the
+-- product has written.
 use Rattle.std.specs.Prelude.{◌≡◌, ℕ, pos, List, [], ◌∷◌, filter, map, Option, None, Some}
 use Rattle.std.specs.Ordering.{nat_cmp}
 use Rattle.std.specs.declared.cmp.Ordering.{Ordering}
@@ -12,7 +13,8 @@ use Rattle.sql_meanings.specs.Lasts.{AreLasts, LastsOf, shown_last}
 use Rattle.sql_meanings.specs.Lines.{AreLines, LinesOf, stored_lines}
 use Rattle.sql_meanings.specs.Marks.{AreMarks, MarksOf, mark_cmp, stored_marks}
 
--- the body of the schema, the last number of each table, the lines of each table, and the marks of each column
+-- the body of the schema, the last number of each table, the lines of each table, and the marks of
+-- each column
 pub record Contents : Type 0 where
   pub body : Option (List ℕ)
   pub lasts : LastsOf
@@ -68,4 +70,9 @@ abbrev pub body_in : Trees → Option (List ℕ)
 body_in trees = first_body (map shown_body (filter is_one (trees 0)))
 
 abbrev pub contents_of : Trees → Contents
-contents_of trees = record { body = body_in trees; lasts = lasts_in trees; lines = lines_in trees; marks = marks_in trees }
+contents_of trees = record {
+  body = body_in trees;
+  lasts = lasts_in trees;
+  lines = lines_in trees;
+  marks = marks_in trees;
+}

@@ -6,8 +6,8 @@ use Rattle.fx_core.specs.declared.schema.Schema.{Schema}
 use Rattle.row_keeper.specs.declared.keeper.KeeperEnd.{KeeperEnd}
 use Rattle.row_keeper.specs.declared.keeper.KeeperEnd.TheVariants.{Memory as OutOfMemory, Failed}
 
--- The schema that it is shaped by, if any, whether a transaction is begun, how many rows have been visited, and how many
--- faults it counted. It tells nothing of what the database keeps.
+-- The schema that it is shaped by, if any, whether a transaction is begun, how many rows have been
+-- visited, and how many faults it counted. It tells nothing of what the database keeps.
 pub record SqlView : Type 0 where
   pub schema : Option Schema
   pub is_begun : Bool

@@ -40,7 +40,8 @@ fn lies(alloc: Global, row: &Row, table: &TableShape, query: &Query) -> Result<b
 /// Whether all rows lie in a query's ranges.
 fn all_lie(alloc: Global, rows: &[Row], table: &TableShape, query: &Query) -> Result<bool, Memory>
     requires { AllByRecursion (IsHeldRow table.now) rows.now }
-    ensures { IfOk result (λ lie. lie ≡ true → AllByRecursion (λ r. is_asked query.now r ≡ true) rows.now) }
+    ensures { IfOk result (λ lie. lie ≡ true → AllByRecursion (λ r. is_asked query.now r ≡ true)
+        rows.now) }
 {
     for row in rows {
         if !lies(alloc, row, table, query)? {
@@ -50,8 +51,8 @@ fn all_lie(alloc: Global, rows: &[Row], table: &TableShape, query: &Query) -> Re
     Ok(true)
 }
 
-/// Rows that were read for a query, in its order. Where two have one number, or one lies outside the query's ranges, the
-/// database has other marks than those of its lines, which is a fault.
+/// Rows that were read for a query, in its order. Where two have one number, or one lies outside
+/// the query's ranges, the database has other marks than those of its lines, which is a fault.
 pub fn arrange(
     alloc: Global,
     mut rows: Vec<Row>,
@@ -59,7 +60,8 @@ pub fn arrange(
     query: &Query,
 ) -> Result<Vec<Row>, KeeperEnd>
     requires { AllByRecursion (IsHeldRow table.now) rows.items }
-    ensures asked { IfOk result (λ asked. (held : List RowValue) × AreHeldRows table.now held × AreAsked query.now held asked.items) }
+    ensures asked { IfOk result (λ asked. (held : List RowValue) × AreHeldRows table.now held
+        × AreAsked query.now held asked.items) }
     ensures fit { IfOk result (λ asked. AllByRecursion (IsRowOf table.now) asked.items) }
 {
     sort_rows(&mut rows, None)?;

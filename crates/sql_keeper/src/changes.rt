@@ -1,5 +1,5 @@
-// What a transaction has made of rows. It is written to the database at its end alone: a statement that fails in a
-// transaction of the database may undo all of it.
+// What a transaction has made of rows. It is written to the database at its end alone: a statement
+// that fails in a transaction of the database may undo all of it.
 
 use fx_base::Memory;
 use std::alloc::Global;
@@ -17,7 +17,8 @@ pub struct Changes {
     pub by_row: BTreeMap<(u16, u32), Change>,
 }
 
-// By hand, so that it is called: what is derived is opened wherever a value may end, which costs proofs seconds each time.
+// By hand, so that it is called: what is derived is opened wherever a value may end, which costs
+// proofs seconds each time.
 impl Drop for Changes {
     fn drop(self) {
         let Changes { by_row: _ } = self;

@@ -48,7 +48,8 @@ pub fn insert_row(
     Ok(Put::Id(id))
 }
 
-/// Puts other cells into a row of a table, or says that there is no row of this number, or which rule it would break first.
+/// Puts other cells into a row of a table, or says that there is no row of this number, or which
+/// rule it would break first.
 pub fn replace_row(
     alloc: Global,
     database: &mut Database,

@@ -11,7 +11,8 @@ pub enum Database {
     InFile(Connection<FileStore<File>>),
 }
 
-// By hand, so that it is called: what is derived is opened wherever a value may end, which costs proofs seconds each time.
+// By hand, so that it is called: what is derived is opened wherever a value may end, which costs
+// proofs seconds each time.
 impl Drop for Database {
     fn drop(self) {
         match self {
@@ -22,8 +23,8 @@ impl Drop for Database {
 }
 
 impl Database {
-    /// Opens the database of a name: a new one in memory where the name is empty or `:memory:`, else that of a file, which
-    /// is made where there is none.
+    /// Opens the database of a name: a new one in memory where the name is empty or `:memory:`,
+    /// else that of a file, which is made where there is none.
     pub fn open(rt: &HostRuntime, name: &str) -> Result<Database, KeeperEnd> {
         if name.is_empty() || name == ":memory:" {
             return match Connection::open_in_memory(rt.alloc()) {
@@ -39,7 +40,8 @@ impl Database {
     }
 
     /// All that a reading statement answers.
-    // This and `write` alone choose between the kinds of connection, since each function that does costs proofs half a minute.
+    // This and `write` alone choose between the kinds of connection, since each function that does
+    // costs proofs half a minute.
     pub fn query_all(&mut self, text: &str, params: &[ValueRef<'_>]) -> Result<Vec<Answer>, Error> {
         match self {
             Database::InMemory(conn) => conn.query_all(text, params),

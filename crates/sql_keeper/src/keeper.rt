@@ -1,5 +1,6 @@
 //! A keeper over SQLite.
-ghost use Rattle.std.specs.Prelude.{◌≡◌, ◌≢◌, ◌≤◌, false, length, slice_get, None, Some, IfNone, IfOk, IfSome, IsSome, IsErrOf, IsSomeAnd, OnErr, OnOk};
+ghost use Rattle.std.specs.Prelude.{◌≡◌, ◌≢◌, ◌≤◌, false, length, slice_get, None, Some, IfNone};
+ghost use Rattle.std.specs.Prelude.{IfOk, IfSome, IsSome, IsErrOf, IsSomeAnd, OnErr, OnOk};
 ghost use Rattle.std.specs.List.{All, AllByRecursion};
 ghost use Rattle.fx_base.specs.Faults.{Rose};
 ghost use Rattle.row_keeper.specs.Causes.{end_of};
@@ -32,8 +33,9 @@ use row_queries::{Cells, Query, Row, RowList};
 use std::marker::Model;
 use std::rt::HostRuntime;
 
-/// Rows in a SQLite database: a new one in memory where the name attached is empty or `:memory:`, else that of a file.
-/// Each refusal of a statement for another cause than memory is a fault, and so is a line that is no row of the schema.
+/// Rows in a SQLite database: a new one in memory where the name attached is empty or `:memory:`,
+/// else that of a file. Each refusal of a statement for another cause than memory is a fault, and
+/// so is a line that is no row of the schema.
 pub struct SqlKeeper {
     rt: HostRuntime,
     database: Option<Database>,
@@ -46,7 +48,8 @@ pub struct SqlKeeper {
     faults: u64,
 }
 
-// By hand, so that it is called: what is derived is opened wherever a value may end, which costs proofs seconds each time.
+// By hand, so that it is called: what is derived is opened wherever a value may end, which costs
+// proofs seconds each time.
 impl Drop for SqlKeeper {
     fn drop(self) {
         let SqlKeeper {
@@ -71,7 +74,12 @@ impl Model for SqlKeeper {
 
     ghost coded = { Prim.hlevel (codes, schema_row.coded) };
 
-    ghost view = { λ k. record { schema = k.schema; is_begun = is_some k.changes; visited = k.visited; faults = k.faults } };
+    ghost view = { λ k. record {
+      schema = k.schema;
+      is_begun = is_some k.changes;
+      visited = k.visited;
+      faults = k.faults;
+    } };
 }
 
 impl SqlKeeper {
@@ -147,7 +155,8 @@ impl SqlKeeper {
     /// Keeps a schema, or answers the other one that is kept.
     fn keep(&mut self, schema: &Schema) -> Result<Option<Schema>, KeeperEnd>
         ensures another { IfOk result (λ other. IfSome other (λ s. s ≢ schema.now)) }
-        ensures shaped { IfOk result (λ other. IfNone other (self.new ≡ record self.old { schema = Some schema.now })) }
+        ensures shaped { IfOk result (λ other. IfNone other
+            (self.new ≡ record self.old { schema = Some schema.now })) }
         ensures unshaped { IfOk result (λ other. IsSome other → self.new ≡ self.old) }
         ensures err { OnErr result (self.new ≡ self.old) }
     {
@@ -171,8 +180,10 @@ impl SqlKeeper {
 
     /// What becomes of a new row.
     fn put_new(&mut self, tab: u16, cells: &Cells) -> Result<Put, KeeperEnd>
-        requires { IsSomeAnd (slice_get (shapes_of self.old.schema) tab) (λ t. AreCellsOf t.columns cells.now) }
-        ensures sound { IfOk result (λ put. IsInserted (columns_at (shapes_of self.old.schema) tab) put) }
+        requires { IsSomeAnd (slice_get (shapes_of self.old.schema) tab)
+            (λ t. AreCellsOf t.columns cells.now) }
+        ensures sound { IfOk result (λ put. IsInserted (columns_at (shapes_of self.old.schema) tab)
+            put) }
         ensures same { self.new ≡ self.old }
     {
         let Some(schema) = &self.schema else {
@@ -197,8 +208,10 @@ impl SqlKeeper {
 
     /// What becomes of a row that gets other cells.
     fn put_over(&mut self, tab: u16, id: u32, cells: &Cells) -> Result<Put, KeeperEnd>
-        requires { IsSomeAnd (slice_get (shapes_of self.old.schema) tab) (λ t. AreCellsOf t.columns cells.now) }
-        ensures sound { IfOk result (λ put. IsReplaced (columns_at (shapes_of self.old.schema) tab) id put) }
+        requires { IsSomeAnd (slice_get (shapes_of self.old.schema) tab)
+            (λ t. AreCellsOf t.columns cells.now) }
+        ensures sound { IfOk result (λ put. IsReplaced (columns_at (shapes_of self.old.schema) tab)
+            id put) }
         ensures same { self.new ≡ self.old }
     {
         let Some(schema) = &self.schema else {
@@ -257,9 +270,13 @@ impl SqlKeeper {
 
     /// The rows that a query asks, in its order. They are counted as visited.
     fn ask(&mut self, query: &Query) -> Result<Vec<Row>, KeeperEnd>
-        ensures asked { IfOk result (λ rows. OfRows (shapes_of self.old.schema) None query.now (λ t held. AreAsked query.now held rows.items)) }
-        ensures fit { IfOk result (λ rows. IsSomeAnd (slice_get (shapes_of self.old.schema) query.now.table) (λ t. AllByRecursion (IsRowOf t) rows.items)) }
-        ensures least { IfOk result (λ rows. VisitsAtLeast (length rows.items) self.old.visited self.new.visited) }
+        ensures asked { IfOk result (λ rows. OfRows (shapes_of self.old.schema) None query.now
+            (λ t held. AreAsked query.now held rows.items)) }
+        ensures fit { IfOk result (λ rows. IsSomeAnd
+            (slice_get (shapes_of self.old.schema) query.now.table)
+            (λ t. AllByRecursion (IsRowOf t) rows.items)) }
+        ensures least { IfOk result (λ rows. VisitsAtLeast (length rows.items) self.old.visited
+            self.new.visited) }
         ensures later { self.old.visited ≤ self.new.visited }
         ensures same { self.new ≡ record self.old { visited = self.new.visited } }
     {
@@ -283,9 +300,12 @@ impl SqlKeeper {
     /// What a query answers.
     fn answer(&mut self, query: &Query) -> Result<RowList, KeeperEnd>
         requires { IsQuery (shapes_of self.old.schema) query.now }
-        ensures answer { IfOk result (λ a. IsScanAnswer (shapes_of self.old.schema) None query.now a) }
-        ensures fit { IfOk result (λ a. IsSomeAnd (slice_get (shapes_of self.old.schema) query.now.table) (λ t. All (IsRowOf t) a.rows)) }
-        ensures least { IfOk result (λ a. VisitsAtLeast (length a.rows) self.old.visited self.new.visited) }
+        ensures answer { IfOk result (λ a. IsScanAnswer (shapes_of self.old.schema) None query.now
+            a) }
+        ensures fit { IfOk result (λ a. IsSomeAnd
+            (slice_get (shapes_of self.old.schema) query.now.table) (λ t. All (IsRowOf t) a.rows)) }
+        ensures least { IfOk result (λ a. VisitsAtLeast (length a.rows) self.old.visited
+            self.new.visited) }
         ensures later { self.old.visited ≤ self.new.visited }
         ensures same { self.new ≡ record self.old { visited = self.new.visited } }
     {
@@ -297,7 +317,8 @@ impl SqlKeeper {
     fn give(&mut self, query: &Query) -> Result<Vec<Row>, KeeperEnd>
         requires query { IsQuery (shapes_of self.old.schema) query.now }
         requires sound { HasNoFaults query.now.test }
-        ensures given { IfOk result (λ rows. OfRows (shapes_of self.old.schema) None query.now (λ t held. IsGivenOf query.now held rows.items)) }
+        ensures given { IfOk result (λ rows. OfRows (shapes_of self.old.schema) None query.now
+            (λ t held. IsGivenOf query.now held rows.items)) }
         ensures later { self.old.visited ≤ self.new.visited }
         ensures same { self.new ≡ record self.old { visited = self.new.visited } }
     {
@@ -309,7 +330,8 @@ impl SqlKeeper {
     fn tell_count(&mut self, query: &Query) -> Result<u32, KeeperEnd>
         requires query { IsQuery (shapes_of self.old.schema) query.now }
         requires sound { HasNoFaults query.now.test }
-        ensures answer { IfOk result (λ n. IsCountAnswer (shapes_of self.old.schema) None query.now n) }
+        ensures answer { IfOk result (λ n. IsCountAnswer (shapes_of self.old.schema) None query.now
+            n) }
         ensures later { self.old.visited ≤ self.new.visited }
         ensures same { self.new ≡ record self.old { visited = self.new.visited } }
     {
@@ -325,7 +347,8 @@ impl SqlKeeper {
     fn tell_totals(&mut self, query: &Query, column: u16) -> Result<Totals, KeeperEnd>
         requires query { IsQuery (shapes_of self.old.schema) query.now }
         requires sound { HasNoFaults query.now.test }
-        ensures answer { IfOk result (λ totals. IsTotalAnswer (shapes_of self.old.schema) None query.now column totals) }
+        ensures answer { IfOk result (λ totals. IsTotalAnswer (shapes_of self.old.schema) None
+            query.now column totals) }
         ensures later { self.old.visited ≤ self.new.visited }
         ensures same { self.new ≡ record self.old { visited = self.new.visited } }
     {

@@ -78,7 +78,8 @@ pub fn is_in_ranges(ranges: &[KeyRange], key: &[u8]) -> bool
     ranges.iter().any(|range| is_in_range(key, range))
 }
 
-/// Whether the key that a line has in a column lies in one of these ranges. Columns are counted from 1.
+/// Whether the key that a line has in a column lies in one of these ranges. Columns are counted
+/// from 1.
 pub fn lies_in(ranges: &[KeyRange], column: u16, body: &[u8]) -> bool {
     let Some(place) = column.checked_sub(1) else {
         return false;

@@ -135,8 +135,8 @@ fn push_changed_between(
     Ok(())
 }
 
-/// Adds the first rows with numbers from one up to another: so many that there are at least `most`, or all. Rows far
-/// behind those aren't read.
+/// Adds the first rows with numbers from one up to another: so many that there are at least `most`,
+/// or all. Rows far behind those aren't read.
 fn push_first(
     alloc: Global,
     rows: &mut Vec<Row>,
@@ -274,7 +274,8 @@ fn has_marks(columns: &[Column], number: u16) -> bool {
     }
 }
 
-/// Adds the rows that are kept in a query's ranges of keys, but for those that the transaction has changed.
+/// Adds the rows that are kept in a query's ranges of keys, but for those that the transaction has
+/// changed.
 fn push_kept(
     alloc: Global,
     rows: &mut Vec<Row>,
@@ -339,8 +340,8 @@ fn push_keyed(
     }
 }
 
-/// The rows that a query asks, in its order. Where it takes the first ones by their numbers, those behind them may be left
-/// out.
+/// The rows that a query asks, in its order. Where it takes the first ones by their numbers, those
+/// behind them may be left out.
 pub fn ask(
     alloc: Global,
     database: &mut Database,
@@ -348,7 +349,8 @@ pub fn ask(
     table: &TableShape,
     query: &Query,
 ) -> Result<Vec<Row>, KeeperEnd>
-    ensures asked { IfOk result (λ rows. (held : List RowValue) × AreHeldRows table.now held × AreAsked query.now held rows.items) }
+    ensures asked { IfOk result (λ rows. (held : List RowValue) × AreHeldRows table.now held
+        × AreAsked query.now held rows.items) }
     ensures fit { IfOk result (λ rows. AllByRecursion (IsRowOf table.now) rows.items) }
 {
     let mut rows = Vec::new(alloc);

@@ -44,8 +44,8 @@ fn is_other(id: Option<u32>, row: i64) -> bool {
     }
 }
 
-/// Whether a row is kept whose mark is among these, and which the transaction has left alone, other than the one of a
-/// number.
+/// Whether a row is kept whose mark is among these, and which the transaction has left alone, other
+/// than the one of a number.
 fn has_stored(marks: &[Answer], changes: &Changes, tab: u16, id: Option<u32>) -> bool {
     for mark in marks {
         if let Some(row) = number_in(mark, 1)
@@ -66,7 +66,8 @@ fn is_changed(changes: &Changes, tab: u16, row: i64) -> bool {
     }
 }
 
-/// Whether the transaction has given a row this key in the column at a place, other than the one of a number.
+/// Whether the transaction has given a row this key in the column at a place, other than the one of
+/// a number.
 fn has_changed(changes: &Changes, tab: u16, place: u16, key: &[u8], id: Option<u32>) -> bool {
     for (row, change) in &changes.by_row {
         if row.0 == tab
@@ -95,7 +96,8 @@ fn next_behind(alloc: Global, key: &[u8]) -> Result<Vec<u8>, Memory> {
     Ok(next)
 }
 
-/// Whether the value in the unique column at a place stands there in another row. A blank one doesn't count.
+/// Whether the value in the unique column at a place stands there in another row. A blank one
+/// doesn't count.
 fn is_repeated(
     alloc: Global,
     database: &mut Database,
@@ -139,7 +141,8 @@ fn first_repeated(
     Ok(None)
 }
 
-/// The first rule that cells break in the row of a number of a table, or in a new one. This is the body of their line.
+/// The first rule that cells break in the row of a number of a table, or in a new one. This is the
+/// body of their line.
 pub fn broken_rule(
     alloc: Global,
     database: &mut Database,

@@ -14,7 +14,14 @@ pub record IsBare (t : Table) : Type 0 where
 
 -- an index that keeps these places of a table distinct
 abbrev pub index_of : List ℕ → ℕ → ℕ → List ℕ → Index
-index_of name tree table places = record { name = name; tree = tree; table = table; columns = places; order = record { digits = 0 }; is_unique = true }
+index_of name tree table places = record {
+  name = name;
+  tree = tree;
+  table = table;
+  columns = places;
+  order = record { digits = 0 };
+  is_unique = true;
+}
 
 -- the four tables as they stand in the database
 abbrev pub kept_tables : List Table
@@ -22,4 +29,5 @@ kept_tables = shape_at ∷ tabs_at ∷ lines_at ∷ marks_at ∷ []
 
 -- the indexes of their keys
 abbrev pub kept_indexes : List Index
-kept_indexes = index_of (codes "sqlite_autoindex_lines_1") 3 2 (1 ∷ 2 ∷ []) ∷ index_of (codes "sqlite_autoindex_marks_1") 5 4 (1 ∷ 2 ∷ 3 ∷ 4 ∷ []) ∷ []
+kept_indexes = index_of (codes "sqlite_autoindex_lines_1") 3 2 (1 ∷ 2 ∷ [])
+    ∷ index_of (codes "sqlite_autoindex_marks_1") 5 4 (1 ∷ 2 ∷ 3 ∷ 4 ∷ []) ∷ []

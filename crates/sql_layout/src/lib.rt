@@ -1,9 +1,11 @@
-//! Whether the tables of a database are those that rows are kept in. A statement has its meaning under the whole schema, so no other table may stand beside them.
+//! Whether the tables of a database are those that rows are kept in. A statement has its meaning
+//! under the whole schema, so no other table may stand beside them.
 #![tactic(auto)]
 
 ghost use Rattle.std.specs.Prelude.{◌≡◌, ◌↔◌, IsTrue, List, [], ◌∷◌, None, Some, false, true};
 ghost use Rattle.sqlite.specs.Kind.TheVariants.{Integer};
-ghost use Rattle.sql_meanings.specs.Schema.{column_of, keyed, kept_schema, lines_at, marks_at, no_schema};
+ghost use Rattle.sql_meanings.specs.Schema.{column_of, keyed, kept_schema, lines_at, marks_at};
+ghost use Rattle.sql_meanings.specs.Schema.{no_schema};
 ghost use Rattle.sql_layout.specs.declared.Layout.TheVariants.{Empty, Kept};
 ghost use Rattle.sql_layout.specs.Plain.{IsBare, index_of, kept_indexes, kept_tables};
 
@@ -61,7 +63,8 @@ fn are_places(places: &Items<usize>, those: &[usize]) -> bool
 
 /// Whether the table has a number as its key, and one column more.
 fn is_keyed(table: &Table, name: &[u8], tree: u32, key: &[u8], other: &[u8], kind: Kind) -> bool
-    ensures { IsTrue result ↔ (table.now ≡ record (keyed name.now (column_of key.now Integer false ∷ column_of other.now kind true ∷ [])) { tree = tree }) }
+    ensures { IsTrue result ↔ (table.now ≡ record (keyed name.now
+        (column_of key.now Integer false ∷ column_of other.now kind true ∷ [])) { tree = tree }) }
 {
     let [first, second] = table.columns.as_slice() else {
         return false;
@@ -79,7 +82,8 @@ fn is_keyed(table: &Table, name: &[u8], tree: u32, key: &[u8], other: &[u8], kin
 
 /// Whether the key of the table is that of these columns.
 fn has_key(table: &Table, places: &[usize]) -> bool
-    ensures { IsTrue result ↔ ((table.now.key ≡ None) × (table.now.primary ≡ places.now) × (table.now.uniques ≡ places.now ∷ []) × (table.now.orders ≡ record { digits = 0 } ∷ [])) }
+    ensures { IsTrue result ↔ ((table.now.key ≡ None) × (table.now.primary ≡ places.now)
+        × (table.now.uniques ≡ places.now ∷ []) × (table.now.orders ≡ record { digits = 0 } ∷ [])) }
 {
     let [unique] = table.uniques.as_slice() else {
         return false;

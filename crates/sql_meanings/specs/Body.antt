@@ -1,5 +1,6 @@
 -- The body of the schema, as the reading statement shows it.
-use Rattle.std.specs.Prelude.{◌≡◌, ℕ, pos, Bool, List, [], ◌∷◌, map, filter, Option, Some, IsPermutation}
+use Rattle.std.specs.Prelude.{◌≡◌, ℕ, pos, Bool, List, [], ◌∷◌, map, filter, Option, Some}
+use Rattle.std.specs.Prelude.{IsPermutation}
 use Rattle.std.specs.Option.{option_to_list}
 use Rattle.sqlite.specs.declared.types.Value.TheVariants.{Int, Blob}
 use Rattle.sqlite.specs.Order.{Row, column}
@@ -20,7 +21,8 @@ is_one r = compares Eq (column r 0) (Int (pos 1))
 
 -- this body is kept, or none
 pub record HasBody (trees : Trees) (body : Option (List ℕ)) : Type 0 where
-  pub stored : IsPermutation (map body_at (option_to_list body)) (map shown_body (filter is_one (trees 0)))
+  pub stored : IsPermutation (map body_at (option_to_list body))
+      (map shown_body (filter is_one (trees 0)))
 
 -- the body is kept, and the rows of the other three trees stay
 pub record InsertsBody (old new : State) (body : List ℕ) (count : ℕ) : Type 0 where

@@ -1,5 +1,6 @@
 -- What a statement of each form makes of the tables.
-use Rattle.std.specs.Prelude.{◌≡◌, ◌≢◌, ◌⊎◌, ℕ, true, false, Bool, IsTrue, List, [], ◌∷◌, length, filter, map, if◌then◌else◌, not, IsPermutation}
+use Rattle.std.specs.Prelude.{◌≡◌, ◌≢◌, ◌⊎◌, ℕ, true, false, Bool, IsTrue, List, [], ◌∷◌, length}
+use Rattle.std.specs.Prelude.{filter, map, if◌then◌else◌, not, IsPermutation}
 use Rattle.std.specs.List.{AllByRecursion}
 use Rattle.sqlite.specs.Order.{Row}
 use Rattle.sqlite.specs.Edit.{is_taken}
@@ -12,10 +13,13 @@ use Rattle.sql_meanings.specs.Schema.{kept_schema}
 
 -- each other table has its rows
 abbrev pub OthersStay : State → State → Schema → ℕ → Type 0
-OthersStay old new schema tree = AllByRecursion (λ (it : Table). it.tree ≢ tree → new.now.trees it.tree ≡ old.now.trees it.tree) schema.tables
+OthersStay old new schema tree = AllByRecursion
+    (λ (it : Table). it.tree ≢ tree → new.now.trees it.tree ≡ old.now.trees it.tree) schema.tables
 
--- the table's tree has these rows, in the order of their rowids, each other table has its own, and so many were changed
-pub record Rewrites (old new : State) (table : Table) (made : List Row) (changed count : ℕ) : Type 0 where
+-- the table's tree has these rows, in the order of their rowids, each other table has its own, and
+-- so many were changed
+pub record Rewrites (old new : State) (table : Table) (made : List Row) (changed count : ℕ) : Type
+    0 where
   pub schema : new.now.schema ≡ kept_schema
   pub rows : IsPermutation made (new.now.trees table.tree)
   pub shaped : IsShaped TableShape (new.now.trees table.tree)
@@ -27,7 +31,8 @@ pub record Adds (old new : State) (table : Table) (row : Row) (count : ℕ) : Ty
   pub schema : new.now.schema ≡ kept_schema
   pub fresh : is_taken (old.now.trees table.tree) row ≡ false
   pub rows : IsPermutation (row ∷ old.now.trees table.tree) (new.now.trees table.tree)
-  pub shaped : IsShaped TableShape (old.now.trees table.tree) → IsShaped TableShape (new.now.trees table.tree)
+  pub shaped : IsShaped TableShape (old.now.trees table.tree)
+      → IsShaped TableShape (new.now.trees table.tree)
   pub others : OthersStay old new kept_schema table.tree
   pub counted : count ≡ 1
 
@@ -40,7 +45,8 @@ pub record IsBegun (s : State) (schema : Schema) : Type 0 where
 pub record Makes (old new : State) (before after : Schema) (tree : ℕ) : Type 0 where
   pub goes_on : IsBegun new after
   pub empty : new.now.trees tree ≡ []
-  pub kept : AllByRecursion (λ (t : Table). new.now.trees t.tree ≡ old.now.trees t.tree) before.tables
+  pub kept : AllByRecursion (λ (t : Table). new.now.trees t.tree ≡ old.now.trees t.tree)
+      before.tables
   pub committed : new.committed ≡ old.committed
 
 -- a refused statement changes nothing, or rolls the transaction back

@@ -1,5 +1,6 @@
 -- The last number of each table, as the reading statement shows them.
-use Rattle.std.specs.Prelude.{◌≡◌, ◌<◌, ◌==◌, ◌++◌, ⊤, ℕ, pos, Bool, true, if◌then◌else◌, List, [], ◌∷◌, length, map, filter, IsPermutation}
+use Rattle.std.specs.Prelude.{◌≡◌, ◌<◌, ◌==◌, ◌++◌, ⊤, ℕ, pos, Bool, true, if◌then◌else◌, List, []}
+use Rattle.std.specs.Prelude.{◌∷◌, length, map, filter, IsPermutation}
 use Rattle.std.specs.List.{AllByRecursion}
 use Rattle.sqlite.specs.declared.types.Value.TheVariants.{Int}
 use Rattle.sqlite.specs.Order.{Row, column}
@@ -40,8 +41,10 @@ with_last tab last ns = map (λ n. if is_of_table tab n then (n.0, last) else n)
 abbrev pub count_of_table : ℕ → LastsOf → ℕ
 count_of_table tab ns = length (filter (is_of_table tab) ns)
 
--- The last numbers go so, where they fit, and so many are counted. The rows of the other three trees stay.
-pub record ChangesLasts (old new : State) (Fits : LastsOf → Type 0) (go : LastsOf → LastsOf) (changed : LastsOf → ℕ) (count : ℕ) : Type 0 where
+-- The last numbers go so, where they fit, and so many are counted. The rows of the other three
+-- trees stay.
+pub record ChangesLasts (old new : State) (Fits : LastsOf → Type 0) (go : LastsOf → LastsOf)
+    (changed : LastsOf → ℕ) (count : ℕ) : Type 0 where
   pub goes_on : IsUnderWay new
   pub here : (ns : LastsOf) → AreLasts old.now.trees ns → Fits ns → AreLasts new.now.trees (go ns)
   pub counted : (ns : LastsOf) → AreLasts old.now.trees ns → count ≡ changed ns
@@ -50,7 +53,9 @@ pub record ChangesLasts (old new : State) (Fits : LastsOf → Type 0) (go : Last
   pub marks : new.now.trees 4 ≡ old.now.trees 4
 
 abbrev pub InsertsLast : State → State → ℕ → ℕ → ℕ → Type 0
-InsertsLast old new tab last = ChangesLasts old new (AreTablesBelow tab) (with_table tab last) (λ _. 1)
+InsertsLast old new tab last = ChangesLasts old new (AreTablesBelow tab) (with_table tab last)
+    (λ _. 1)
 
 abbrev pub ReplacesLast : State → State → ℕ → ℕ → ℕ → Type 0
-ReplacesLast old new tab last = ChangesLasts old new (λ _. ⊤) (with_last tab last) (count_of_table tab)
+ReplacesLast old new tab last = ChangesLasts old new (λ _. ⊤) (with_last tab last)
+    (count_of_table tab)

@@ -1,5 +1,6 @@
 -- The lines of a table: the number and the body of each, as the reading statement shows them.
-use Rattle.std.specs.Prelude.{◌≡◌, ◌≢◌, ◌<◌, ◌==◌, ◌&&◌, ◌++◌, ⊤, ℕ, pos, Bool, not, nat_le, if◌then◌else◌, List, [], ◌∷◌, length, map, filter, IsPermutation}
+use Rattle.std.specs.Prelude.{◌≡◌, ◌≢◌, ◌<◌, ◌==◌, ◌&&◌, ◌++◌, ⊤, ℕ, pos, Bool, not, nat_le}
+use Rattle.std.specs.Prelude.{if◌then◌else◌, List, [], ◌∷◌, length, map, filter, IsPermutation}
 use Rattle.std.specs.List.{AllByRecursion}
 use Rattle.sqlite.specs.declared.types.Value.TheVariants.{Int, Blob}
 use Rattle.sqlite.specs.Order.{Row, column}
@@ -55,21 +56,27 @@ count_of_line id xs = length (filter (has_number id) xs)
 abbrev pub is_within : ℕ → ℕ → ℕ × List ℕ → Bool
 is_within low high x = nat_le low x.0 && nat_le x.0 high
 
--- The lines of one table go so, where they fit, and so many are counted. Those of each other table stay, and so do the rows of the other three trees.
-pub record ChangesLines (old new : State) (tab : ℕ) (Fits : LinesOf → Type 0) (go : LinesOf → LinesOf) (changed : LinesOf → ℕ) (count : ℕ) : Type 0 where
+-- The lines of one table go so, where they fit, and so many are counted. Those of each other table
+-- stay, and so do the rows of the other three trees.
+pub record ChangesLines (old new : State) (tab : ℕ) (Fits : LinesOf → Type 0)
+    (go : LinesOf → LinesOf) (changed : LinesOf → ℕ) (count : ℕ) : Type 0 where
   pub goes_on : IsUnderWay new
-  pub here : (xs : LinesOf) → AreLines old.now.trees tab xs → Fits xs → AreLines new.now.trees tab (go xs)
+  pub here : (xs : LinesOf) → AreLines old.now.trees tab xs → Fits xs
+      → AreLines new.now.trees tab (go xs)
   pub counted : (xs : LinesOf) → AreLines old.now.trees tab xs → count ≡ changed xs
-  pub others : (other : ℕ) → other ≢ tab → (xs : LinesOf) → AreLines old.now.trees other xs → AreLines new.now.trees other xs
+  pub others : (other : ℕ) → other ≢ tab → (xs : LinesOf) → AreLines old.now.trees other xs
+      → AreLines new.now.trees other xs
   pub shape : new.now.trees 0 ≡ old.now.trees 0
   pub tabs : new.now.trees 1 ≡ old.now.trees 1
   pub marks : new.now.trees 4 ≡ old.now.trees 4
 
 abbrev pub InsertsLine : State → State → ℕ → ℕ → List ℕ → ℕ → Type 0
-InsertsLine old new tab id body = ChangesLines old new tab (AreBelow id) (with_line id body) (λ _. 1)
+InsertsLine old new tab id body = ChangesLines old new tab (AreBelow id) (with_line id body)
+    (λ _. 1)
 
 abbrev pub ReplacesLine : State → State → ℕ → ℕ → List ℕ → ℕ → Type 0
-ReplacesLine old new tab id body = ChangesLines old new tab (λ _. ⊤) (with_body id body) (count_of_line id)
+ReplacesLine old new tab id body = ChangesLines old new tab (λ _. ⊤) (with_body id body)
+    (count_of_line id)
 
 abbrev pub RemovesLine : State → State → ℕ → ℕ → ℕ → Type 0
 RemovesLine old new tab id = ChangesLines old new tab (λ _. ⊤) (without_line id) (count_of_line id)

@@ -1,5 +1,6 @@
 -- The marks of a column: the key and the number of each, as the reading statement shows them.
-use Rattle.std.specs.Prelude.{◌≡◌, ◌≢◌, ◌⊎◌, ◌==◌, ◌&&◌, ⊤, ℕ, pos, Bool, not, List, [], ◌∷◌, length, map, filter, IsPermutation}
+use Rattle.std.specs.Prelude.{◌≡◌, ◌≢◌, ◌⊎◌, ◌==◌, ◌&&◌, ⊤, ℕ, pos, Bool, not, List, [], ◌∷◌}
+use Rattle.std.specs.Prelude.{length, map, filter, IsPermutation}
 use Rattle.std.specs.List.{AllByRecursion}
 use Rattle.std.specs.declared.cmp.Ordering.{Ordering}
 use Rattle.std.specs.declared.cmp.Ordering.TheVariants.{Less}
@@ -31,7 +32,8 @@ abbrev pub shown_mark : Row → Row
 shown_mark r = column r 3 ∷ column r 4 ∷ []
 
 abbrev pub is_of_column : ℕ → ℕ → Row → Bool
-is_of_column tab col r = compares Eq (column r 1) (Int (pos tab)) && compares Eq (column r 2) (Int (pos col))
+is_of_column tab col r = compares Eq (column r 1) (Int (pos tab))
+    && compares Eq (column r 2) (Int (pos col))
 
 -- in the order of their rowids
 abbrev pub stored_marks : Trees → ℕ → ℕ → List Row
@@ -64,18 +66,24 @@ without_mark key id ms = filter (λ m. not (is_mark_of key id m)) ms
 abbrev pub count_of_mark : List ℕ → ℕ → MarksOf → ℕ
 count_of_mark key id ms = length (filter (is_mark_of key id) ms)
 
--- The marks of one column go so, where they fit, and so many are counted. Those of each other column stay, and so do the rows of the other three trees.
-pub record ChangesMarks (old new : State) (tab col : ℕ) (Fits : MarksOf → Type 0) (go : MarksOf → MarksOf) (changed : MarksOf → ℕ) (count : ℕ) : Type 0 where
+-- The marks of one column go so, where they fit, and so many are counted. Those of each other
+-- column stay, and so do the rows of the other three trees.
+pub record ChangesMarks (old new : State) (tab col : ℕ) (Fits : MarksOf → Type 0)
+    (go : MarksOf → MarksOf) (changed : MarksOf → ℕ) (count : ℕ) : Type 0 where
   pub goes_on : IsUnderWay new
-  pub here : (ms : MarksOf) → AreMarks old.now.trees tab col ms → Fits ms → AreMarks new.now.trees tab col (go ms)
+  pub here : (ms : MarksOf) → AreMarks old.now.trees tab col ms → Fits ms
+      → AreMarks new.now.trees tab col (go ms)
   pub counted : (ms : MarksOf) → AreMarks old.now.trees tab col ms → count ≡ changed ms
-  pub others : (t c : ℕ) → (t ≢ tab) ⊎ (c ≢ col) → (ms : MarksOf) → AreMarks old.now.trees t c ms → AreMarks new.now.trees t c ms
+  pub others : (t c : ℕ) → (t ≢ tab) ⊎ (c ≢ col) → (ms : MarksOf) → AreMarks old.now.trees t c ms
+      → AreMarks new.now.trees t c ms
   pub shape : new.now.trees 0 ≡ old.now.trees 0
   pub tabs : new.now.trees 1 ≡ old.now.trees 1
   pub lines : new.now.trees 2 ≡ old.now.trees 2
 
 abbrev pub InsertsMark : State → State → ℕ → ℕ → List ℕ → ℕ → ℕ → Type 0
-InsertsMark old new tab column key id = ChangesMarks old new tab column (IsUnmarked id) (with_mark key id) (λ _. 1)
+InsertsMark old new tab column key id = ChangesMarks old new tab column (IsUnmarked id)
+    (with_mark key id) (λ _. 1)
 
 abbrev pub RemovesMark : State → State → ℕ → ℕ → List ℕ → ℕ → ℕ → Type 0
-RemovesMark old new tab column key id = ChangesMarks old new tab column (λ _. ⊤) (without_mark key id) (count_of_mark key id)
+RemovesMark old new tab column key id = ChangesMarks old new tab column (λ _. ⊤)
+    (without_mark key id) (count_of_mark key id)

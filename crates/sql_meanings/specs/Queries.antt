@@ -57,7 +57,8 @@ abbrev pub mark_tests : List Term
 mark_tests = number_test Eq 1 0 ∷ number_test Eq 2 1 ∷ value_test Ge 3 2 ∷ value_test Lt 3 3 ∷ []
 
 abbrev pub marks_query : Query
-marks_query = ordered 4 mark_tests (col 1 3 ∷ col 1 4 ∷ []) ((col 1 3, rising) ∷ (col 1 4, rising) ∷ [])
+marks_query = ordered 4 mark_tests (col 1 3 ∷ col 1 4 ∷ [])
+    ((col 1 3, rising) ∷ (col 1 4, rising) ∷ [])
 
 -- which rows are changed or deleted
 abbrev pub is_last : List Term

@@ -10,7 +10,14 @@ use Rattle.sqlite.specs.Kind.TheVariants.{Integer, Any}
 use Rattle.sqlite_schema.specs.declared.schema.Column.{Column}
 
 abbrev pub column_of : List ℕ → Kind → Bool → Column
-column_of name kind not_null = record { name = name; kind = kind; is_strict = false; not_null = not_null; default = Null; collation = Binary }
+column_of name kind not_null = record {
+  name = name;
+  kind = kind;
+  is_strict = false;
+  not_null = not_null;
+  default = Null;
+  collation = Binary;
+}
 
 -- its first column is its rowid
 abbrev pub keyed : List ℕ → List Column → Table
@@ -47,16 +54,21 @@ unkeyed name columns places = record {
 }
 
 abbrev pub shape_table : Table
-shape_table = keyed (codes "shape") (column_of (codes "one") Integer false ∷ column_of (codes "body") Any true ∷ [])
+shape_table = keyed (codes "shape") (column_of (codes "one") Integer false
+    ∷ column_of (codes "body") Any true ∷ [])
 
 abbrev pub tabs_table : Table
-tabs_table = keyed (codes "tabs") (column_of (codes "tab") Integer false ∷ column_of (codes "last") Integer true ∷ [])
+tabs_table = keyed (codes "tabs") (column_of (codes "tab") Integer false
+    ∷ column_of (codes "last") Integer true ∷ [])
 
 abbrev pub lines_table : Table
-lines_table = unkeyed (codes "lines") (column_of (codes "tab") Integer true ∷ column_of (codes "id") Integer true ∷ column_of (codes "body") Any true ∷ []) (1 ∷ 2 ∷ [])
+lines_table = unkeyed (codes "lines") (column_of (codes "tab") Integer true
+    ∷ column_of (codes "id") Integer true ∷ column_of (codes "body") Any true ∷ []) (1 ∷ 2 ∷ [])
 
 abbrev pub marks_table : Table
-marks_table = unkeyed (codes "marks") (column_of (codes "tab") Integer true ∷ column_of (codes "col") Integer true ∷ column_of (codes "k") Any true ∷ column_of (codes "id") Integer true ∷ []) (1 ∷ 2 ∷ 3 ∷ 4 ∷ [])
+marks_table = unkeyed (codes "marks") (column_of (codes "tab") Integer true
+    ∷ column_of (codes "col") Integer true ∷ column_of (codes "k") Any true
+    ∷ column_of (codes "id") Integer true ∷ []) (1 ∷ 2 ∷ 3 ∷ 4 ∷ [])
 
 -- ---- the schemas on the way, as the statements that make the tables run in this order
 

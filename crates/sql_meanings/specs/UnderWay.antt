@@ -28,7 +28,8 @@ pub record IsReady (s : State) : Type 0 where
   pub schema : s.now.schema ≡ kept_schema
   pub seated : AreSeated s.now.trees
 
--- the table of this tree has no row any more, as many are counted as it had, and each other one has its rows
+-- the table of this tree has no row any more, as many are counted as it had, and each other one has
+-- its rows
 pub record Clears (old new : State) (tree count : ℕ) : Type 0 where
   pub goes_on : IsUnderWay new
   pub empty : new.now.trees tree ≡ []

@@ -20,7 +20,8 @@ pub fn number_in(row: &Row, place: usize) -> Option<i64>
 /// The bytes at a place of an answer, if there are some.
 pub fn bytes_in(row: &Row, place: usize) -> Option<&[u8]>
     ensures some { IfSome result (λ bytes. column row.now place ≡ Blob bytes.now) }
-    ensures none { result ≡ None → place < length row.now → (bytes : List ℕ) → column row.now place ≢ Blob bytes }
+    ensures none { result ≡ None → place < length row.now → (bytes : List ℕ)
+        → column row.now place ≢ Blob bytes }
 {
     match row.get_ref(place) {
         Ok(ValueRef::Blob(bytes)) => Some(bytes),

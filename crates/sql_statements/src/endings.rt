@@ -24,10 +24,14 @@ fn is_memory(error: &Error) -> bool
     matches!(error, Error::SqliteFailure(ErrorCode::OutOfMemory))
 }
 
-/// Whether statements are still taken. Where they aren't, the disk has failed, or memory has run out again.
+/// Whether statements are still taken. Where they aren't, the disk has failed, or memory has run
+/// out again.
 pub fn is_usable<S: Alter>(conn: &mut Connection<S>) -> bool
-    ensures usable { HasCleanDisk (state S.Store conn.new) → IsTrue result → IsUnchanged (state S.Store conn.old) (state S.Store conn.new) }
-    ensures unusable { HasCleanDisk (state S.Store conn.new) → (state S.Store conn.old).now.schema ≡ kept_schema → result ≡ false → IsRefusedAgain (state S.Store conn.old) (state S.Store conn.new) }
+    ensures usable { HasCleanDisk (state S.Store conn.new) → IsTrue result
+        → IsUnchanged (state S.Store conn.old) (state S.Store conn.new) }
+    ensures unusable { HasCleanDisk (state S.Store conn.new)
+        → (state S.Store conn.old).now.schema ≡ kept_schema → result ≡ false
+        → IsRefusedAgain (state S.Store conn.old) (state S.Store conn.new) }
     ensures mode { conn.old.in_transaction ≡ false → conn.new.in_transaction ≡ false }
     ensures runs { RunsReading (state S.Store conn.old) (state S.Store conn.new) }
 {
@@ -37,12 +41,17 @@ pub fn is_usable<S: Alter>(conn: &mut Connection<S>) -> bool
     }
 }
 
-/// How a refusal is told: as want of memory only where statements are still taken, and else as a failure.
+/// How a refusal is told: as want of memory only where statements are still taken, and else as a
+/// failure.
 pub fn end_after<S: Alter>(conn: &mut Connection<S>, error: &Error) -> Ending
     ensures refused { result ≢ Done }
     ensures memory { result ≡ Memory → error.now ≡ Error.SqliteFailure ErrorCode.OutOfMemory }
-    ensures same { HasCleanDisk (state S.Store conn.new) → result ≡ Memory → IsUnchanged (state S.Store conn.old) (state S.Store conn.new) }
-    ensures failed { HasCleanDisk (state S.Store conn.new) → (state S.Store conn.old).now.schema ≡ kept_schema → result ≡ Failed → error.now ≡ Error.SqliteFailure ErrorCode.OutOfMemory → IsRefusedAgain (state S.Store conn.old) (state S.Store conn.new) }
+    ensures same { HasCleanDisk (state S.Store conn.new) → result ≡ Memory
+        → IsUnchanged (state S.Store conn.old) (state S.Store conn.new) }
+    ensures failed { HasCleanDisk (state S.Store conn.new)
+        → (state S.Store conn.old).now.schema ≡ kept_schema → result ≡ Failed
+        → error.now ≡ Error.SqliteFailure ErrorCode.OutOfMemory
+        → IsRefusedAgain (state S.Store conn.old) (state S.Store conn.new) }
     ensures mode { conn.old.in_transaction ≡ false → conn.new.in_transaction ≡ false }
     ensures runs { RunsReading (state S.Store conn.old) (state S.Store conn.new) }
 {

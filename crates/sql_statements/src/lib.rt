@@ -1,4 +1,5 @@
-//! The statements on lines and marks, each a function over any store, with what it does to the lists that are kept, and what a refusal is told as.
+//! The statements on lines and marks, each a function over any store, with what it does to the
+//! lists that are kept, and what a refusal is told as.
 #![tactic(auto)]
 
 mod answers;

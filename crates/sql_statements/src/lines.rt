@@ -6,7 +6,8 @@ ghost use Rattle.sql_meanings.specs.Schema.{kept_schema};
 ghost use Rattle.sql_meanings.specs.Forms.{GoesOn, LeavesOrRollsBack};
 ghost use Rattle.sql_meanings.specs.Calls.{RunsInside, RunsReading};
 ghost use Rattle.sql_meanings.specs.UnderWay.{IsUnderWay};
-ghost use Rattle.sql_meanings.specs.Lines.{AreLines, InsertsLine, LinesOf, RemovesLine, ReplacesLine, is_within, line_at};
+ghost use Rattle.sql_meanings.specs.Lines.{AreLines, InsertsLine, LinesOf, RemovesLine};
+ghost use Rattle.sql_meanings.specs.Lines.{ReplacesLine, is_within, line_at};
 
 use sqlite::{Alter, Connection, Error, Row, Transaction, params};
 
@@ -18,9 +19,17 @@ pub fn insert_line<S: Alter>(
     body: &[u8],
 ) -> Result<usize, Error>
     ensures same_reference { tx.new.conn.ghost_name ≡ tx.old.conn.ghost_name }
-    ensures ok { HasCleanDisk (state S.Store tx.new.conn.now) → IsUnderWay (state S.Store tx.old.conn.now) → IfOk result (InsertsLine (state S.Store tx.old.conn.now) (state S.Store tx.new.conn.now) tab id body.now) }
-    ensures stops { HasCleanDisk (state S.Store tx.new.conn.now) → (state S.Store tx.old.conn.now).in_transaction ≡ true → OnErr result (LeavesOrRollsBack (state S.Store tx.old.conn.now) (state S.Store tx.new.conn.now)) }
-    ensures on { HasCleanDisk (state S.Store tx.new.conn.now) → (state S.Store tx.old.conn.now).in_transaction ≡ true → OnOk result (GoesOn (state S.Store tx.old.conn.now) (state S.Store tx.new.conn.now)) }
+    ensures ok { HasCleanDisk (state S.Store tx.new.conn.now)
+        → IsUnderWay (state S.Store tx.old.conn.now)
+        → IfOk result (InsertsLine (state S.Store tx.old.conn.now) (state S.Store tx.new.conn.now)
+        tab id body.now) }
+    ensures stops { HasCleanDisk (state S.Store tx.new.conn.now)
+        → (state S.Store tx.old.conn.now).in_transaction ≡ true
+        → OnErr result (LeavesOrRollsBack (state S.Store tx.old.conn.now)
+        (state S.Store tx.new.conn.now)) }
+    ensures on { HasCleanDisk (state S.Store tx.new.conn.now)
+        → (state S.Store tx.old.conn.now).in_transaction ≡ true
+        → OnOk result (GoesOn (state S.Store tx.old.conn.now) (state S.Store tx.new.conn.now)) }
     ensures runs { RunsInside (state S.Store tx.old.conn.now) (state S.Store tx.new.conn.now) }
 {
     tx.execute(
@@ -37,9 +46,17 @@ pub fn replace_line<S: Alter>(
     body: &[u8],
 ) -> Result<usize, Error>
     ensures same_reference { tx.new.conn.ghost_name ≡ tx.old.conn.ghost_name }
-    ensures ok { HasCleanDisk (state S.Store tx.new.conn.now) → IsUnderWay (state S.Store tx.old.conn.now) → IfOk result (ReplacesLine (state S.Store tx.old.conn.now) (state S.Store tx.new.conn.now) tab id body.now) }
-    ensures stops { HasCleanDisk (state S.Store tx.new.conn.now) → (state S.Store tx.old.conn.now).in_transaction ≡ true → OnErr result (LeavesOrRollsBack (state S.Store tx.old.conn.now) (state S.Store tx.new.conn.now)) }
-    ensures on { HasCleanDisk (state S.Store tx.new.conn.now) → (state S.Store tx.old.conn.now).in_transaction ≡ true → OnOk result (GoesOn (state S.Store tx.old.conn.now) (state S.Store tx.new.conn.now)) }
+    ensures ok { HasCleanDisk (state S.Store tx.new.conn.now)
+        → IsUnderWay (state S.Store tx.old.conn.now)
+        → IfOk result (ReplacesLine (state S.Store tx.old.conn.now) (state S.Store tx.new.conn.now)
+        tab id body.now) }
+    ensures stops { HasCleanDisk (state S.Store tx.new.conn.now)
+        → (state S.Store tx.old.conn.now).in_transaction ≡ true
+        → OnErr result (LeavesOrRollsBack (state S.Store tx.old.conn.now)
+        (state S.Store tx.new.conn.now)) }
+    ensures on { HasCleanDisk (state S.Store tx.new.conn.now)
+        → (state S.Store tx.old.conn.now).in_transaction ≡ true
+        → OnOk result (GoesOn (state S.Store tx.old.conn.now) (state S.Store tx.new.conn.now)) }
     ensures runs { RunsInside (state S.Store tx.old.conn.now) (state S.Store tx.new.conn.now) }
 {
     tx.execute(
@@ -51,9 +68,17 @@ pub fn replace_line<S: Alter>(
 /// Takes a line out.
 pub fn remove_line<S: Alter>(tx: &mut Transaction<'_, S>, tab: u32, id: u32) -> Result<usize, Error>
     ensures same_reference { tx.new.conn.ghost_name ≡ tx.old.conn.ghost_name }
-    ensures ok { HasCleanDisk (state S.Store tx.new.conn.now) → IsUnderWay (state S.Store tx.old.conn.now) → IfOk result (RemovesLine (state S.Store tx.old.conn.now) (state S.Store tx.new.conn.now) tab id) }
-    ensures stops { HasCleanDisk (state S.Store tx.new.conn.now) → (state S.Store tx.old.conn.now).in_transaction ≡ true → OnErr result (LeavesOrRollsBack (state S.Store tx.old.conn.now) (state S.Store tx.new.conn.now)) }
-    ensures on { HasCleanDisk (state S.Store tx.new.conn.now) → (state S.Store tx.old.conn.now).in_transaction ≡ true → OnOk result (GoesOn (state S.Store tx.old.conn.now) (state S.Store tx.new.conn.now)) }
+    ensures ok { HasCleanDisk (state S.Store tx.new.conn.now)
+        → IsUnderWay (state S.Store tx.old.conn.now)
+        → IfOk result (RemovesLine (state S.Store tx.old.conn.now) (state S.Store tx.new.conn.now)
+        tab id) }
+    ensures stops { HasCleanDisk (state S.Store tx.new.conn.now)
+        → (state S.Store tx.old.conn.now).in_transaction ≡ true
+        → OnErr result (LeavesOrRollsBack (state S.Store tx.old.conn.now)
+        (state S.Store tx.new.conn.now)) }
+    ensures on { HasCleanDisk (state S.Store tx.new.conn.now)
+        → (state S.Store tx.old.conn.now).in_transaction ≡ true
+        → OnOk result (GoesOn (state S.Store tx.old.conn.now) (state S.Store tx.new.conn.now)) }
     ensures runs { RunsInside (state S.Store tx.old.conn.now) (state S.Store tx.new.conn.now) }
 {
     tx.execute(
@@ -69,10 +94,16 @@ pub fn read_lines<S: Alter>(
     low: u32,
     high: u32,
 ) -> Result<Vec<Row>, Error>
-    ensures answer { HasCleanDisk (state S.Store conn.new) → (state S.Store conn.old).now.schema ≡ kept_schema → (xs : LinesOf) → AreLines (state S.Store conn.old).now.trees tab xs → IfOk result (λ rows. rows.items ≡ map line_at (filter (is_within low high) xs)) }
+    ensures answer { HasCleanDisk (state S.Store conn.new)
+        → (state S.Store conn.old).now.schema ≡ kept_schema → (xs : LinesOf)
+        → AreLines (state S.Store conn.old).now.trees tab xs
+        → IfOk result (λ rows. rows.items ≡ map line_at (filter (is_within low high) xs)) }
     ensures mode { conn.old.in_transaction ≡ false → conn.new.in_transaction ≡ false }
-    ensures same { HasCleanDisk (state S.Store conn.new) → (state S.Store conn.old).now.schema ≡ kept_schema → OnOk result (IsUnchanged (state S.Store conn.old) (state S.Store conn.new)) }
-    ensures runs { (state S.Store conn.old).now.schema ≡ kept_schema → RunsReading (state S.Store conn.old) (state S.Store conn.new) }
+    ensures same { HasCleanDisk (state S.Store conn.new)
+        → (state S.Store conn.old).now.schema ≡ kept_schema
+        → OnOk result (IsUnchanged (state S.Store conn.old) (state S.Store conn.new)) }
+    ensures runs { (state S.Store conn.old).now.schema ≡ kept_schema
+        → RunsReading (state S.Store conn.old) (state S.Store conn.new) }
 {
     conn.query_all(
         "SELECT id, body FROM lines WHERE tab = ? AND id >= ? AND id <= ? ORDER BY id",

@@ -6,7 +6,8 @@ ghost use Rattle.sql_meanings.specs.Schema.{kept_schema};
 ghost use Rattle.sql_meanings.specs.Forms.{GoesOn, LeavesOrRollsBack};
 ghost use Rattle.sql_meanings.specs.Calls.{RunsInside, RunsReading};
 ghost use Rattle.sql_meanings.specs.UnderWay.{IsUnderWay};
-ghost use Rattle.sql_meanings.specs.Marks.{AreMarks, InsertsMark, MarksOf, RemovesMark, lies, mark_at};
+ghost use Rattle.sql_meanings.specs.Marks.{AreMarks, InsertsMark, MarksOf, RemovesMark, lies};
+ghost use Rattle.sql_meanings.specs.Marks.{mark_at};
 
 use sqlite::{Alter, Connection, Error, Row, Transaction, params};
 
@@ -19,9 +20,17 @@ pub fn insert_mark<S: Alter>(
     id: u32,
 ) -> Result<usize, Error>
     ensures same_reference { tx.new.conn.ghost_name ≡ tx.old.conn.ghost_name }
-    ensures ok { HasCleanDisk (state S.Store tx.new.conn.now) → IsUnderWay (state S.Store tx.old.conn.now) → IfOk result (InsertsMark (state S.Store tx.old.conn.now) (state S.Store tx.new.conn.now) tab column key.now id) }
-    ensures stops { HasCleanDisk (state S.Store tx.new.conn.now) → (state S.Store tx.old.conn.now).in_transaction ≡ true → OnErr result (LeavesOrRollsBack (state S.Store tx.old.conn.now) (state S.Store tx.new.conn.now)) }
-    ensures on { HasCleanDisk (state S.Store tx.new.conn.now) → (state S.Store tx.old.conn.now).in_transaction ≡ true → OnOk result (GoesOn (state S.Store tx.old.conn.now) (state S.Store tx.new.conn.now)) }
+    ensures ok { HasCleanDisk (state S.Store tx.new.conn.now)
+        → IsUnderWay (state S.Store tx.old.conn.now)
+        → IfOk result (InsertsMark (state S.Store tx.old.conn.now) (state S.Store tx.new.conn.now)
+        tab column key.now id) }
+    ensures stops { HasCleanDisk (state S.Store tx.new.conn.now)
+        → (state S.Store tx.old.conn.now).in_transaction ≡ true
+        → OnErr result (LeavesOrRollsBack (state S.Store tx.old.conn.now)
+        (state S.Store tx.new.conn.now)) }
+    ensures on { HasCleanDisk (state S.Store tx.new.conn.now)
+        → (state S.Store tx.old.conn.now).in_transaction ≡ true
+        → OnOk result (GoesOn (state S.Store tx.old.conn.now) (state S.Store tx.new.conn.now)) }
     ensures runs { RunsInside (state S.Store tx.old.conn.now) (state S.Store tx.new.conn.now) }
 {
     tx.execute(
@@ -39,9 +48,17 @@ pub fn remove_mark<S: Alter>(
     id: u32,
 ) -> Result<usize, Error>
     ensures same_reference { tx.new.conn.ghost_name ≡ tx.old.conn.ghost_name }
-    ensures ok { HasCleanDisk (state S.Store tx.new.conn.now) → IsUnderWay (state S.Store tx.old.conn.now) → IfOk result (RemovesMark (state S.Store tx.old.conn.now) (state S.Store tx.new.conn.now) tab column key.now id) }
-    ensures stops { HasCleanDisk (state S.Store tx.new.conn.now) → (state S.Store tx.old.conn.now).in_transaction ≡ true → OnErr result (LeavesOrRollsBack (state S.Store tx.old.conn.now) (state S.Store tx.new.conn.now)) }
-    ensures on { HasCleanDisk (state S.Store tx.new.conn.now) → (state S.Store tx.old.conn.now).in_transaction ≡ true → OnOk result (GoesOn (state S.Store tx.old.conn.now) (state S.Store tx.new.conn.now)) }
+    ensures ok { HasCleanDisk (state S.Store tx.new.conn.now)
+        → IsUnderWay (state S.Store tx.old.conn.now)
+        → IfOk result (RemovesMark (state S.Store tx.old.conn.now) (state S.Store tx.new.conn.now)
+        tab column key.now id) }
+    ensures stops { HasCleanDisk (state S.Store tx.new.conn.now)
+        → (state S.Store tx.old.conn.now).in_transaction ≡ true
+        → OnErr result (LeavesOrRollsBack (state S.Store tx.old.conn.now)
+        (state S.Store tx.new.conn.now)) }
+    ensures on { HasCleanDisk (state S.Store tx.new.conn.now)
+        → (state S.Store tx.old.conn.now).in_transaction ≡ true
+        → OnOk result (GoesOn (state S.Store tx.old.conn.now) (state S.Store tx.new.conn.now)) }
     ensures runs { RunsInside (state S.Store tx.old.conn.now) (state S.Store tx.new.conn.now) }
 {
     tx.execute(
@@ -58,10 +75,16 @@ pub fn read_marks<S: Alter>(
     from: &[u8],
     upto: &[u8],
 ) -> Result<Vec<Row>, Error>
-    ensures answer { HasCleanDisk (state S.Store conn.new) → (state S.Store conn.old).now.schema ≡ kept_schema → (ms : MarksOf) → AreMarks (state S.Store conn.old).now.trees tab column ms → IfOk result (λ rows. rows.items ≡ map mark_at (filter (lies from.now upto.now) ms)) }
+    ensures answer { HasCleanDisk (state S.Store conn.new)
+        → (state S.Store conn.old).now.schema ≡ kept_schema → (ms : MarksOf)
+        → AreMarks (state S.Store conn.old).now.trees tab column ms
+        → IfOk result (λ rows. rows.items ≡ map mark_at (filter (lies from.now upto.now) ms)) }
     ensures mode { conn.old.in_transaction ≡ false → conn.new.in_transaction ≡ false }
-    ensures same { HasCleanDisk (state S.Store conn.new) → (state S.Store conn.old).now.schema ≡ kept_schema → OnOk result (IsUnchanged (state S.Store conn.old) (state S.Store conn.new)) }
-    ensures runs { (state S.Store conn.old).now.schema ≡ kept_schema → RunsReading (state S.Store conn.old) (state S.Store conn.new) }
+    ensures same { HasCleanDisk (state S.Store conn.new)
+        → (state S.Store conn.old).now.schema ≡ kept_schema
+        → OnOk result (IsUnchanged (state S.Store conn.old) (state S.Store conn.new)) }
+    ensures runs { (state S.Store conn.old).now.schema ≡ kept_schema
+        → RunsReading (state S.Store conn.old) (state S.Store conn.new) }
 {
     conn.query_all(
         "SELECT k, id FROM marks WHERE tab = ? AND col = ? AND k >= ? AND k < ? ORDER BY k, id",

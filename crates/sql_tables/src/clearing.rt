@@ -12,9 +12,17 @@ use sqlite::{Alter, Error, Transaction};
 /// Takes the body of the schema out.
 pub fn clear_shape<S: Alter>(tx: &mut Transaction<'_, S>) -> Result<usize, Error>
     ensures same_reference { tx.new.conn.ghost_name ≡ tx.old.conn.ghost_name }
-    ensures ok { HasCleanDisk (state S.Store tx.new.conn.now) → IsUnderWay (state S.Store tx.old.conn.now) → IfOk result (Clears (state S.Store tx.old.conn.now) (state S.Store tx.new.conn.now) shape_tree) }
-    ensures stops { HasCleanDisk (state S.Store tx.new.conn.now) → (state S.Store tx.old.conn.now).in_transaction ≡ true → OnErr result (LeavesOrRollsBack (state S.Store tx.old.conn.now) (state S.Store tx.new.conn.now)) }
-    ensures on { HasCleanDisk (state S.Store tx.new.conn.now) → (state S.Store tx.old.conn.now).in_transaction ≡ true → OnOk result (GoesOn (state S.Store tx.old.conn.now) (state S.Store tx.new.conn.now)) }
+    ensures ok { HasCleanDisk (state S.Store tx.new.conn.now)
+        → IsUnderWay (state S.Store tx.old.conn.now)
+        → IfOk result (Clears (state S.Store tx.old.conn.now) (state S.Store tx.new.conn.now)
+        shape_tree) }
+    ensures stops { HasCleanDisk (state S.Store tx.new.conn.now)
+        → (state S.Store tx.old.conn.now).in_transaction ≡ true
+        → OnErr result (LeavesOrRollsBack (state S.Store tx.old.conn.now)
+        (state S.Store tx.new.conn.now)) }
+    ensures on { HasCleanDisk (state S.Store tx.new.conn.now)
+        → (state S.Store tx.old.conn.now).in_transaction ≡ true
+        → OnOk result (GoesOn (state S.Store tx.old.conn.now) (state S.Store tx.new.conn.now)) }
     ensures runs { RunsInside (state S.Store tx.old.conn.now) (state S.Store tx.new.conn.now) }
 {
     tx.execute("DELETE FROM shape", &[])
@@ -23,9 +31,17 @@ pub fn clear_shape<S: Alter>(tx: &mut Transaction<'_, S>) -> Result<usize, Error
 /// Takes the last numbers of all tables out.
 pub fn clear_tabs<S: Alter>(tx: &mut Transaction<'_, S>) -> Result<usize, Error>
     ensures same_reference { tx.new.conn.ghost_name ≡ tx.old.conn.ghost_name }
-    ensures ok { HasCleanDisk (state S.Store tx.new.conn.now) → IsUnderWay (state S.Store tx.old.conn.now) → IfOk result (Clears (state S.Store tx.old.conn.now) (state S.Store tx.new.conn.now) tabs_tree) }
-    ensures stops { HasCleanDisk (state S.Store tx.new.conn.now) → (state S.Store tx.old.conn.now).in_transaction ≡ true → OnErr result (LeavesOrRollsBack (state S.Store tx.old.conn.now) (state S.Store tx.new.conn.now)) }
-    ensures on { HasCleanDisk (state S.Store tx.new.conn.now) → (state S.Store tx.old.conn.now).in_transaction ≡ true → OnOk result (GoesOn (state S.Store tx.old.conn.now) (state S.Store tx.new.conn.now)) }
+    ensures ok { HasCleanDisk (state S.Store tx.new.conn.now)
+        → IsUnderWay (state S.Store tx.old.conn.now)
+        → IfOk result (Clears (state S.Store tx.old.conn.now) (state S.Store tx.new.conn.now)
+        tabs_tree) }
+    ensures stops { HasCleanDisk (state S.Store tx.new.conn.now)
+        → (state S.Store tx.old.conn.now).in_transaction ≡ true
+        → OnErr result (LeavesOrRollsBack (state S.Store tx.old.conn.now)
+        (state S.Store tx.new.conn.now)) }
+    ensures on { HasCleanDisk (state S.Store tx.new.conn.now)
+        → (state S.Store tx.old.conn.now).in_transaction ≡ true
+        → OnOk result (GoesOn (state S.Store tx.old.conn.now) (state S.Store tx.new.conn.now)) }
     ensures runs { RunsInside (state S.Store tx.old.conn.now) (state S.Store tx.new.conn.now) }
 {
     tx.execute("DELETE FROM tabs", &[])
@@ -34,9 +50,17 @@ pub fn clear_tabs<S: Alter>(tx: &mut Transaction<'_, S>) -> Result<usize, Error>
 /// Takes all lines of all tables out.
 pub fn clear_lines<S: Alter>(tx: &mut Transaction<'_, S>) -> Result<usize, Error>
     ensures same_reference { tx.new.conn.ghost_name ≡ tx.old.conn.ghost_name }
-    ensures ok { HasCleanDisk (state S.Store tx.new.conn.now) → IsUnderWay (state S.Store tx.old.conn.now) → IfOk result (Clears (state S.Store tx.old.conn.now) (state S.Store tx.new.conn.now) lines_tree) }
-    ensures stops { HasCleanDisk (state S.Store tx.new.conn.now) → (state S.Store tx.old.conn.now).in_transaction ≡ true → OnErr result (LeavesOrRollsBack (state S.Store tx.old.conn.now) (state S.Store tx.new.conn.now)) }
-    ensures on { HasCleanDisk (state S.Store tx.new.conn.now) → (state S.Store tx.old.conn.now).in_transaction ≡ true → OnOk result (GoesOn (state S.Store tx.old.conn.now) (state S.Store tx.new.conn.now)) }
+    ensures ok { HasCleanDisk (state S.Store tx.new.conn.now)
+        → IsUnderWay (state S.Store tx.old.conn.now)
+        → IfOk result (Clears (state S.Store tx.old.conn.now) (state S.Store tx.new.conn.now)
+        lines_tree) }
+    ensures stops { HasCleanDisk (state S.Store tx.new.conn.now)
+        → (state S.Store tx.old.conn.now).in_transaction ≡ true
+        → OnErr result (LeavesOrRollsBack (state S.Store tx.old.conn.now)
+        (state S.Store tx.new.conn.now)) }
+    ensures on { HasCleanDisk (state S.Store tx.new.conn.now)
+        → (state S.Store tx.old.conn.now).in_transaction ≡ true
+        → OnOk result (GoesOn (state S.Store tx.old.conn.now) (state S.Store tx.new.conn.now)) }
     ensures runs { RunsInside (state S.Store tx.old.conn.now) (state S.Store tx.new.conn.now) }
 {
     tx.execute("DELETE FROM lines", &[])
@@ -45,9 +69,17 @@ pub fn clear_lines<S: Alter>(tx: &mut Transaction<'_, S>) -> Result<usize, Error
 /// Takes all marks of all columns out.
 pub fn clear_marks<S: Alter>(tx: &mut Transaction<'_, S>) -> Result<usize, Error>
     ensures same_reference { tx.new.conn.ghost_name ≡ tx.old.conn.ghost_name }
-    ensures ok { HasCleanDisk (state S.Store tx.new.conn.now) → IsUnderWay (state S.Store tx.old.conn.now) → IfOk result (Clears (state S.Store tx.old.conn.now) (state S.Store tx.new.conn.now) marks_tree) }
-    ensures stops { HasCleanDisk (state S.Store tx.new.conn.now) → (state S.Store tx.old.conn.now).in_transaction ≡ true → OnErr result (LeavesOrRollsBack (state S.Store tx.old.conn.now) (state S.Store tx.new.conn.now)) }
-    ensures on { HasCleanDisk (state S.Store tx.new.conn.now) → (state S.Store tx.old.conn.now).in_transaction ≡ true → OnOk result (GoesOn (state S.Store tx.old.conn.now) (state S.Store tx.new.conn.now)) }
+    ensures ok { HasCleanDisk (state S.Store tx.new.conn.now)
+        → IsUnderWay (state S.Store tx.old.conn.now)
+        → IfOk result (Clears (state S.Store tx.old.conn.now) (state S.Store tx.new.conn.now)
+        marks_tree) }
+    ensures stops { HasCleanDisk (state S.Store tx.new.conn.now)
+        → (state S.Store tx.old.conn.now).in_transaction ≡ true
+        → OnErr result (LeavesOrRollsBack (state S.Store tx.old.conn.now)
+        (state S.Store tx.new.conn.now)) }
+    ensures on { HasCleanDisk (state S.Store tx.new.conn.now)
+        → (state S.Store tx.old.conn.now).in_transaction ≡ true
+        → OnOk result (GoesOn (state S.Store tx.old.conn.now) (state S.Store tx.new.conn.now)) }
     ensures runs { RunsInside (state S.Store tx.old.conn.now) (state S.Store tx.new.conn.now) }
 {
     tx.execute("DELETE FROM marks", &[])

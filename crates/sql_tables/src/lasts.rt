@@ -17,9 +17,17 @@ pub fn insert_last<S: Alter>(
     last: u32,
 ) -> Result<usize, Error>
     ensures same_reference { tx.new.conn.ghost_name ≡ tx.old.conn.ghost_name }
-    ensures ok { HasCleanDisk (state S.Store tx.new.conn.now) → IsUnderWay (state S.Store tx.old.conn.now) → IfOk result (InsertsLast (state S.Store tx.old.conn.now) (state S.Store tx.new.conn.now) tab last) }
-    ensures stops { HasCleanDisk (state S.Store tx.new.conn.now) → (state S.Store tx.old.conn.now).in_transaction ≡ true → OnErr result (LeavesOrRollsBack (state S.Store tx.old.conn.now) (state S.Store tx.new.conn.now)) }
-    ensures on { HasCleanDisk (state S.Store tx.new.conn.now) → (state S.Store tx.old.conn.now).in_transaction ≡ true → OnOk result (GoesOn (state S.Store tx.old.conn.now) (state S.Store tx.new.conn.now)) }
+    ensures ok { HasCleanDisk (state S.Store tx.new.conn.now)
+        → IsUnderWay (state S.Store tx.old.conn.now)
+        → IfOk result (InsertsLast (state S.Store tx.old.conn.now) (state S.Store tx.new.conn.now)
+        tab last) }
+    ensures stops { HasCleanDisk (state S.Store tx.new.conn.now)
+        → (state S.Store tx.old.conn.now).in_transaction ≡ true
+        → OnErr result (LeavesOrRollsBack (state S.Store tx.old.conn.now)
+        (state S.Store tx.new.conn.now)) }
+    ensures on { HasCleanDisk (state S.Store tx.new.conn.now)
+        → (state S.Store tx.old.conn.now).in_transaction ≡ true
+        → OnOk result (GoesOn (state S.Store tx.old.conn.now) (state S.Store tx.new.conn.now)) }
     ensures runs { RunsInside (state S.Store tx.old.conn.now) (state S.Store tx.new.conn.now) }
 {
     tx.execute(
@@ -35,9 +43,17 @@ pub fn replace_last<S: Alter>(
     last: u32,
 ) -> Result<usize, Error>
     ensures same_reference { tx.new.conn.ghost_name ≡ tx.old.conn.ghost_name }
-    ensures ok { HasCleanDisk (state S.Store tx.new.conn.now) → IsUnderWay (state S.Store tx.old.conn.now) → IfOk result (ReplacesLast (state S.Store tx.old.conn.now) (state S.Store tx.new.conn.now) tab last) }
-    ensures stops { HasCleanDisk (state S.Store tx.new.conn.now) → (state S.Store tx.old.conn.now).in_transaction ≡ true → OnErr result (LeavesOrRollsBack (state S.Store tx.old.conn.now) (state S.Store tx.new.conn.now)) }
-    ensures on { HasCleanDisk (state S.Store tx.new.conn.now) → (state S.Store tx.old.conn.now).in_transaction ≡ true → OnOk result (GoesOn (state S.Store tx.old.conn.now) (state S.Store tx.new.conn.now)) }
+    ensures ok { HasCleanDisk (state S.Store tx.new.conn.now)
+        → IsUnderWay (state S.Store tx.old.conn.now)
+        → IfOk result (ReplacesLast (state S.Store tx.old.conn.now) (state S.Store tx.new.conn.now)
+        tab last) }
+    ensures stops { HasCleanDisk (state S.Store tx.new.conn.now)
+        → (state S.Store tx.old.conn.now).in_transaction ≡ true
+        → OnErr result (LeavesOrRollsBack (state S.Store tx.old.conn.now)
+        (state S.Store tx.new.conn.now)) }
+    ensures on { HasCleanDisk (state S.Store tx.new.conn.now)
+        → (state S.Store tx.old.conn.now).in_transaction ≡ true
+        → OnOk result (GoesOn (state S.Store tx.old.conn.now) (state S.Store tx.new.conn.now)) }
     ensures runs { RunsInside (state S.Store tx.old.conn.now) (state S.Store tx.new.conn.now) }
 {
     tx.execute("UPDATE tabs SET last = ? WHERE tab = ?", params![last, tab])
@@ -45,10 +61,16 @@ pub fn replace_last<S: Alter>(
 
 /// The last numbers of the tables, by rising tables.
 pub fn read_lasts<S: Alter>(conn: &mut Connection<S>) -> Result<Vec<Row>, Error>
-    ensures answer { HasCleanDisk (state S.Store conn.new) → (state S.Store conn.old).now.schema ≡ kept_schema → (ns : LastsOf) → AreLasts (state S.Store conn.old).now.trees ns → IfOk result (λ rows. rows.items ≡ map last_at ns) }
+    ensures answer { HasCleanDisk (state S.Store conn.new)
+        → (state S.Store conn.old).now.schema ≡ kept_schema → (ns : LastsOf)
+        → AreLasts (state S.Store conn.old).now.trees ns
+        → IfOk result (λ rows. rows.items ≡ map last_at ns) }
     ensures mode { conn.old.in_transaction ≡ false → conn.new.in_transaction ≡ false }
-    ensures same { HasCleanDisk (state S.Store conn.new) → (state S.Store conn.old).now.schema ≡ kept_schema → OnOk result (IsUnchanged (state S.Store conn.old) (state S.Store conn.new)) }
-    ensures runs { (state S.Store conn.old).now.schema ≡ kept_schema → RunsReading (state S.Store conn.old) (state S.Store conn.new) }
+    ensures same { HasCleanDisk (state S.Store conn.new)
+        → (state S.Store conn.old).now.schema ≡ kept_schema
+        → OnOk result (IsUnchanged (state S.Store conn.old) (state S.Store conn.new)) }
+    ensures runs { (state S.Store conn.old).now.schema ≡ kept_schema
+        → RunsReading (state S.Store conn.old) (state S.Store conn.new) }
 {
     conn.query_all("SELECT tab, last FROM tabs ORDER BY tab", &[])
 }

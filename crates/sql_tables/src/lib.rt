@@ -1,4 +1,5 @@
-//! The statements on whole tables, each a function over any store: they are made, cleared and found in order, and they keep their last numbers and the schema's body.
+//! The statements on whole tables, each a function over any store: they are made, cleared and found
+//! in order, and they keep their last numbers and the schema's body.
 #![tactic(auto)]
 
 mod attaching;

@@ -2,7 +2,9 @@
 ghost use Rattle.std.specs.Prelude.{◌≡◌, true, OnOk};
 ghost use Rattle.sqlite.specs.Held.{state};
 ghost use Rattle.sqlite.specs.State.{HasCleanDisk};
-ghost use Rattle.sql_meanings.specs.Schema.{kept_schema, lines_tree, marks_tree, no_schema, one_table, shape_tree, tabs_tree, three_tables, two_tables};
+ghost use Rattle.sql_meanings.specs.Schema.{kept_schema, lines_tree, marks_tree, no_schema};
+ghost use Rattle.sql_meanings.specs.Schema.{one_table, shape_tree, tabs_tree, three_tables};
+ghost use Rattle.sql_meanings.specs.Schema.{two_tables};
 ghost use Rattle.sql_meanings.specs.Forms.{GoesOn, IsBegun, Makes};
 ghost use Rattle.sql_meanings.specs.Calls.{RunsInside};
 ghost use Rattle.sql_meanings.specs.UnderWay.{IsEmptied, IsUnderWay};
@@ -12,8 +14,13 @@ use sqlite::{Alter, Error, Transaction};
 
 fn make_shape<S: Alter>(tx: &mut Transaction<'_, S>) -> Result<usize, Error>
     ensures same_reference { tx.new.conn.ghost_name ≡ tx.old.conn.ghost_name }
-    ensures ok { HasCleanDisk (state S.Store tx.new.conn.now) → IsBegun (state S.Store tx.old.conn.now) no_schema → OnOk result (Makes (state S.Store tx.old.conn.now) (state S.Store tx.new.conn.now) no_schema one_table shape_tree) }
-    ensures on { HasCleanDisk (state S.Store tx.new.conn.now) → (state S.Store tx.old.conn.now).in_transaction ≡ true → OnOk result (GoesOn (state S.Store tx.old.conn.now) (state S.Store tx.new.conn.now)) }
+    ensures ok { HasCleanDisk (state S.Store tx.new.conn.now)
+        → IsBegun (state S.Store tx.old.conn.now) no_schema
+        → OnOk result (Makes (state S.Store tx.old.conn.now) (state S.Store tx.new.conn.now)
+        no_schema one_table shape_tree) }
+    ensures on { HasCleanDisk (state S.Store tx.new.conn.now)
+        → (state S.Store tx.old.conn.now).in_transaction ≡ true
+        → OnOk result (GoesOn (state S.Store tx.old.conn.now) (state S.Store tx.new.conn.now)) }
     ensures runs { RunsInside (state S.Store tx.old.conn.now) (state S.Store tx.new.conn.now) }
 {
     tx.execute(
@@ -24,8 +31,13 @@ fn make_shape<S: Alter>(tx: &mut Transaction<'_, S>) -> Result<usize, Error>
 
 fn make_tabs<S: Alter>(tx: &mut Transaction<'_, S>) -> Result<usize, Error>
     ensures same_reference { tx.new.conn.ghost_name ≡ tx.old.conn.ghost_name }
-    ensures ok { HasCleanDisk (state S.Store tx.new.conn.now) → IsBegun (state S.Store tx.old.conn.now) one_table → OnOk result (Makes (state S.Store tx.old.conn.now) (state S.Store tx.new.conn.now) one_table two_tables tabs_tree) }
-    ensures on { HasCleanDisk (state S.Store tx.new.conn.now) → (state S.Store tx.old.conn.now).in_transaction ≡ true → OnOk result (GoesOn (state S.Store tx.old.conn.now) (state S.Store tx.new.conn.now)) }
+    ensures ok { HasCleanDisk (state S.Store tx.new.conn.now)
+        → IsBegun (state S.Store tx.old.conn.now) one_table
+        → OnOk result (Makes (state S.Store tx.old.conn.now) (state S.Store tx.new.conn.now)
+        one_table two_tables tabs_tree) }
+    ensures on { HasCleanDisk (state S.Store tx.new.conn.now)
+        → (state S.Store tx.old.conn.now).in_transaction ≡ true
+        → OnOk result (GoesOn (state S.Store tx.old.conn.now) (state S.Store tx.new.conn.now)) }
     ensures runs { RunsInside (state S.Store tx.old.conn.now) (state S.Store tx.new.conn.now) }
 {
     tx.execute(
@@ -36,8 +48,13 @@ fn make_tabs<S: Alter>(tx: &mut Transaction<'_, S>) -> Result<usize, Error>
 
 fn make_lines<S: Alter>(tx: &mut Transaction<'_, S>) -> Result<usize, Error>
     ensures same_reference { tx.new.conn.ghost_name ≡ tx.old.conn.ghost_name }
-    ensures ok { HasCleanDisk (state S.Store tx.new.conn.now) → IsBegun (state S.Store tx.old.conn.now) two_tables → OnOk result (Makes (state S.Store tx.old.conn.now) (state S.Store tx.new.conn.now) two_tables three_tables lines_tree) }
-    ensures on { HasCleanDisk (state S.Store tx.new.conn.now) → (state S.Store tx.old.conn.now).in_transaction ≡ true → OnOk result (GoesOn (state S.Store tx.old.conn.now) (state S.Store tx.new.conn.now)) }
+    ensures ok { HasCleanDisk (state S.Store tx.new.conn.now)
+        → IsBegun (state S.Store tx.old.conn.now) two_tables
+        → OnOk result (Makes (state S.Store tx.old.conn.now) (state S.Store tx.new.conn.now)
+        two_tables three_tables lines_tree) }
+    ensures on { HasCleanDisk (state S.Store tx.new.conn.now)
+        → (state S.Store tx.old.conn.now).in_transaction ≡ true
+        → OnOk result (GoesOn (state S.Store tx.old.conn.now) (state S.Store tx.new.conn.now)) }
     ensures runs { RunsInside (state S.Store tx.old.conn.now) (state S.Store tx.new.conn.now) }
 {
     tx.execute(
@@ -48,8 +65,13 @@ fn make_lines<S: Alter>(tx: &mut Transaction<'_, S>) -> Result<usize, Error>
 
 fn make_marks<S: Alter>(tx: &mut Transaction<'_, S>) -> Result<usize, Error>
     ensures same_reference { tx.new.conn.ghost_name ≡ tx.old.conn.ghost_name }
-    ensures ok { HasCleanDisk (state S.Store tx.new.conn.now) → IsBegun (state S.Store tx.old.conn.now) three_tables → OnOk result (Makes (state S.Store tx.old.conn.now) (state S.Store tx.new.conn.now) three_tables kept_schema marks_tree) }
-    ensures on { HasCleanDisk (state S.Store tx.new.conn.now) → (state S.Store tx.old.conn.now).in_transaction ≡ true → OnOk result (GoesOn (state S.Store tx.old.conn.now) (state S.Store tx.new.conn.now)) }
+    ensures ok { HasCleanDisk (state S.Store tx.new.conn.now)
+        → IsBegun (state S.Store tx.old.conn.now) three_tables
+        → OnOk result (Makes (state S.Store tx.old.conn.now) (state S.Store tx.new.conn.now)
+        three_tables kept_schema marks_tree) }
+    ensures on { HasCleanDisk (state S.Store tx.new.conn.now)
+        → (state S.Store tx.old.conn.now).in_transaction ≡ true
+        → OnOk result (GoesOn (state S.Store tx.old.conn.now) (state S.Store tx.new.conn.now)) }
     ensures runs { RunsInside (state S.Store tx.old.conn.now) (state S.Store tx.new.conn.now) }
 {
     tx.execute(
@@ -61,8 +83,12 @@ fn make_marks<S: Alter>(tx: &mut Transaction<'_, S>) -> Result<usize, Error>
 /// Makes the four tables in a database that has none.
 pub fn make_tables<S: Alter>(tx: &mut Transaction<'_, S>) -> Result<(), Error>
     ensures same_reference { tx.new.conn.ghost_name ≡ tx.old.conn.ghost_name }
-    ensures ok { HasCleanDisk (state S.Store tx.new.conn.now) → IsBegun (state S.Store tx.old.conn.now) no_schema → OnOk result (IsEmptied (state S.Store tx.new.conn.now)) }
-    ensures on { HasCleanDisk (state S.Store tx.new.conn.now) → (state S.Store tx.old.conn.now).in_transaction ≡ true → OnOk result (GoesOn (state S.Store tx.old.conn.now) (state S.Store tx.new.conn.now)) }
+    ensures ok { HasCleanDisk (state S.Store tx.new.conn.now)
+        → IsBegun (state S.Store tx.old.conn.now) no_schema
+        → OnOk result (IsEmptied (state S.Store tx.new.conn.now)) }
+    ensures on { HasCleanDisk (state S.Store tx.new.conn.now)
+        → (state S.Store tx.old.conn.now).in_transaction ≡ true
+        → OnOk result (GoesOn (state S.Store tx.old.conn.now) (state S.Store tx.new.conn.now)) }
     ensures runs { RunsInside (state S.Store tx.old.conn.now) (state S.Store tx.new.conn.now) }
 {
     make_shape(tx)?;
@@ -75,8 +101,12 @@ pub fn make_tables<S: Alter>(tx: &mut Transaction<'_, S>) -> Result<(), Error>
 /// Takes all rows out of the four tables.
 pub fn clear_tables<S: Alter>(tx: &mut Transaction<'_, S>) -> Result<(), Error>
     ensures same_reference { tx.new.conn.ghost_name ≡ tx.old.conn.ghost_name }
-    ensures ok { HasCleanDisk (state S.Store tx.new.conn.now) → IsUnderWay (state S.Store tx.old.conn.now) → OnOk result (IsEmptied (state S.Store tx.new.conn.now)) }
-    ensures on { HasCleanDisk (state S.Store tx.new.conn.now) → (state S.Store tx.old.conn.now).in_transaction ≡ true → OnOk result (GoesOn (state S.Store tx.old.conn.now) (state S.Store tx.new.conn.now)) }
+    ensures ok { HasCleanDisk (state S.Store tx.new.conn.now)
+        → IsUnderWay (state S.Store tx.old.conn.now)
+        → OnOk result (IsEmptied (state S.Store tx.new.conn.now)) }
+    ensures on { HasCleanDisk (state S.Store tx.new.conn.now)
+        → (state S.Store tx.old.conn.now).in_transaction ≡ true
+        → OnOk result (GoesOn (state S.Store tx.old.conn.now) (state S.Store tx.new.conn.now)) }
     ensures runs { RunsInside (state S.Store tx.old.conn.now) (state S.Store tx.new.conn.now) }
 {
     clear_shape(tx)?;

@@ -87,8 +87,8 @@ impl Client {
         self.stream.write(piece)
     }
 
-    /// Closes the connection. What the client still sends is taken first, for a short while: a connection that is closed
-    /// with bytes unread is reset, and the reply may be lost with it.
+    /// Closes the connection. What the client still sends is taken first, for a short while: a
+    /// connection that is closed with bytes unread is reset, and the reply may be lost with it.
     pub fn leave(mut self, rt: &HostRuntime) {
         let Ok(by) = moment_in(rt, Duration::from_millis(LAST_PATIENCE)) else {
             return;

@@ -12,8 +12,8 @@ use std::marker::Model;
 use std::net::{Ipv4Addr, TcpListener};
 use std::rt::HostRuntime;
 
-/// Conversations over TCP, each of one request and its reply, with clients on this machine. They tell nothing, and are
-/// seen as their count of faults.
+/// Conversations over TCP, each of one request and its reply, with clients on this machine. They
+/// tell nothing, and are seen as their count of faults.
 pub struct TcpDoors {
     rt: HostRuntime,
     listener: Option<TcpListener>,
@@ -22,7 +22,8 @@ pub struct TcpDoors {
     faults: u64,
 }
 
-// By hand, so that it is called: what is derived is opened wherever a value may end, which costs proofs seconds each time.
+// By hand, so that it is called: what is derived is opened wherever a value may end, which costs
+// proofs seconds each time.
 impl Drop for TcpDoors {
     fn drop(self) {
         let TcpDoors {

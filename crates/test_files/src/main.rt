@@ -1,7 +1,8 @@
-//! App files, one a line: for each the broken rule is written, or what it holds, and then what is broken of its texts and
-//! among its names, or its formulas and how many names of each kind it has. A line `3,HEAD|PIECE|TAIL` stands for
-//! the head, three of the piece with commas between them, and the tail, and `3 HEAD|PIECE|TAIL` for the same without commas;
-//! in a piece `#` is its number, from 1. An empty line and one of `#` say nothing.
+//! App files, one a line: for each the broken rule is written, or what it holds, and then what is
+//! broken of its texts and among its names, or its formulas and how many names of each kind it has.
+//! A line `3,HEAD|PIECE|TAIL` stands for the head, three of the piece with commas between them, and
+//! the tail, and `3 HEAD|PIECE|TAIL` for the same without commas; in a piece `#` is its number,
+//! from 1. An empty line and one of `#` say nothing.
 #![tactic(auto)]
 
 mod files;

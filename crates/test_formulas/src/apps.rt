@@ -23,8 +23,8 @@ pub struct App {
     ghost shallow: { All (λ (c : Written). tree_depth c.expr ≤ 256) cells.items },
 }
 
-/// The app of these parts, which ` | ` stands between. It has the table, screens and controls of the other
-/// formulas. Before the rounds each name has the type Text, which they take no notice of.
+/// The app of these parts, which ` | ` stands between. It has the table, screens and controls of
+/// the other formulas. Before the rounds each name has the type Text, which they take no notice of.
 pub fn app_of(alloc: Global, parts: &str) -> Result<App, Stop> {
     let mut app = first_app(alloc)?;
     for part in parts.split(" | ") {
@@ -41,8 +41,9 @@ fn first_app(alloc: Global) -> Result<App, Stop> {
     })
 }
 
-/// Adds what a part says. Its first word is `global` before global variables, a screen before variables of it,
-/// `collection` before collections, `named` before a named formula, or the address of the formula behind it.
+/// Adds what a part says. Its first word is `global` before global variables, a screen before
+/// variables of it, `collection` before collections, `named` before a named formula, or the address
+/// of the formula behind it.
 fn add_part(alloc: Global, app: &mut App, part: &str) -> Result<(), Stop> {
     let Some((head, text)) = part.split_once(" ") else {
         return Err(Stop::NoRow);

@@ -1,10 +1,11 @@
 //! What the formulas of the table may name.
 //!
-//! A table `Stock` of `Name` (Text), `Qty` (Number), `Done` (Boolean) and `Due` (Date). Screens `Home` and `Info`;
-//! on `Home` the inputs `Note`, `Rate`, `Tick` and `When`, the gallery `List` over `Stock` with the label `Line` in
-//! it, and the label `Head`. Named formulas `Price` (2), `Parts` and `Thing`. Global variables `count` (Number),
-//! `picked` (a record of `Name` and `Qty`) and `none` (Blank); on `Home` the variable `hint` (Text). A collection
-//! `Basket` of `Name` and `Qty`.
+//! A table `Stock` of `Name` (Text), `Qty` (Number), `Done` (Boolean) and `Due` (Date). Screens
+//! `Home` and `Info`; on `Home` the inputs `Note`, `Rate`, `Tick` and `When`, the gallery `List`
+//! over `Stock` with the label `Line` in it, and the label `Head`. Named formulas `Price` (2),
+//! `Parts` and `Thing`. Global variables `count` (Number), `picked` (a record of `Name` and `Qty`)
+//! and `none` (Blank); on `Home` the variable `hint` (Text). A collection `Basket` of `Name` and
+//! `Qty`.
 
 use crate::place::place_formula;
 use crate::stop::Stop;

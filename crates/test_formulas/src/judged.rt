@@ -37,7 +37,8 @@ fn answer_line(alloc: Global, names: &Names, line: &str) -> Result<String, Memor
     }
 }
 
-/// The type and the tree of a formula, or the rule that it breaks; or the types of an app, or what a formula asks.
+/// The type and the tree of a formula, or the rule that it breaks; or the types of an app, or what
+/// a formula asks.
 fn answer(alloc: Global, names: &Names, line: &str) -> Result<String, Stop> {
     let Some((place, text)) = line.split_once(" ") else {
         return Err(Stop::NoRow);

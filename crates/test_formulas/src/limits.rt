@@ -15,8 +15,8 @@ use std::alloc::Global;
 /// The row limit.
 const LIMIT: u32 = 500;
 
-/// The tree of a formula in which query expressions that aren't taken whole give their first rows, or the rule that
-/// it breaks.
+/// The tree of a formula in which query expressions that aren't taken whole give their first rows,
+/// or the rule that it breaks.
 pub fn limits_text(alloc: Global, names: &Names, text: &str) -> Result<String, Stop> {
     let cell = place_formula(alloc, "acts", text)?;
     taken_text(alloc, names, &cell)

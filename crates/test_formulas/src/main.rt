@@ -1,9 +1,11 @@
-//! Reads formulas, one a line, and writes each as it is printed, or the rule that it breaks. Behind the line `== types`
-//! it writes each with its type and its typed tree, or with the rule that it breaks: the first word of a line is where
-//! the formula stands, and `context.rt` says what it may name. Behind the word `rounds` stands a small app as `apps.rt`
-//! has it, of which the types of all names are written, and the rules that its formulas break. Behind the word `queries` stands a
-//! formula that is written with what it asks of the rows of tables, and behind `limits` one that is written with the tree in
-//! which it takes no more of them than it may. There an empty line and one of `#` are written as they are.
+//! Reads formulas, one a line, and writes each as it is printed, or the rule that it breaks. Behind
+//! the line `== types` it writes each with its type and its typed tree, or with the rule that it
+//! breaks: the first word of a line is where the formula stands, and `context.rt` says what it may
+//! name. Behind the word `rounds` stands a small app as `apps.rt` has it, of which the types of all
+//! names are written, and the rules that its formulas break. Behind the word `queries` stands a
+//! formula that is written with what it asks of the rows of tables, and behind `limits` one that is
+//! written with the tree in which it takes no more of them than it may. There an empty line and one
+//! of `#` are written as they are.
 #![tactic(auto)]
 
 mod apps;

@@ -49,9 +49,9 @@ pub fn any_table(alloc: Global) -> Ty {
     Ty::Tab(Columns::new(alloc))
 }
 
-/// A formula in the place that this word names: `pure`, on the first screen; `item`, in the template of the
-/// gallery; `acts`, a behaviour formula of the first screen, and `start` one of none; or a type that is wanted
-/// of it on the first screen.
+/// A formula in the place that this word names: `pure`, on the first screen; `item`, in the
+/// template of the gallery; `acts`, a behaviour formula of the first screen, and `start` one of
+/// none; or a type that is wanted of it on the first screen.
 pub fn place_formula(alloc: Global, place: &str, text: &str) -> Result<Written, Stop>
     ensures shallow { IfOk result (λ w. tree_depth w.expr ≤ 64) }
 {

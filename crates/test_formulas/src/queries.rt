@@ -13,8 +13,9 @@ use fx_infer::{InferEnd, Written, elaborate};
 use fx_plan::{Pattern, PatternNode, Patterns, Sketch, sites, sketch};
 use std::alloc::Global;
 
-/// The query of a formula that is a query expression, with the trees of its constants; or `no query`. Behind it stand
-/// the formula's sites: of each its number, its table, what takes it, and how much of it.
+/// The query of a formula that is a query expression, with the trees of its constants; or `no
+/// query`. Behind it stand the formula's sites: of each its number, its table, what takes it, and
+/// how much of it.
 pub fn queries_text(alloc: Global, names: &Names, text: &str) -> Result<String, Stop> {
     let cell = place_formula(alloc, "acts", text)?;
     asked_text(alloc, names, &cell)

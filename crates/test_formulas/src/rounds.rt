@@ -15,8 +15,8 @@ use fx_infer::{InferEnd, Written, elaborate, type_rounds};
 use fx_types::types::Ty;
 use std::alloc::Global;
 
-/// The final types of the names of the app of these parts, and behind them the rule that each formula breaks
-/// which breaks one; or that the types don't settle.
+/// The final types of the names of the app of these parts, and behind them the rule that each
+/// formula breaks which breaks one; or that the types don't settle.
 pub fn rounds_text(alloc: Global, parts: &str) -> Result<String, Stop> {
     let App { names, cells } = app_of(alloc, parts)?;
     if !is_lawful(&names) {

@@ -11,7 +11,8 @@ use view_text::plain;
 /// The deepest tree and type that is written.
 pub const DEPTH: u32 = 100;
 
-/// A typed tree as a text: a function with its parts, `as` before the type that a part is coerced to.
+/// A typed tree as a text: a function with its parts, `as` before the type that a part is coerced
+/// to.
 #[cycle(tree)]
 pub fn tree_text(alloc: Global, core: &Core, depth: u32) -> Result<String, Stop> {
     if depth == 0 {

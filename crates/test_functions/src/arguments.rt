@@ -49,7 +49,8 @@ fn answer(
     values: &[Value],
     common: Option<Scalar>,
 ) -> Result<Typed, Stop> {
-    // The type comes before the answer, since each end at which a value lives costs a proof a second.
+    // The type comes before the answer, since each end at which a value lives costs a proof a
+    // second.
     let ty = match (row_of(fun).answer, common) {
         (Answer::Scalar(ty), _) | (_, Some(ty)) => ty,
         _ => return Err(Stop::NoRow),
@@ -60,7 +61,8 @@ fn answer(
     Ok(Typed::new(apply(alloc, fun, values)?, ty))
 }
 
-// The common type of scalars: Text where one is, and else the one type that they have besides Blank.
+// The common type of scalars: Text where one is, and else the one type that they have besides
+// Blank.
 fn common_type(args: &[Typed]) -> Option<Scalar> {
     if args.iter().any(|arg| arg.ty == Scalar::Text) {
         return Some(Scalar::Text);

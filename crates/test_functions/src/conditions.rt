@@ -3,7 +3,8 @@ ghost use Rattle.std.specs.Prelude.{◌≡◌, [], IfOk, IfSome};
 ghost use Rattle.fx_types.specs.declared.comparisons.Cmp.TheVariants.{Eq as EqualTo};
 ghost use Rattle.fx_types.specs.declared.faults.Kind.TheVariants.{Div0};
 ghost use Rattle.fx_types.specs.Values.{number as number_data, fault as fault_data};
-ghost use Rattle.row_queries.specs.Conditions.{all_of, also, compares, constant as constant_data, no_conditions};
+ghost use Rattle.row_queries.specs.Conditions.{all_of, also, compares, constant as constant_data};
+ghost use Rattle.row_queries.specs.Conditions.{no_conditions};
 ghost use Rattle.row_queries.specs.RowTests.{CanAsk};
 ghost use Rattle.row_queries.specs.TableRows.{values_of};
 

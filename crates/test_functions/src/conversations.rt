@@ -1,4 +1,5 @@
-//! Requests in pieces, conversations in memory and over a reader and a writer, replies, and moments.
+//! Requests in pieces, conversations in memory and over a reader and a writer, replies, and
+//! moments.
 
 use crate::page::Page;
 use app_wire::doors::write_all;

@@ -44,7 +44,8 @@ fn add_texts(page: &mut Page) -> Result<(), Memory> {
     Ok(())
 }
 
-// Two texts and their orders. They are lent, since each place where a value may end costs a proof a second.
+// Two texts and their orders. They are lent, since each place where a value may end costs a proof a
+// second.
 fn add_both(page: &mut Page, short: &Value, long: &Value)
     requires short { IsScalar (view short.now) }
     requires long { IsScalar (view long.now) }

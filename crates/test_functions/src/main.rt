@@ -1,9 +1,11 @@
-//! Writes first what libraries answer where no formula shows it: keys and orders of values, how types join and what
-//! values weigh, the ends of days, values and refusals in their written forms, what a typed tree reads, how numbers
-//! round, the tokens of texts, the properties of controls, the routes of requests, how conversations go, which functions
-//! there are, orders and circles, conditions before an error, and how requests of sessions and desks count. Then it reads
-//! formulas of literals, operators and functions of values, one a line, and writes each with the plain form of what it
-//! answers. The day of `Today()` is that of the moment 1704067200. An empty line and one of `#` are written as they are.
+//! Writes first what libraries answer where no formula shows it: keys and orders of values, how
+//! types join and what values weigh, the ends of days, values and refusals in their written forms,
+//! what a typed tree reads, how numbers round, the tokens of texts, the properties of controls, the
+//! routes of requests, how conversations go, which functions there are, orders and circles,
+//! conditions before an error, and how requests of sessions and desks count. Then it reads formulas
+//! of literals, operators and functions of values, one a line, and writes each with the plain form
+//! of what it answers. The day of `Today()` is that of the moment 1704067200. An empty line and one
+//! of `#` are written as they are.
 #![tactic(auto)]
 
 mod answers;

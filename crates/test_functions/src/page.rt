@@ -4,7 +4,8 @@ use fx_base::Memory;
 use std::alloc::Global;
 
 /// Lines of text.
-// That there is no memory for a line is kept and told at the end, so that no caller ends where it adds one.
+// That there is no memory for a line is kept and told at the end, so that no caller ends where it
+// adds one.
 #[derive(Drop)]
 pub struct Page {
     pub alloc: Global,

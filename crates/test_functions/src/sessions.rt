@@ -11,7 +11,8 @@ pub fn write(page: &mut Page) -> Result<(), Memory> {
     add_all(page, &no_names(page.alloc))
 }
 
-// All of sessions and desks. The names are lent, since each place where they may end costs a proof seconds.
+// All of sessions and desks. The names are lent, since each place where they may end costs a proof
+// seconds.
 fn add_all(page: &mut Page, names: &Names) -> Result<(), Memory> {
     add_session(page, names)?;
     add_desk(page)?;

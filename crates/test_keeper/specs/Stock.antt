@@ -20,6 +20,7 @@ IsStock None = ⊥
 IsStock (Some s) = AreStockTables s.tables
 
 -- a keeper stands where the cases say: whether it has the table, and whether a transaction is begun
-pub record IsInStep (is_shaped is_begun : Bool) (shaped : Option Schema) (in_transaction : Bool) : Type 0 where
+pub record IsInStep (is_shaped is_begun : Bool) (shaped : Option Schema) (in_transaction : Bool) :
+    Type 0 where
   pub stocked : is_shaped ≡ true → IsStock shaped
   pub begun : in_transaction ≡ is_begun

@@ -23,7 +23,8 @@ impl<K: Keeper> Case<K> {
     /// The cases begin with a keeper that they haven't shaped.
     pub fn new(alloc: Global, keeper: K) -> Case<K>
         requires { K.in_transaction keeper ≡ false }
-        ensures { IsInStep result.stage.is_shaped result.stage.is_begun (K.shaped result.keeper) (K.in_transaction result.keeper) }
+        ensures { IsInStep result.stage.is_shaped result.stage.is_begun (K.shaped result.keeper)
+            (K.in_transaction result.keeper) }
     {
         Case {
             alloc,
@@ -37,8 +38,10 @@ impl<K: Keeper> Case<K> {
 
     /// Makes a call of the keeper, and says what it answers; other calls answer nothing.
     pub fn make(&mut self, call: &Call) -> Result<String, Memory>
-        requires { IsInStep self.old.stage.is_shaped self.old.stage.is_begun (K.shaped self.old.keeper) (K.in_transaction self.old.keeper) }
-        ensures { IsInStep self.new.stage.is_shaped self.new.stage.is_begun (K.shaped self.new.keeper) (K.in_transaction self.new.keeper) }
+        requires { IsInStep self.old.stage.is_shaped self.old.stage.is_begun
+            (K.shaped self.old.keeper) (K.in_transaction self.old.keeper) }
+        ensures { IsInStep self.new.stage.is_shaped self.new.stage.is_begun
+            (K.shaped self.new.keeper) (K.in_transaction self.new.keeper) }
     {
         match call {
             Call::Shape => shape(self.alloc, &mut self.keeper, &mut self.stage),
@@ -68,8 +71,10 @@ impl<K: Keeper> Case<K> {
 
 /// A call that asks for rows.
 fn ask<K: Keeper>(alloc: Global, keeper: &mut K, stage: Stage, ask: Ask) -> Result<String, Memory>
-    requires { IsInStep stage.is_shaped stage.is_begun (K.shaped keeper.old) (K.in_transaction keeper.old) }
-    ensures { IsInStep stage.is_shaped stage.is_begun (K.shaped keeper.new) (K.in_transaction keeper.new) }
+    requires { IsInStep stage.is_shaped stage.is_begun (K.shaped keeper.old)
+        (K.in_transaction keeper.old) }
+    ensures { IsInStep stage.is_shaped stage.is_begun (K.shaped keeper.new)
+        (K.in_transaction keeper.new) }
 {
     match ask.of {
         Asked::Rows => rows(alloc, keeper, stage, ask.least, ask.most),

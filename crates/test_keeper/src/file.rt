@@ -14,7 +14,8 @@ pub fn forget(rt: &HostRuntime, name: &str) {
     }
 }
 
-/// Runs a statement over the database of a file, and says which rows it gives, or else that it is done or refused.
+/// Runs a statement over the database of a file, and says which rows it gives, or else that it is
+/// done or refused.
 pub fn run(rt: &HostRuntime, name: &str, text: &str) -> Result<String, Memory> {
     let alloc = rt.alloc();
     match Connection::open(rt, name) {

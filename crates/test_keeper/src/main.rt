@@ -1,9 +1,10 @@
-//! Cases of keepers, a call a line, over a table of names and quantities. Each line is written with what its call answers
-//! over a keeper in memory. A plain keeper, one over SQLite in memory and one over SQLite in a file make the same calls,
-//! and where one of them answers otherwise that stands in a line below. `new` begins with new keepers and a new file;
-//! where numbers stand behind it, the calls of these numbers fail in memory, and SQLite isn't asked; nor is it behind
-//! `skip`. `reopen` opens the file again, `sql` runs a statement over it before, and `attach` attaches one more keeper to
-//! a file. A line of `#` is written as it is. Quantities may be `-`, for none.
+//! Cases of keepers, a call a line, over a table of names and quantities. Each line is written with
+//! what its call answers over a keeper in memory. A plain keeper, one over SQLite in memory and one
+//! over SQLite in a file make the same calls, and where one of them answers otherwise that stands
+//! in a line below. `new` begins with new keepers and a new file; where numbers stand behind it,
+//! the calls of these numbers fail in memory, and SQLite isn't asked; nor is it behind `skip`.
+//! `reopen` opens the file again, `sql` runs a statement over it before, and `attach` attaches one
+//! more keeper to a file. A line of `#` is written as it is. Quantities may be `-`, for none.
 #![tactic(auto)]
 
 mod calls;

@@ -1,5 +1,5 @@
-// A keeper that walks lists: what the calls come to, as plainly as can be said. It has no contract; what it answers is
-// compared.
+// A keeper that walks lists: what the calls come to, as plainly as can be said. It has no contract;
+// what it answers is compared.
 ghost use Rattle.std.specs.Prelude.{◌≤◌, length};
 
 use crate::calls::{Ask, Asked, Call};
@@ -36,7 +36,8 @@ pub struct PlainKeeper {
     then: Option<Rows>,
 }
 
-// By hand, so that it is called: what is derived is opened wherever a value may end, which costs proofs seconds each time.
+// By hand, so that it is called: what is derived is opened wherever a value may end, which costs
+// proofs seconds each time.
 impl Drop for PlainKeeper {
     fn drop(self) {
         let PlainKeeper {
@@ -288,7 +289,8 @@ fn is_asked(row: &Row, ask: Ask) -> bool {
     }
 }
 
-/// The place of a row behind those that come first: on a page by their numbers, else by their quantities.
+/// The place of a row behind those that come first: on a page by their numbers, else by their
+/// quantities.
 fn place_for(rows: &[Row], row: &Row, of: Asked) -> usize
     ensures { result ≤ length rows.now }
 {
@@ -337,7 +339,8 @@ fn is_least(quantity: Option<i64>, least: Option<Num>) -> bool {
     }
 }
 
-/// The place of a quantity behind all that aren't less, where the greatest stands first and blank last.
+/// The place of a quantity behind all that aren't less, where the greatest stands first and blank
+/// last.
 fn place_of(rows: &[Row], quantity: Option<i64>) -> usize
     ensures { result ≤ length rows.now }
 {

@@ -25,11 +25,13 @@ pub struct Played {
     plain: PlainKeeper,
     pub sql: Case<SqlKeeper>,
     pub file: Case<SqlKeeper>,
-    /// Whether SQLite isn't asked: its calls can't be planned to fail, and it passes over no numbers.
+    /// Whether SQLite isn't asked: its calls can't be planned to fail, and it passes over no
+    /// numbers.
     is_alone: bool,
 }
 
-// By hand, so that it is called: what is derived is opened wherever a value may end, which costs proofs seconds each time.
+// By hand, so that it is called: what is derived is opened wherever a value may end, which costs
+// proofs seconds each time.
 impl Drop for Played {
     fn drop(self) {
         let Played {
@@ -45,14 +47,16 @@ impl Drop for Played {
 
 /// A keeper in memory, whose calls of these numbers fail.
 fn in_memory(alloc: Global, fails: Vec<u64>) -> Case<MemoryKeeper>
-    ensures { IsInStep result.stage.is_shaped result.stage.is_begun result.keeper.store.schema result.keeper.store.is_begun }
+    ensures { IsInStep result.stage.is_shaped result.stage.is_begun result.keeper.store.schema
+        result.keeper.store.is_begun }
 {
     Case::new(alloc, MemoryKeeper::new(alloc, FaultPlan::new(fails)))
 }
 
 /// A keeper over the database of a name. Where it can't be opened, each call of the keeper fails.
 fn over_sql(rt: HostRuntime, name: &str) -> Case<SqlKeeper>
-    ensures { IsInStep result.stage.is_shaped result.stage.is_begun result.keeper.schema result.keeper.is_begun }
+    ensures { IsInStep result.stage.is_shaped result.stage.is_begun result.keeper.schema
+        result.keeper.is_begun }
 {
     let mut keeper = SqlKeeper::new(rt);
     let _attached = keeper.attach(name);
@@ -105,7 +109,8 @@ impl Played {
         }
     }
 
-    /// What a call answers in memory, and below it what it answers over another keeper where that differs.
+    /// What a call answers in memory, and below it what it answers over another keeper where that
+    /// differs.
     fn compare(&mut self, call: &Call) -> Result<String, Memory>
         requires { AreInStep self.old }
         ensures { AreInStep self.new }
@@ -139,7 +144,8 @@ impl Played {
         say_done(alloc, Ok(()))
     }
 
-    /// How many rows have been visited in memory, how many calls have failed there, and how many over SQLite.
+    /// How many rows have been visited in memory, how many calls have failed there, and how many
+    /// over SQLite.
     fn see(&self) -> Result<String, Memory> {
         let (visited, faults) = (self.memory.keeper.visits(), self.memory.keeper.faults());
         let others = self

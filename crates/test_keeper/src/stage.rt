@@ -84,8 +84,10 @@ fn push_table(text: &mut String, table: &TableShape) -> Result<(), Memory> {
 
 /// Shapes the keeper by the table.
 pub fn shape<K: Keeper>(alloc: Global, keeper: &mut K, stage: &mut Stage) -> Result<String, Memory>
-    requires { IsInStep stage.old.is_shaped stage.old.is_begun (K.shaped keeper.old) (K.in_transaction keeper.old) }
-    ensures { IsInStep stage.new.is_shaped stage.new.is_begun (K.shaped keeper.new) (K.in_transaction keeper.new) }
+    requires { IsInStep stage.old.is_shaped stage.old.is_begun (K.shaped keeper.old)
+        (K.in_transaction keeper.old) }
+    ensures { IsInStep stage.new.is_shaped stage.new.is_begun (K.shaped keeper.new)
+        (K.in_transaction keeper.new) }
 {
     let schema = stock(alloc)?;
     if stage.is_begun || !is_lawful_schema(&schema) {
@@ -107,8 +109,10 @@ pub fn shape_other<K: Keeper>(
     keeper: &mut K,
     stage: &mut Stage,
 ) -> Result<String, Memory>
-    requires { IsInStep stage.old.is_shaped stage.old.is_begun (K.shaped keeper.old) (K.in_transaction keeper.old) }
-    ensures { IsInStep stage.new.is_shaped stage.new.is_begun (K.shaped keeper.new) (K.in_transaction keeper.new) }
+    requires { IsInStep stage.old.is_shaped stage.old.is_begun (K.shaped keeper.old)
+        (K.in_transaction keeper.old) }
+    ensures { IsInStep stage.new.is_shaped stage.new.is_begun (K.shaped keeper.new)
+        (K.in_transaction keeper.new) }
 {
     let schema = names_alone(alloc)?;
     if stage.is_begun || !is_lawful_schema(&schema) {
@@ -126,8 +130,10 @@ pub fn shape_other<K: Keeper>(
 
 /// Begins a transaction.
 pub fn begin<K: Keeper>(alloc: Global, keeper: &mut K, stage: &mut Stage) -> Result<String, Memory>
-    requires { IsInStep stage.old.is_shaped stage.old.is_begun (K.shaped keeper.old) (K.in_transaction keeper.old) }
-    ensures { IsInStep stage.new.is_shaped stage.new.is_begun (K.shaped keeper.new) (K.in_transaction keeper.new) }
+    requires { IsInStep stage.old.is_shaped stage.old.is_begun (K.shaped keeper.old)
+        (K.in_transaction keeper.old) }
+    ensures { IsInStep stage.new.is_shaped stage.new.is_begun (K.shaped keeper.new)
+        (K.in_transaction keeper.new) }
 {
     if stage.is_begun {
         return Ok(String::from_str(alloc, "not now")?);
@@ -139,8 +145,10 @@ pub fn begin<K: Keeper>(alloc: Global, keeper: &mut K, stage: &mut Stage) -> Res
 
 /// Ends a transaction with its changes.
 pub fn commit<K: Keeper>(alloc: Global, keeper: &mut K, stage: &mut Stage) -> Result<String, Memory>
-    requires { IsInStep stage.old.is_shaped stage.old.is_begun (K.shaped keeper.old) (K.in_transaction keeper.old) }
-    ensures { IsInStep stage.new.is_shaped stage.new.is_begun (K.shaped keeper.new) (K.in_transaction keeper.new) }
+    requires { IsInStep stage.old.is_shaped stage.old.is_begun (K.shaped keeper.old)
+        (K.in_transaction keeper.old) }
+    ensures { IsInStep stage.new.is_shaped stage.new.is_begun (K.shaped keeper.new)
+        (K.in_transaction keeper.new) }
 {
     if !stage.is_begun {
         return Ok(String::from_str(alloc, "not now")?);
@@ -152,8 +160,10 @@ pub fn commit<K: Keeper>(alloc: Global, keeper: &mut K, stage: &mut Stage) -> Re
 
 /// Ends a transaction without its changes.
 pub fn back<K: Keeper>(alloc: Global, keeper: &mut K, stage: &mut Stage) -> Result<String, Memory>
-    requires { IsInStep stage.old.is_shaped stage.old.is_begun (K.shaped keeper.old) (K.in_transaction keeper.old) }
-    ensures { IsInStep stage.new.is_shaped stage.new.is_begun (K.shaped keeper.new) (K.in_transaction keeper.new) }
+    requires { IsInStep stage.old.is_shaped stage.old.is_begun (K.shaped keeper.old)
+        (K.in_transaction keeper.old) }
+    ensures { IsInStep stage.new.is_shaped stage.new.is_begun (K.shaped keeper.new)
+        (K.in_transaction keeper.new) }
 {
     if !stage.is_begun {
         return Ok(String::from_str(alloc, "not now")?);
@@ -171,8 +181,10 @@ pub fn insert<K: Keeper>(
     name: &str,
     quantity: Option<Num>,
 ) -> Result<String, Memory>
-    requires { IsInStep stage.is_shaped stage.is_begun (K.shaped keeper.old) (K.in_transaction keeper.old) }
-    ensures { IsInStep stage.is_shaped stage.is_begun (K.shaped keeper.new) (K.in_transaction keeper.new) }
+    requires { IsInStep stage.is_shaped stage.is_begun (K.shaped keeper.old)
+        (K.in_transaction keeper.old) }
+    ensures { IsInStep stage.is_shaped stage.is_begun (K.shaped keeper.new)
+        (K.in_transaction keeper.new) }
 {
     let cells = cells(alloc, name, quantity)?;
     if !stage.is_shaped || !stage.is_begun {
@@ -190,8 +202,10 @@ pub fn replace<K: Keeper>(
     name: &str,
     quantity: Option<Num>,
 ) -> Result<String, Memory>
-    requires { IsInStep stage.is_shaped stage.is_begun (K.shaped keeper.old) (K.in_transaction keeper.old) }
-    ensures { IsInStep stage.is_shaped stage.is_begun (K.shaped keeper.new) (K.in_transaction keeper.new) }
+    requires { IsInStep stage.is_shaped stage.is_begun (K.shaped keeper.old)
+        (K.in_transaction keeper.old) }
+    ensures { IsInStep stage.is_shaped stage.is_begun (K.shaped keeper.new)
+        (K.in_transaction keeper.new) }
 {
     let cells = cells(alloc, name, quantity)?;
     if !stage.is_shaped || !stage.is_begun {
@@ -207,8 +221,10 @@ pub fn remove<K: Keeper>(
     stage: Stage,
     id: u32,
 ) -> Result<String, Memory>
-    requires { IsInStep stage.is_shaped stage.is_begun (K.shaped keeper.old) (K.in_transaction keeper.old) }
-    ensures { IsInStep stage.is_shaped stage.is_begun (K.shaped keeper.new) (K.in_transaction keeper.new) }
+    requires { IsInStep stage.is_shaped stage.is_begun (K.shaped keeper.old)
+        (K.in_transaction keeper.old) }
+    ensures { IsInStep stage.is_shaped stage.is_begun (K.shaped keeper.new)
+        (K.in_transaction keeper.new) }
 {
     if !stage.is_shaped || !stage.is_begun {
         return Ok(String::from_str(alloc, "not now")?);
@@ -228,8 +244,10 @@ pub fn rows<K: Keeper>(
     quantity: Option<Num>,
     most: Option<u32>,
 ) -> Result<String, Memory>
-    requires { IsInStep stage.is_shaped stage.is_begun (K.shaped keeper.old) (K.in_transaction keeper.old) }
-    ensures { IsInStep stage.is_shaped stage.is_begun (K.shaped keeper.new) (K.in_transaction keeper.new) }
+    requires { IsInStep stage.is_shaped stage.is_begun (K.shaped keeper.old)
+        (K.in_transaction keeper.old) }
+    ensures { IsInStep stage.is_shaped stage.is_begun (K.shaped keeper.new)
+        (K.in_transaction keeper.new) }
 {
     let query = from(alloc, quantity, most)?;
     if !stage.is_shaped {
@@ -250,8 +268,10 @@ pub fn pages<K: Keeper>(
     most: Option<u32>,
     is_blank: bool,
 ) -> Result<String, Memory>
-    requires { IsInStep stage.is_shaped stage.is_begun (K.shaped keeper.old) (K.in_transaction keeper.old) }
-    ensures { IsInStep stage.is_shaped stage.is_begun (K.shaped keeper.new) (K.in_transaction keeper.new) }
+    requires { IsInStep stage.is_shaped stage.is_begun (K.shaped keeper.old)
+        (K.in_transaction keeper.old) }
+    ensures { IsInStep stage.is_shaped stage.is_begun (K.shaped keeper.new)
+        (K.in_transaction keeper.new) }
 {
     let query = page(alloc, first, most, is_blank)?;
     if !stage.is_shaped {
@@ -271,8 +291,10 @@ pub fn count<K: Keeper>(
     quantity: Option<Num>,
     most: Option<u32>,
 ) -> Result<String, Memory>
-    requires { IsInStep stage.is_shaped stage.is_begun (K.shaped keeper.old) (K.in_transaction keeper.old) }
-    ensures { IsInStep stage.is_shaped stage.is_begun (K.shaped keeper.new) (K.in_transaction keeper.new) }
+    requires { IsInStep stage.is_shaped stage.is_begun (K.shaped keeper.old)
+        (K.in_transaction keeper.old) }
+    ensures { IsInStep stage.is_shaped stage.is_begun (K.shaped keeper.new)
+        (K.in_transaction keeper.new) }
 {
     let query = from(alloc, quantity, most)?;
     if !stage.is_shaped {
@@ -292,8 +314,10 @@ pub fn total<K: Keeper>(
     quantity: Option<Num>,
     most: Option<u32>,
 ) -> Result<String, Memory>
-    requires { IsInStep stage.is_shaped stage.is_begun (K.shaped keeper.old) (K.in_transaction keeper.old) }
-    ensures { IsInStep stage.is_shaped stage.is_begun (K.shaped keeper.new) (K.in_transaction keeper.new) }
+    requires { IsInStep stage.is_shaped stage.is_begun (K.shaped keeper.old)
+        (K.in_transaction keeper.old) }
+    ensures { IsInStep stage.is_shaped stage.is_begun (K.shaped keeper.new)
+        (K.in_transaction keeper.new) }
 {
     let query = from(alloc, quantity, most)?;
     if !stage.is_shaped {

@@ -1,5 +1,6 @@
 // The table that the cases are about: its schema, cells of its rows, and queries of it.
-ghost use Rattle.std.specs.Prelude.{◌≡◌, cond, [], ◌∷◌, None, Option, Some, IfOk, IsSomeAnd, slice_get};
+ghost use Rattle.std.specs.Prelude.{◌≡◌, cond, [], ◌∷◌, None, Option, Some, IfOk, IsSomeAnd};
+ghost use Rattle.std.specs.Prelude.{slice_get};
 ghost use Rattle.fx_core.specs.declared.schema.Schema.{Schema as SchemaValue};
 ghost use Rattle.row_queries.specs.Conditions.{always, is_blank as has_blank};
 ghost use Rattle.row_queries.specs.Queries.{CanTotal, IsQuery};
@@ -62,7 +63,8 @@ pub fn names_alone(alloc: Global) -> Result<Schema, Memory> {
 
 /// The cells of a row.
 pub fn cells(alloc: Global, name: &str, quantity: Option<Num>) -> Result<Cells, Memory>
-    ensures { IfOk result (λ c. (s : SchemaValue) → IsStock (Some s) → IsSomeAnd (slice_get s.tables 0) (λ t. AreCellsOf t.columns c)) }
+    ensures { IfOk result (λ c. (s : SchemaValue) → IsStock (Some s)
+        → IsSomeAnd (slice_get s.tables 0) (λ t. AreCellsOf t.columns c)) }
 {
     let mut cells = Cells::new(alloc);
     cells.push(Value::Text(Words::of(alloc, name)?))?;
@@ -92,8 +94,10 @@ fn from_on(alloc: Global, from: Key) -> Result<RangeList, Memory>
 
 /// The rows of at least a quantity, or all, the greatest quantity first.
 pub fn from(alloc: Global, quantity: Option<Num>, most: Option<u32>) -> Result<Query, Memory>
-    ensures query { IfOk result (λ q. (o : Option SchemaValue) → IsStock o → IsQuery (shapes_of o) q) }
-    ensures total { IfOk result (λ q. (o : Option SchemaValue) → IsStock o → CanTotal (shapes_of o) q 2) }
+    ensures query { IfOk result (λ q. (o : Option SchemaValue) → IsStock o
+        → IsQuery (shapes_of o) q) }
+    ensures total { IfOk result (λ q. (o : Option SchemaValue) → IsStock o
+        → CanTotal (shapes_of o) q 2) }
     ensures sound { IfOk result (λ q. HasNoFaults q.test) }
 {
     let ranges = from_on(alloc, key_of(alloc, quantity)?)?;

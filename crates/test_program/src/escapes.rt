@@ -2,7 +2,8 @@
 
 use std::alloc::{AllocError, Global};
 
-/// Adds the bytes of a line. `\s` is a space, `\#` the number, and `\?` the byte 255, which no text has.
+/// Adds the bytes of a line. `\s` is a space, `\#` the number, and `\?` the byte 255, which no text
+/// has.
 pub fn add_unescaped(
     alloc: Global,
     bytes: &mut Vec<u8>,

@@ -1,10 +1,11 @@
-//! Worked rows of the top call. Standard input has a row in lines, which say what its run is given, and a line `run` for
-//! each run; for each the status is printed, and what was said and answered.
+//! Worked rows of the top call. Standard input has a row in lines, which say what its run is given,
+//! and a line `run` for each run; for each the status is printed, and what was said and answered.
 //!
-//! Behind them stand files of formulas: a line that begins with `== ` names one, and the lines behind it are its text, of
-//! which the last line feed is left out. For each the line of its name is written, then the status with which `view` ends,
-//! and what it wrote: each formula with the plain form of its value, or the rules that the text breaks. The moment is
-//! 1704067200, in 2024-01-01.
+//! Behind them stand files of formulas: a line that begins with `== ` names one, and the lines
+//! behind it are its text, of which the last line feed is left out. For each the line of its name
+//! is written, then the status with which `view` ends, and what it wrote: each formula with the
+//! plain form of its value, or the rules that the text breaks. The moment is 1704067200, in
+//! 2024-01-01.
 #![tactic(auto)]
 
 mod asked;
@@ -41,7 +42,8 @@ fn main(rt: HostRuntime) -> io::Result<()> {
     print_view(&rt, &sheet)
 }
 
-/// Does what a line says. An empty line and one of `#` say nothing, `row` begins a new row, and `run` makes a run.
+/// Does what a line says. An empty line and one of `#` say nothing, `row` begins a new row, and
+/// `run` makes a run.
 fn obey(rt: &(impl Print + AllocGlobal), row: &mut Row, line: &str) -> io::Result<()> {
     let (key, text) = line.split_once(' ').unwrap_or((line, ""));
     match key {
@@ -60,7 +62,8 @@ fn obey(rt: &(impl Print + AllocGlobal), row: &mut Row, line: &str) -> io::Resul
     }
 }
 
-/// Prints the name of a file, the status of its view and what was written. What has no name isn't viewed.
+/// Prints the name of a file, the status of its view and what was written. What has no name isn't
+/// viewed.
 fn print_view(rt: &(impl Print + AllocGlobal), sheet: &Sheet) -> io::Result<()> {
     if sheet.name.is_empty() {
         return Ok(());

@@ -7,8 +7,9 @@ use std::{io, str};
 /// The first bytes of each reply, and of no part of one.
 const REPLY: &str = "HTTP/1.1 ";
 
-/// Prints the status, what was said, if anything, and the replies; `next` where another conversation came; how many rows
-/// were visited, where these are counted, and what the keeper was asked about rows, where this is written down.
+/// Prints the status, what was said, if anything, and the replies; `next` where another
+/// conversation came; how many rows were visited, where these are counted, and what the keeper was
+/// asked about rows, where this is written down.
 pub fn print_end(rt: &(impl Print + AllocGlobal), ended: &Ended) -> io::Result<()> {
     let status = ended.status;
     println!(rt; "status {status}")?;
@@ -36,7 +37,8 @@ fn print_asked(rt: &impl Print, asked: &str) -> io::Result<()> {
     println!(rt; "asked {asked}")
 }
 
-/// Prints each reply in a line, and those that repeat it with their count. What comes before the first is printed alone.
+/// Prints each reply in a line, and those that repeat it with their count. What comes before the
+/// first is printed alone.
 fn print_replies(rt: &(impl Print + AllocGlobal), answered: &str) -> io::Result<()> {
     let mut parts = answered.split(REPLY);
     print_first(rt, parts.next().unwrap_or(""))?;

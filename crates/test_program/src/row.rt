@@ -3,7 +3,8 @@
 use crate::escapes::add_unescaped;
 use std::alloc::{AllocError, Global};
 
-/// The words of a run, its one file, its conversations and its moments, and which calls, counted from 1, fail.
+/// The words of a run, its one file, its conversations and its moments, and which calls, counted
+/// from 1, fail.
 #[derive(Drop)]
 pub struct Row {
     pub words: Vec<String>,
@@ -36,8 +37,8 @@ pub struct Row {
 }
 
 impl Row {
-    /// No words, an empty file without a name, one empty conversation, a clock that gives 0, and a keeper without a schema.
-    /// Nothing fails.
+    /// No words, an empty file without a name, one empty conversation, a clock that gives 0, and a
+    /// keeper without a schema. Nothing fails.
     pub fn new(alloc: Global) -> Row {
         Row {
             words: Vec::new(alloc),
@@ -59,8 +60,8 @@ impl Row {
         }
     }
 
-    /// Sets what a line says, and answers whether it says anything. `bytes` and `stream` add to what is there, and with
-    /// `*N` behind them N times; `next` begins another conversation.
+    /// Sets what a line says, and answers whether it says anything. `bytes` and `stream` add to
+    /// what is there, and with `*N` behind them N times; `next` begins another conversation.
     pub fn set(&mut self, alloc: Global, key: &str, text: &str) -> Result<bool, AllocError> {
         let (key, count) = key_and_count(key);
         match key {

@@ -17,8 +17,9 @@ use std::alloc::{AllocError, Global};
 use std::marker::Brand;
 use std::sync::ledger::{Blank, Ledger};
 
-/// How a run ended, what it said, what it answered to each conversation that came, how many rows the keeper visited, where
-/// these are counted, and what it was asked about rows, where this is written down.
+/// How a run ended, what it said, what it answered to each conversation that came, how many rows
+/// the keeper visited, where these are counted, and what it was asked about rows, where this is
+/// written down.
 #[derive(Drop)]
 pub struct Ended {
     pub status: u8,

@@ -1,10 +1,11 @@
-//! Runs of `serve` over loopback and files. A line of standard input that begins with a method is a request, with its body
-//! behind its path, which a client of the next run sends; of `cut` it is the head of one alone.
-//! `serve APP DB` makes the run. `busy APP DB` makes it on a port that is listened on already. Printed are the line, the
-//! status, what was said, if anything, and of each reply its status and its body. A line of `#` is written as it is.
+//! Runs of `serve` over loopback and files. A line of standard input that begins with a method is a
+//! request, with its body behind its path, which a client of the next run sends; of `cut` it is the
+//! head of one alone. `serve APP DB` makes the run. `busy APP DB` makes it on a port that is
+//! listened on already. Printed are the line, the status, what was said, if anything, and of each
+//! reply its status and its body. A line of `#` is written as it is.
 //!
-//! All is done in one thread: a client connects and sends its request before the server takes the connection, and reads the
-//! reply once the server has hung up.
+//! All is done in one thread: a client connects and sends its request before the server takes the
+//! connection, and reads the reply once the server has hung up.
 #![tactic(auto)]
 
 mod requests;

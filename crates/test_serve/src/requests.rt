@@ -2,7 +2,8 @@
 
 use std::alloc::{AllocError, Global};
 
-/// The bytes of a request with a method, and behind it its path and perhaps a body; of `cut` the head of one alone.
+/// The bytes of a request with a method, and behind it its path and perhaps a body; of `cut` the
+/// head of one alone.
 pub fn request_of(alloc: Global, method: &str, rest: &str) -> Result<Vec<u8>, AllocError> {
     let (path, body) = rest.split_once(' ').unwrap_or((rest, ""));
     // What is cut short has a byte less than it says.

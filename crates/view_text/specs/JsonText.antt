@@ -1,9 +1,12 @@
 -- Values as JSON.
-use Rattle.std.specs.Prelude.{ℕ, ◌/◌, ◌%◌, ℤ, pos, negsuc, suc, List, ◌==◌, if◌then◌else◌, codes, encode_utf8_all, unsigned_abs, neg_ℤ}
+use Rattle.std.specs.Prelude.{ℕ, ◌/◌, ◌%◌, ℤ, pos, negsuc, suc, List, ◌==◌, if◌then◌else◌, codes}
+use Rattle.std.specs.Prelude.{encode_utf8_all, unsigned_abs, neg_ℤ}
 use Rattle.serde_json.specs.Data as json
-use Rattle.serde_json.specs.Data.{object, array, string, member, no_members, Members, item, no_items, Items}
+use Rattle.serde_json.specs.Data.{object, array, string, member, no_members, Members, item}
+use Rattle.serde_json.specs.Data.{no_items, Items}
 use Rattle.serde_json.specs.Find.{of_integer}
-use Rattle.fx_types.specs.Values.{Data, blank, number, text, boolean, date, rec, tab, fault, FieldList, no_fields, field, RowList, no_rows, row}
+use Rattle.fx_types.specs.Values.{Data, blank, number, text, boolean, date, rec, tab, fault}
+use Rattle.fx_types.specs.Values.{FieldList, no_fields, field, RowList, no_rows, row}
 use Rattle.fx_types.specs.declared.faults.Kind.{Kind}
 use Rattle.fx_number.specs.Spelling.{text_of}
 use Rattle.fx_types.specs.DateText.{date_text}
@@ -27,9 +30,11 @@ number_data z =
 -- an error has its kind and its message
 abbrev pub error_data : Kind → List ℕ → json.Data
 error_data kind message = tagged (codes "e")
-    (object (member (codes "kind") (string (kind_name kind)) (member (codes "message") (string (encode_utf8_all message)) no_members)))
+    (object (member (codes "kind") (string (kind_name kind))
+    (member (codes "message") (string (encode_utf8_all message)) no_members)))
 
--- the JSON of a value: the fields of a record and of a row by rising names, the rows as plain objects
+-- the JSON of a value: the fields of a record and of a row by rising names, the rows as plain
+-- objects
 abbrev mutual
   pub value_data : Data → json.Data
   value_data blank = json.null

@@ -1,8 +1,10 @@
 -- The plain form of a value, as `view` prints it.
-use Rattle.std.specs.Prelude.{ℕ, List, [], ◌∷◌, ◌++◌, Bool, true, false, ◌==◌, if◌then◌else◌, codes, flat_map, encode_utf8_all}
+use Rattle.std.specs.Prelude.{ℕ, List, [], ◌∷◌, ◌++◌, Bool, true, false, ◌==◌, if◌then◌else◌, codes}
+use Rattle.std.specs.Prelude.{flat_map, encode_utf8_all}
 use Rattle.fx_types.specs.declared.faults.Kind.{Kind}
 use Rattle.fx_types.specs.Faults.{kind_name}
-use Rattle.fx_types.specs.Values.{Data, blank, number, text, boolean, date, rec, tab, fault, FieldList, no_fields, field, RowList, no_rows, row}
+use Rattle.fx_types.specs.Values.{Data, blank, number, text, boolean, date, rec, tab, fault}
+use Rattle.fx_types.specs.Values.{FieldList, no_fields, field, RowList, no_rows, row}
 use Rattle.fx_number.specs.Spelling.{text_of}
 use Rattle.fx_types.specs.DateText.{date_text}
 
@@ -26,7 +28,8 @@ error_text kind = codes "Error(" ++ (kind_name kind ++ codes ")")
 abbrev pub comma_if : Bool → List ℕ
 comma_if later = if later then codes ", " else []
 
--- the plain form, in bytes: a record has its fields as `name: value`, a table its rows as records, an error its kind
+-- the plain form, in bytes: a record has its fields as `name: value`, a table its rows as records,
+-- an error its kind
 abbrev mutual
   pub plain_text : Data → List ℕ
   plain_text blank = codes "Blank()"
@@ -41,9 +44,11 @@ abbrev mutual
   -- with the closing brace
   pub fields_text : Bool → FieldList → List ℕ
   fields_text later no_fields = 125 ∷ []
-  fields_text later (field n d fs) = comma_if later ++ (encode_utf8_all n ++ (codes ": " ++ (plain_text d ++ fields_text true fs)))
+  fields_text later (field n d fs) = comma_if later
+      ++ (encode_utf8_all n ++ (codes ": " ++ (plain_text d ++ fields_text true fs)))
 
   -- with the closing bracket
   pub rows_text : Bool → RowList → List ℕ
   rows_text later no_rows = 93 ∷ []
-  rows_text later (row fs rs) = comma_if later ++ (123 ∷ (fields_text false fs ++ rows_text true rs))
+  rows_text later (row fs rs) = comma_if later
+      ++ (123 ∷ (fields_text false fs ++ rows_text true rs))

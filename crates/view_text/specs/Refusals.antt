@@ -1,7 +1,16 @@
 -- The refusals, each with its code, its name and its HTTP status.
 use Rattle.std.specs.Prelude.{ℕ, ◌==◌, List, [], ◌∷◌, map, codes, if◌then◌else◌}
 use Rattle.view_text.specs.declared.refusals.Cause.{Cause}
-use Rattle.view_text.specs.declared.refusals.Cause.TheVariants.{BadHead, HeadTooLong, BadLength, BodyTooLong, NotOffered, CutShort, NoRoute, WrongMethod, BadJson, BadShape, NoSession, TooManyCallers, OutOfStep, SeqReused, NoControl, NoEvent, NotShown, NoItem, ItemMoved, BadInput, NoTable, NoRow, RowRefused, EditRefused, KeeperFault, WantOfMemory, MoveRefused, ImportRefused}
+use Rattle.view_text.specs.declared.refusals.Cause.TheVariants.{BadHead, HeadTooLong, BadLength}
+use Rattle.view_text.specs.declared.refusals.Cause.TheVariants.{BodyTooLong, NotOffered, CutShort}
+use Rattle.view_text.specs.declared.refusals.Cause.TheVariants.{NoRoute, WrongMethod, BadJson}
+use Rattle.view_text.specs.declared.refusals.Cause.TheVariants.{BadShape, NoSession, TooManyCallers}
+use Rattle.view_text.specs.declared.refusals.Cause.TheVariants.{OutOfStep, SeqReused, NoControl}
+use Rattle.view_text.specs.declared.refusals.Cause.TheVariants.{NoEvent, NotShown, NoItem}
+use Rattle.view_text.specs.declared.refusals.Cause.TheVariants.{ItemMoved, BadInput, NoTable, NoRow}
+use Rattle.view_text.specs.declared.refusals.Cause.TheVariants.{RowRefused, EditRefused}
+use Rattle.view_text.specs.declared.refusals.Cause.TheVariants.{KeeperFault, WantOfMemory}
+use Rattle.view_text.specs.declared.refusals.Cause.TheVariants.{MoveRefused, ImportRefused}
 
 pub record RefusalRow : Type 0 where
   pub code : ℕ

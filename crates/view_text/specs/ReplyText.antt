@@ -9,7 +9,8 @@ use Rattle.view_text.specs.declared.replies.Named.{Named}
 
 -- `{"name":..,"value":..}`
 abbrev pub named_data : Named → Data
-named_data n = object (member (codes "name") (string (encode_utf8_all n.name)) (member (codes "value") (value_data (view n.value)) no_members))
+named_data n = object (member (codes "name") (string (encode_utf8_all n.name))
+    (member (codes "value") (value_data (view n.value)) no_members))
 
 -- `{"named":[..]}`, in order
 abbrev pub all_named_data : List Named → Data

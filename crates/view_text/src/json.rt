@@ -4,7 +4,8 @@ ghost use Rattle.std.specs.Prelude.{◌≡◌, IfOk};
 ghost use Rattle.serde_json.specs.View.{items_view, members_view, view as json_view};
 ghost use Rattle.fx_types.specs.Values.{field_list, row_list};
 ghost use Rattle.fx_types.specs.ValueView.{view};
-ghost use Rattle.view_text.specs.JsonText.{error_data, fields_data, number_data, rows_data, tagged, value_data};
+ghost use Rattle.view_text.specs.JsonText.{error_data, fields_data, number_data, rows_data, tagged};
+ghost use Rattle.view_text.specs.JsonText.{value_data};
 
 use fx_base::Memory;
 use fx_number::Num;

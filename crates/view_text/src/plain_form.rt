@@ -1,9 +1,11 @@
 //! The plain form of values.
 
-ghost use Rattle.std.specs.Prelude.{◌≡◌, ◌++◌, ◌∷◌, [], IfOk, OnOk, string_bytes, false, encode_utf8_all};
+ghost use Rattle.std.specs.Prelude.{◌≡◌, ◌++◌, ◌∷◌, [], IfOk, OnOk, string_bytes, false};
+ghost use Rattle.std.specs.Prelude.{encode_utf8_all};
 ghost use Rattle.fx_types.specs.Values.{field_list, row_list};
 ghost use Rattle.fx_types.specs.ValueView.{view};
-ghost use Rattle.view_text.specs.PlainText.{comma_if, double_quote_doubled, error_text, fields_text, plain_text, quoted_text, rows_text};
+ghost use Rattle.view_text.specs.PlainText.{comma_if, double_quote_doubled, error_text};
+ghost use Rattle.view_text.specs.PlainText.{fields_text, plain_text, quoted_text, rows_text};
 
 use fx_base::Memory;
 use fx_types::{Fields, Kind, Rows, Value, Words, date_text};
@@ -71,8 +73,8 @@ fn write_table(alloc: Global, out: &mut String, rows: &Rows) -> Result<(), Memor
     Ok(out.push(']')?)
 }
 
-// What stands before a part, where another part stands before it. A function, since an `if` that writes would part the
-// proof of each loop in two.
+// What stands before a part, where another part stands before it. A function, since an `if` that
+// writes would part the proof of each loop in two.
 fn write_comma(out: &mut String, later: bool) -> Result<(), Memory>
     ensures { OnOk result (string_bytes out.new ≡ string_bytes out.old ++ comma_if later) }
 {

@@ -2,7 +2,8 @@
 ghost use Rattle.std.specs.Prelude.{◌≡◌, IfOk, map, string_bytes};
 ghost use Rattle.std.specs.Int.{IsInRange};
 ghost use Rattle.serde_json.specs.View.{view as json_view};
-ghost use Rattle.view_text.specs.RefusalText.{Fits, detail_data, line_data, move_data, refusal_data, refusal_text, row_data};
+ghost use Rattle.view_text.specs.RefusalText.{Fits, detail_data, line_data, move_data};
+ghost use Rattle.view_text.specs.RefusalText.{refusal_data, refusal_text, row_data};
 
 use crate::Cause;
 use crate::json::tag;
@@ -18,7 +19,8 @@ pub struct Refusal {
     pub detail: Detail,
 }
 
-// By hand, so that it is called: what is derived is opened wherever a value may end, which costs proofs seconds each time.
+// By hand, so that it is called: what is derived is opened wherever a value may end, which costs
+// proofs seconds each time.
 impl Drop for Refusal {
     fn drop(self) {
         let Refusal { code: _, detail: _ } = self;
@@ -40,7 +42,8 @@ pub enum Detail {
     Move(Words, Words, Words),
 }
 
-// By hand, so that it is called: what is derived is opened wherever a value may end, which costs proofs seconds each time.
+// By hand, so that it is called: what is derived is opened wherever a value may end, which costs
+// proofs seconds each time.
 impl Drop for Detail {
     fn drop(self) {
         match self {
@@ -66,7 +69,8 @@ pub fn refusal_json(alloc: Global, refusal: &Refusal) -> Result<String, Memory>
     Ok(whole.to_string(alloc)?)
 }
 
-// Apart from its text: where `json!` and `to_string` stand in one body, what the macro made is lost to the proof.
+// Apart from its text: where `json!` and `to_string` stand in one body, what the macro made is lost
+// to the proof.
 fn refusal_object(alloc: Global, refusal: &Refusal) -> Result<Json, Memory>
     requires { IsInRange 1 28 refusal.now.code }
     ensures { IfOk result (λ v. json_view v ≡ refusal_data refusal.now) }

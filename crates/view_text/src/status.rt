@@ -2,8 +2,8 @@
 ghost use Rattle.std.specs.Prelude.{◌≡◌};
 ghost use Rattle.view_text.specs.Statuses.{reason_of};
 
-/// The reason that the status line of a reply gives: of 200, of the statuses of refusals, and of every other number that
-/// of 507.
+/// The reason that the status line of a reply gives: of 200, of the statuses of refusals, and of
+/// every other number that of 507.
 pub fn reason(status: u16) -> &'static str
     ensures { result.now ≡ reason_of status }
 {

@@ -3,7 +3,10 @@ ghost use Rattle.std.specs.Prelude.{◌≡◌, IfOk, map, string_bytes};
 ghost use Rattle.serde_json.specs.View.{view as json_view};
 ghost use Rattle.fx_types.specs.ValueView.{view as value_view};
 ghost use Rattle.view_text.specs.RefusalText.{id_data};
-ghost use Rattle.view_text.specs.ViewText.{control_data, event_data, event_text, gallery_data, item_control_data, item_data, items_data, items_text, kind_text, listed_data, shown_data, told_data, total_of, view_data, view_text};
+ghost use Rattle.view_text.specs.ViewText.{control_data, event_data, event_text, gallery_data};
+ghost use Rattle.view_text.specs.ViewText.{item_control_data, item_data, items_data, items_text};
+ghost use Rattle.view_text.specs.ViewText.{kind_text, listed_data, shown_data, told_data, total_of};
+ghost use Rattle.view_text.specs.ViewText.{view_data, view_text};
 
 use crate::json::{error_json, fields_json, value_json};
 use crate::refused::lines_json;
@@ -51,7 +54,8 @@ pub struct ItemView {
 }
 
 /// A visible control of a gallery's template, as it is for one item.
-// A type of its own, since no gallery stands in a gallery: so these types don't lead back to themselves.
+// A type of its own, since no gallery stands in a gallery: so these types don't lead back to
+// themselves.
 #[derive(Drop)]
 pub struct ItemControl {
     pub name: Words,
@@ -77,7 +81,8 @@ pub fn view_json(alloc: Global, view: &View) -> Result<String, Memory>
     Ok(whole.to_string(alloc)?)
 }
 
-/// The reply `{"items":[..],"total":2}`. An error stands in the place of the items, with the total 0.
+/// The reply `{"items":[..],"total":2}`. An error stands in the place of the items, with the total
+/// 0.
 pub fn items_json(alloc: Global, items: &Items) -> Result<String, Memory>
     ensures { IfOk result (λ s. string_bytes s ≡ items_text items.now) }
 {
@@ -85,7 +90,8 @@ pub fn items_json(alloc: Global, items: &Items) -> Result<String, Memory>
     Ok(whole.to_string(alloc)?)
 }
 
-/// The reply `{"notices":[..],"seq":1,"value":null}`, with the value where it is a scalar or an error.
+/// The reply `{"notices":[..],"seq":1,"value":null}`, with the value where it is a scalar or an
+/// error.
 pub fn event_json(
     alloc: Global,
     notices: &[Words],
