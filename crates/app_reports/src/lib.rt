@@ -1,4 +1,5 @@
-//! What is told of what the formulas of an app read, as JSON.
+//! What is told of the formulas of an app: what they read, as JSON, and where they take rows of
+//! tables, as JSON and as lines.
 #![tactic(auto)]
 
 mod graph;

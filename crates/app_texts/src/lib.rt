@@ -1,5 +1,6 @@
 //! From an app file, or a text of named formulas, to its formulas with their trees, or to the texts
-//! that are none.
+//! that are none; the places of an app where formulas may stand; and the formulas of an app in
+//! which one is replaced.
 #![tactic(auto)]
 
 pub mod copies;

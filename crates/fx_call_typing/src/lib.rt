@@ -1,5 +1,5 @@
-//! Typed trees of calls, acting ones too, by the table of functions. Passes on the parts of calls
-//! that others make too.
+//! Typed trees of calls, acting ones too, by the table of functions; and what the parts of a call
+//! break whatever else it breaks.
 #![tactic(auto)]
 
 pub mod calls;

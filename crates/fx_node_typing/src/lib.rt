@@ -1,5 +1,5 @@
-//! The typed tree of an operator, a form or a function of values, made of its parts as they were
-//! judged.
+//! The typed tree of a node, made of its parts as they were judged: an operator, a form or a
+//! function of values, or a record, a table or a deed within the limits of types.
 #![tactic(auto)]
 
 pub mod acting;

@@ -1,4 +1,5 @@
-//! Plans of queries, and query expressions in which the values of their constants stand for them.
+//! Plans of queries, query expressions in which the values of their constants stand for them, and
+//! formulas that take no more rows of a query expression than they may.
 #![tactic(auto)]
 
 mod call_names;

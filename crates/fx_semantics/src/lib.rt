@@ -1,4 +1,5 @@
-//! What typed trees are worth. This crate has definitions and laws alone.
+//! What typed trees are worth, where what acts may stand in them, and which types they name. This
+//! crate has definitions and laws alone.
 #![tactic(auto)]
 
 pub mod laws;

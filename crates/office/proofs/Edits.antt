@@ -15,7 +15,7 @@ use Rattle.session_state.specs.Sessions.{SessionState}
 use Rattle.app_cells.specs.declared.app.App.{App}
 use Rattle.app_cells.specs.declared.frame.Frame.{Frame}
 use Rattle.app_loader.specs.Edits.{IsLoaded}
-use Rattle.app_loader.specs.app_edits.Frames.{app_frame, without_items}
+use Rattle.app_loader.specs.app_texts.Frames.{app_frame, without_items}
 use Rattle.numbered_requests.specs.Checked.{SessionsKeepReplies}
 use Rattle.numbered_requests.specs.Replies.{KeepReplies}
 use Rattle.numbered_requests.specs.declared.directory.Named.{Named}

@@ -6,7 +6,7 @@ use Rattle.std.proofs.Math.Logic.{∥∥₁_map}
 use Rattle.std.proofs.lemmas.List.{length-map}
 use Rattle.app_cells.specs.declared.app.App.{App}
 use Rattle.app_cells.specs.declared.frame.Frame.{Frame}
-use Rattle.app_loader.specs.app_edits.Frames.{app_frame}
+use Rattle.app_loader.specs.app_texts.Frames.{app_frame}
 use Rattle.fx_scalar.specs.ScalarFunctions.{IsToday}
 use Rattle.fx_core.specs.declared.names.Names.{Names}
 use Rattle.recalc.specs.Carrying.{IsCarried, IsEditOf}

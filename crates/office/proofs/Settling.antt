@@ -4,7 +4,7 @@ use Rattle.fx_base.specs.Silence.{SilenceCause, Marks}
 use Rattle.fx_types.specs.Values.{Data}
 use Rattle.fx_core.specs.declared.names.Names.{Names}
 use Rattle.app_cells.specs.declared.app.App.{App}
-use Rattle.app_loader.specs.app_edits.Frames.{app_frame}
+use Rattle.app_loader.specs.app_texts.Frames.{app_frame}
 use Rattle.app_loader.specs.app_semantics.Sound.{IsSoundApp}
 use Rattle.app_wire.specs.Framing.{Asked}
 use Rattle.app_wire.specs.declared.route.Route.{Route}

@@ -1,7 +1,7 @@
 -- An app that is edited while it is served.
 use Rattle.std.specs.Prelude.{◌≡◌, ℕ, List, Ok}
 use Rattle.app_cells.specs.declared.app.App.{App}
-use Rattle.app_loader.specs.app_edits.Frames.{app_frame}
+use Rattle.app_loader.specs.app_texts.Frames.{app_frame}
 use Rattle.app_loader.specs.Verdicts.{AreSameBreaks}
 use Rattle.app_loader.specs.app_semantics.Sound.{IsSoundApp}
 use Rattle.app_wire.specs.Framing.{Asked}

@@ -1,7 +1,7 @@
 -- Offices are settled whenever a request comes.
 use Rattle.std.specs.Prelude.{◌≡◌, List, Option}
 use Rattle.app_cells.specs.declared.app.App.{App}
-use Rattle.app_loader.specs.app_edits.Frames.{app_frame}
+use Rattle.app_loader.specs.app_texts.Frames.{app_frame}
 use Rattle.app_loader.specs.app_semantics.Sound.{IsSoundApp}
 use Rattle.fx_base.specs.Silence.{Marks}
 use Rattle.row_keeper.specs.Tables.{Tables}

@@ -1,6 +1,6 @@
 //! A desk edits a formula.
 ghost use Rattle.std.specs.Prelude.{◌≡◌, ℕ, IfOk, OnErr, OnOk, Option};
-ghost use Rattle.app_loader.specs.app_edits.Frames.{app_frame};
+ghost use Rattle.app_loader.specs.app_texts.Frames.{app_frame};
 ghost use Rattle.app_loader.specs.Edits.{IsLoaded};
 ghost use Rattle.app_loader.specs.app_semantics.Sound.{IsSoundApp};
 ghost use Rattle.office.specs.Caches.{EachCacheBecame, AreKept, WentOver};

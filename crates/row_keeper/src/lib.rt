@@ -1,4 +1,5 @@
-//! What keeps rows, with transactions.
+//! What keeps rows, with transactions; and the rows of tables as values, with what queries of a
+//! keeper come to as such.
 #![tactic(auto)]
 
 pub mod answers;

@@ -1,7 +1,7 @@
 use Rattle.std.proofs.Common.{◌∙◌, List, Ok, ap, subst, sym}
 use Rattle.app_cells.specs.declared.app.App.{App}
 use Rattle.app_loader.specs.Edits.{IsLoaded, JudgedEdit}
-use Rattle.app_loader.specs.app_edits.Frames.{app_frame}
+use Rattle.app_loader.specs.app_texts.Frames.{app_frame}
 use Rattle.app_loader.specs.app_semantics.Sound.{IsSoundApp}
 use Rattle.fx_types.specs.Words.{scalars_of}
 use Rattle.numbered_requests.specs.Checked.{SessionsKeepReplies}
