@@ -24,8 +24,8 @@ HEAD = re.compile(r"(?:(?:abbrev|pub|unfoldable|opaque|data|record)\s+)*([^\s:()
 RUN = "fx_cli.run"
 PARTS = [
     ("The office, over any app and any meaning of formulas", [RUN, "app_wire.Doors", "app_wire.Clock", "fx_cli.Files", "fx_cli.Sink"], "What a run does with words, a file, conversations and rows. Which app a file is, what a formula is worth, what one does that acts, and how a keeper answers queries, is taken on trust: any meaning of these would do."),
-    ("What formulas mean", ["app_semantics.IsValueOf", "session_requests.Acts", "row_keeper.Keeper", "fx_core.Core", "fx_core.Fun"], "The value of a formula and what one does that acts, by recursion on its typed tree; the functions; and what a keeper's calls may do, queries among them. Which texts have which typed trees is taken on trust."),
-    ("What a file is", ["app_loader.JudgedApp", "app_loader.Judged", "app_loader.JudgedEdit", "app_semantics.IsSound", "session_requests.CanOpen", "app_plans.plan_text", "app_plans.checked_text", "app_reports.graph_text", "fx_core.Expr"], "Which bytes are an app, with which typed trees, or which rules they break; the same of a text of named formulas and of an edit; and what `check`, the plan and the graph tell of an app."),
+    ("What formulas mean", ["app_semantics.IsValueOf", "session_requests.PerformsCell", "row_keeper.Keeper", "fx_core.Core", "fx_core.Fun"], "The value of a formula and what one does that acts, by recursion on its typed tree; the functions; and what a keeper's calls may do, queries among them. Which texts have which typed trees is taken on trust."),
+    ("What a file is", ["app_loader.JudgedApp", "app_loader.Judged", "app_loader.JudgedEdit", "app_semantics.IsSoundApp", "session_requests.CanOpen", "app_reports.plan_text", "app_reports.checked_text", "app_reports.graph_text", "fx_core.Expr"], "Which bytes are an app, with which typed trees, or which rules they break; the same of a text of named formulas and of an edit; and what `check`, the plan and the graph tell of an app."),
     ("Beside the theorem: what stays clean, and what answering costs", ["office.LeavesClean", "office.LeavesActed", "office.LeavesStopped", "office.CostsAnswered"], "`run` promises nothing of this, since what is kept changes no reply: these are the clauses `clean`, `acted` and `costs` of `Office::answer`."),
 ]
 # The files with which the claims of docs/READING.md can be judged, all other names taken on trust.
@@ -40,16 +40,16 @@ CLAIMS = [
 STEPS = [
     ("Objects of the outside", ["fx_base", "app_wire/specs/Moments", "app_wire/specs/Doorway", "app_wire/src/clock", "app_wire/src/doors", "fx_cli/specs/Telling", "fx_cli/src/files", "fx_cli/src/sink"], "What a file, an output, doors and a clock tell of themselves, and what each of their calls may do."),
     ("Numbers, values and types", ["fx_number", "fx_types", "fx_value"], "Numbers are whole counts of ten-thousandths. Values and types are seen as plain data."),
-    ("Tokens, trees and the grammar", ["fx_lexer", "fx_core/specs/Tree", "fx_core/src/expr", "fx_grammar", "fx_printer", "fx_parser"], "From bytes to tokens, and from tokens to trees. `Grammar` has one case for each line of the grammar in `docs/LANGUAGE.md`."),
+    ("Tokens, trees and the grammar", ["fx_lexer", "fx_core/specs/Tree", "fx_core/src/expr", "fx_grammar", "fx_parser"], "From bytes to tokens, and from tokens to trees. `Grammar` has one case for each line of the grammar in `docs/LANGUAGE.md`."),
     ("Functions, typed trees and names", ["fx_core", "fx_sig"], "The table of functions, what each takes and answers, and typed trees. `Rows`, `Entries` and `functions.rt` are tables; hold them against `docs/LANGUAGE.md`."),
-    ("Typing", ["fx_typing", "fx_resolve", "fx_node_typing", "fx_nodes", "fx_row_changes", "fx_call_typing", "fx_diagnostics", "fx_infer"], "Which formulas are admitted, as which typed trees, and what is said of the others. `Details` is only about the words behind a broken rule. Acting calls are judged here too."),
+    ("Typing", ["fx_typing", "fx_resolve", "fx_node_typing", "fx_call_typing", "fx_diagnostics", "fx_infer"], "Which formulas are admitted, as which typed trees, and what is said of the others. `Details` is only about the words behind a broken rule. Acting calls are judged here too."),
     ("What functions answer", ["fx_primitives", "fx_scalar", "fx_tables"], "Each function of values and of tables, as a function or a relation on plain data."),
     ("What typed trees are worth", ["fx_semantics", "fx_env", "fx_eval"], "The value of a typed tree by recursion on it."),
     ("Rows and keepers", ["row_queries", "row_keeper", "fx_plan"], "What a query asks of rows, the rules of rows, and what a keeper tells and what each of its calls may do. `keeper.rt` is the trait `Keeper` with its clauses, which are a premise of `run`."),
     ("App files", ["app_file"], "The form of an app file, its limits, and what is read of it. Hold `FormOfApp` against `docs/APP_FILE.md`."),
-    ("Formulas of an app", ["app_cells", "app_texts", "app_names", "depend_graph", "app_edits", "app_loader", "app_plans", "app_reports"], "From what a file holds to an app or to what is broken, stage by stage: `Judged` of `app_loader` goes through them in their order; the app in which one formula is replaced; and what is told of where formulas take rows and of what each reads."),
+    ("Formulas of an app", ["app_cells", "app_texts", "app_names", "depend_graph", "app_loader", "app_reports"], "From what a file holds to an app or to what is broken, stage by stage: `Judged` of `app_loader` goes through them in their order; the app in which one formula is replaced; and what is told of where formulas take rows and of what each reads."),
     ("What the formulas of an app are worth", ["session_state", "app_semantics", "recalc", "session_views"], "What a session keeps, and the values of an app's formulas over it, whatever their order."),
-    ("What formulas do that act", ["fx_places", "fx_deeds", "fx_behave", "session_requests/specs/Performing", "session_requests/specs/WorldContext", "session_requests/specs/Opening", "session_requests/specs/Requests", "session_requests/specs/Running", "session_requests/specs/Scenes", "session_requests/specs/Triggers", "session_requests/src/trigger", "session_requests/specs/WrittenWhole", "session_requests/specs/Writable"], "What each function that acts makes of tables and a session, what a formula does by recursion on its tree, and what runs in one request."),
+    ("What formulas do that act", ["fx_deeds", "fx_behave", "session_requests/specs/Performing", "session_requests/specs/WorldContext", "session_requests/specs/Opening", "session_requests/specs/Requests", "session_requests/specs/Running", "session_requests/specs/Scenes", "session_requests/specs/Triggers", "session_requests/src/trigger", "session_requests/specs/WrittenWhole", "session_requests/specs/Writable"], "What each function that acts makes of tables and a session, what a formula does by recursion on its tree, and what runs in one request."),
     ("Requests and replies", ["app_wire", "view_text", "numbered_requests"], "From bytes to requests, from requests to routes, from replies to bytes, and the checks of numbered requests."),
     ("Requests of rows and of sessions", ["row_requests", "session_requests", "office/specs/DeskEdits"], "The bodies of posted requests, what a desk's changes do to tables and its edits to the app, pages of rows, and what a session's inputs and events do."),
     ("The office", ["office"], "What one request does, and what a whole conversation is."),
@@ -179,9 +179,10 @@ def place_of(path):
     crate, part, rest = parts[1], parts[2], parts[3:]
     if part != "specs":
         return None
-    # (a crate may pass on the definitions of another under that one's name)
-    if os.path.isdir(os.path.join(CRATES, rest[0])):
-        return place_of(".".join(["Rattle", rest[0], "specs", *rest[1:]]))
+    # (a crate may pass on the definitions of another, under a name that stands in its list of modules)
+    passed = FILES[f"{crate}/specs/Lib"].uses.get(rest[0]) if f"{crate}/specs/Lib" in FILES else None
+    if passed:
+        return place_of(".".join([passed, *rest[1:]]))
     if rest[0] in ("declared", "contracts"):
         rest = [it for it in rest[1:] if it not in ("TheVariants", "the_row")]
         for at in range(len(rest), 0, -1):
