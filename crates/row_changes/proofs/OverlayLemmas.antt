@@ -19,9 +19,6 @@ use Rattle.row_changes.specs.declared.table.TableChanges.{TableChanges}
 pub same_number : (id i : ℕ) → is_at (nat_cmp id) i ≡ (id == i)
 same_number id i = sym (unsigned_ties id i)
 
-flips : (a b : ℕ) → (a == b) ≡ (b == a)
-flips a b = grind (arith, nat_tests)
-
 pub apart : (a b : ℕ) → a ≢ b → (a == b) ≡ false
 apart a b n = grind (arith, nat_tests)
 
