@@ -6,7 +6,11 @@ use std::net::{Shutdown, TcpListener, TcpStream};
 use std::rt::HostRuntime;
 use std::time::{Duration, Instant};
 
-/// How many seconds a client has to send its request, and again to take the reply.
+/// How many seconds a client has to send the first byte of its request. Browsers open connections
+/// that they may never use, and each holds up all others for so long.
+const FIRST_PATIENCE: u64 = 1;
+
+/// How many seconds a client has to send its whole request, and again to take the reply.
 const PATIENCE: u64 = 10;
 
 /// How many milliseconds a client has to close its side behind the reply.
@@ -22,6 +26,9 @@ const MOST_GONE: u32 = 1_000;
 #[derive(Drop)]
 pub struct Client {
     stream: TcpStream,
+    /// By when more of the request has to come.
+    next_by: Instant,
+    /// By when the whole request has to be there.
     asked_by: Instant,
     /// None until a reply is begun.
     answered_by: Option<Instant>,
@@ -48,6 +55,7 @@ fn accept(rt: &HostRuntime, listener: &TcpListener) -> io::Result<Client> {
     let (stream, _) = listener.accept()?;
     Ok(Client {
         stream,
+        next_by: moment_in(rt, Duration::from_secs(FIRST_PATIENCE))?,
         asked_by: moment_in(rt, Duration::from_secs(PATIENCE))?,
         answered_by: None,
     })
@@ -69,9 +77,12 @@ impl Client {
     pub fn read(&mut self, rt: &HostRuntime, room: &mut [u8]) -> io::Result<usize>
         ensures { ReadsAtMost result room.new }
     {
-        let left = time_until(rt, self.asked_by)?;
+        let left = time_until(rt, self.next_by)?;
         self.stream.set_read_timeout(Some(left))?;
-        self.stream.read(room)
+        let count = self.stream.read(room)?;
+        // It has begun its request.
+        self.next_by = self.asked_by;
+        Ok(count)
     }
 
     /// Writes some bytes, while there is time for the reply.
@@ -96,6 +107,7 @@ impl Client {
         if self.stream.shutdown(Shutdown::Write).is_err() {
             return;
         }
+        self.next_by = by;
         self.asked_by = by;
         let mut rest = [0u8; 16_384];
         for _ in 0..LAST_READS {
