@@ -1,0 +1,5 @@
+pub mod Statements
+pub mod Marked
+pub mod Plan
+pub mod Shown
+pub mod Written
