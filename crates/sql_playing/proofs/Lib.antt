@@ -1,0 +1,4 @@
+pub mod HoldLemmas
+pub mod PlayLemmas
+pub mod RunLemmas
+pub mod RefusalLemmas
