@@ -1,0 +1,4 @@
+pub mod Decoded
+pub mod Model
+pub mod Steady
+pub mod Laws

@@ -1,0 +1,4 @@
+//! What a keeper of rows over a connection of SQLite is seen as, and what it tells.
+#![tactic(auto)]
+
+pub mod laws;
