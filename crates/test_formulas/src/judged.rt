@@ -1,75 +1,95 @@
-//! Formulas with their types and typed trees, or with the rules that they break.
+//! Formulas with what they come to as they are judged, or with the rules that they break.
 ghost use Rattle.std.specs.Prelude.{◌≤◌};
 ghost use Rattle.fx_infer.specs.Below.{tree_depth};
+ghost use Rattle.fx_core.specs.Lawful.{IsLawfulSchema};
 
-use crate::limits::limits_text;
+use crate::answer::{Answer, Stop};
 use crate::place::place_formula;
-use crate::queries::queries_text;
-use crate::rounds::rounds_text;
-use crate::stop::Stop;
-use crate::tree::{DEPTH, tree_text};
-use crate::types::type_text;
+use crate::queries::write_queries;
+use crate::rounds::write_rounds;
+use crate::tree::{DEPTH, write_tree};
+use crate::types::write_type;
 use app_names::is_lawful;
-use fx_base::Memory;
-use fx_core::line as broken_line;
 use fx_core::names::Names;
+use fx_core::schema::Schema;
+use fx_core::{Core, line as broken_line};
 use fx_infer::{InferEnd, Written, elaborate};
-use std::alloc::Global;
-use std::io::{self, ErrorKind};
+use fx_plan::limit_queries;
+use fx_types::types::Ty;
 
-/// What is written of a line.
-pub fn row(alloc: Global, names: &Names, line: &str) -> io::Result<String> {
+/// The row limit.
+const LIMIT: u32 = 500;
+
+/// What is written of a formula.
+#[derive(Clone, Copy)]
+enum Shown {
+    /// Its type and its typed tree.
+    Tree,
+    /// What it asks of the rows of tables.
+    Queries,
+    /// The tree in which query expressions that aren't taken whole give their first rows.
+    Limits,
+}
+
+/// Writes a line with its answer.
+pub fn write_row(answer: &mut Answer, names: &Names, line: &str) {
+    answer.add(line);
     if line.is_empty() || line.starts_with("#") {
-        return Ok(String::from_str(alloc, line)?);
+        return;
     }
-    match answer_line(alloc, names, line) {
-        Ok(text) => Ok(text),
-        Err(Memory) => Err(ErrorKind::OutOfMemory.into()),
-    }
-}
-
-/// A formula, or an app, with what is answered of it.
-fn answer_line(alloc: Global, names: &Names, line: &str) -> Result<String, Memory> {
-    match answer(alloc, names, line) {
-        Ok(answer) => Ok(format!(in alloc; "{line} -> {answer}")?),
-        Err(Stop::NoRow) => Ok(format!(in alloc; "{line} is no row of this table")?),
-        Err(Stop::Memory) => Err(Memory),
+    answer.add(" -> ");
+    let (place, text) = line.split_once(" ").unwrap_or((line, ""));
+    match place {
+        "rounds" => write_rounds(answer, text),
+        "queries" => write_formula(answer, names, Shown::Queries, "acts", text),
+        "limits" => write_formula(answer, names, Shown::Limits, "acts", text),
+        _ => write_formula(answer, names, Shown::Tree, place, text),
     }
 }
 
-/// The type and the tree of a formula, or the rule that it breaks; or the types of an app, or what
-/// a formula asks.
-fn answer(alloc: Global, names: &Names, line: &str) -> Result<String, Stop> {
-    let Some((place, text)) = line.split_once(" ") else {
-        return Err(Stop::NoRow);
-    };
-    if place == "rounds" {
-        return rounds_text(alloc, text);
+/// Writes what a formula comes to in the place of this word.
+fn write_formula(answer: &mut Answer, names: &Names, shown: Shown, place: &str, text: &str) {
+    match place_formula(answer.alloc, place, text) {
+        Ok(cell) => judge(answer, names, shown, &cell),
+        Err(why) => answer.stop(why),
     }
-    if place == "queries" {
-        return queries_text(alloc, names, text);
-    }
-    if place == "limits" {
-        return limits_text(alloc, names, text);
-    }
-    let cell = place_formula(alloc, place, text)?;
-    judge(alloc, names, &cell)
 }
 
-/// The type and the tree of a formula where it is written, or the rule that it breaks.
-fn judge(alloc: Global, names: &Names, cell: &Written) -> Result<String, Stop>
+/// Writes what a formula comes to where it is written, or the rule that it breaks.
+fn judge(answer: &mut Answer, names: &Names, shown: Shown, cell: &Written)
     requires { tree_depth cell.now.expr ≤ 64 }
 {
     if !is_lawful(names) {
-        return Err(Stop::NoRow);
+        return answer.stop(Stop::NoRow);
     }
-    match elaborate(alloc, names, cell) {
-        Ok(typed) => {
-            let ty = type_text(alloc, &typed.ty, DEPTH)?;
-            let tree = tree_text(alloc, &typed.core, DEPTH)?;
-            Ok(format!(in alloc; "{ty} by {tree}")?)
+    match elaborate(answer.alloc, names, cell) {
+        Ok(typed) => write_typed(answer, &names.schema, shown, &typed.ty, &typed.core),
+        Err(InferEnd::Broken(broken)) => answer.add_made(broken_line(answer.alloc, &broken)),
+        Err(InferEnd::Memory) => answer.stop(Stop::Memory),
+    }
+}
+
+/// Writes what is to be shown of a formula.
+fn write_typed(answer: &mut Answer, schema: &Schema, shown: Shown, ty: &Ty, core: &Core)
+    requires { IsLawfulSchema schema.now }
+{
+    match shown {
+        Shown::Tree => {
+            write_type(answer, ty, DEPTH);
+            answer.add(" by ");
+            write_tree(answer, core, DEPTH);
         }
-        Err(InferEnd::Broken(broken)) => Ok(broken_line(alloc, &broken)?),
-        Err(InferEnd::Memory) => Err(Stop::Memory),
+        Shown::Queries => write_queries(answer, schema, core),
+        Shown::Limits => write_limited(answer, schema, core),
+    }
+}
+
+/// Writes the tree in which no more rows are taken than may be.
+fn write_limited(answer: &mut Answer, schema: &Schema, core: &Core)
+    requires { IsLawfulSchema schema.now }
+{
+    match limit_queries(answer.alloc, schema, LIMIT, core) {
+        Ok(core) => write_tree(answer, &core, DEPTH),
+        Err(_) => answer.stop(Stop::Memory),
     }
 }

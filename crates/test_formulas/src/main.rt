@@ -8,39 +8,55 @@
 //! of `#` are written as they are.
 #![tactic(auto)]
 
+mod answer;
 mod apps;
 mod context;
 mod judged;
-mod limits;
+mod names;
 mod place;
 mod printed;
 mod queries;
 mod rounds;
-mod stop;
 mod tree;
 mod types;
 
+use crate::answer::{Answer, Stop};
 use crate::context::context;
+use fx_core::names::Names;
 use std::io::{self, ErrorKind};
 
 fn main(rt: HostRuntime) -> io::Result<()> {
-    let names = match context(rt.alloc()) {
-        Ok(names) => names,
-        Err(_) => return Err(ErrorKind::OutOfMemory.into()),
-    };
+    match context(rt.alloc()) {
+        Ok(names) => print_rows(rt, &names),
+        Err(_) => Err(ErrorKind::OutOfMemory.into()),
+    }
+}
+
+/// Prints what is written of each line.
+fn print_rows(rt: HostRuntime, names: &Names) -> io::Result<()> {
     let mut are_typed = false;
     for line in rt.lines(rt.alloc()) {
         let line = line?;
         if line.as_str() == "== types" {
             are_typed = true;
-            continue;
-        }
-        let row = if are_typed {
-            judged::row(rt.alloc(), &names, line.as_str())?
         } else {
-            printed::row(rt.alloc(), line.as_str())?
-        };
-        println!(rt; "{row}")?;
+            let mut answer = Answer::new(rt.alloc());
+            if are_typed {
+                judged::write_row(&mut answer, names, line.as_str());
+            } else {
+                printed::write_row(&mut answer, line.as_str());
+            }
+            print_answer(rt, line.as_str(), answer)?;
+        }
     }
     Ok(())
+}
+
+/// Prints what is answered to a line.
+fn print_answer(rt: HostRuntime, line: &str, answer: Answer) -> io::Result<()> {
+    match answer.finish() {
+        Ok(text) => println!(rt; "{text}"),
+        Err(Stop::NoRow) => println!(rt; "{line} is no row of this table"),
+        Err(Stop::Memory) => Err(ErrorKind::OutOfMemory.into()),
+    }
 }

@@ -2,24 +2,50 @@
 ghost use Rattle.std.specs.Prelude.{◌≤◌, IfOk};
 ghost use Rattle.fx_infer.specs.Below.{tree_depth};
 
-use crate::stop::Stop;
+use crate::answer::Stop;
+use crate::names::LIST;
 use fx_infer::{Place, Written, no_deeper};
 use fx_parser::{ParseEnd, parse_formula};
 use fx_types::types::{Columns, Ty};
 use fx_types::words::Words;
 use std::alloc::Global;
 
+/// The type that is wanted in a place.
+#[derive(Clone, Copy)]
+pub enum Wanted {
+    Any,
+    Number,
+    Text,
+    Boolean,
+    Date,
+    Table,
+}
+
+impl Wanted {
+    /// The type, where one is wanted. Any table is wanted as one without columns.
+    fn ty(self, alloc: Global) -> Option<Ty> {
+        match self {
+            Wanted::Any => None,
+            Wanted::Number => Some(Ty::Number),
+            Wanted::Text => Some(Ty::Text),
+            Wanted::Boolean => Some(Ty::Boolean),
+            Wanted::Date => Some(Ty::Date),
+            Wanted::Table => Some(Ty::Tab(Columns::new(alloc))),
+        }
+    }
+}
+
 /// A place of a formula.
-#[derive(Drop)]
+#[derive(Clone, Copy)]
 pub struct Spot {
     /// The number of its screen.
-    pub screen: Option<u32>,
+    screen: Option<u32>,
     /// The number of the gallery whose item it sees.
-    pub item: Option<u32>,
+    item: Option<u32>,
     /// What it allows.
-    pub kind: Place,
+    kind: Place,
     /// The type that is wanted there.
-    pub wanted: Option<Ty>,
+    wanted: Wanted,
 }
 
 impl Spot {
@@ -29,45 +55,58 @@ impl Spot {
             screen,
             item,
             kind: Place::Acting,
-            wanted: None,
+            wanted: Wanted::Any,
         }
     }
 
-    /// A place of a value.
-    pub fn pure(screen: Option<u32>, item: Option<u32>, wanted: Option<Ty>) -> Spot {
+    /// A place of a value on the first screen.
+    pub fn value(item: Option<u32>, wanted: Wanted) -> Spot {
         Spot {
-            screen,
+            screen: Some(0),
             item,
             kind: Place::Pure,
             wanted,
         }
     }
+
+    /// The place of a named formula.
+    pub fn named() -> Spot {
+        Spot {
+            screen: None,
+            item: None,
+            kind: Place::Pure,
+            wanted: Wanted::Any,
+        }
+    }
+
+    /// The place that a word names: `pure`, on the first screen; `item`, in the template of the
+    /// gallery; `acts`, a behaviour formula of the first screen, and `start` one of none; or a type
+    /// that is wanted on the first screen.
+    fn of(word: &str) -> Option<Spot> {
+        let spot = match word {
+            "pure" => Spot::value(None, Wanted::Any),
+            "item" => Spot::value(Some(LIST), Wanted::Any),
+            "acts" => Spot::behaviour(Some(0), None),
+            "start" => Spot::behaviour(None, None),
+            "number" => Spot::value(None, Wanted::Number),
+            "text" => Spot::value(None, Wanted::Text),
+            "boolean" => Spot::value(None, Wanted::Boolean),
+            "date" => Spot::value(None, Wanted::Date),
+            "table" => Spot::value(None, Wanted::Table),
+            _ => return None,
+        };
+        Some(spot)
+    }
 }
 
-/// Any table, as it is wanted.
-pub fn any_table(alloc: Global) -> Ty {
-    Ty::Tab(Columns::new(alloc))
-}
-
-/// A formula in the place that this word names: `pure`, on the first screen; `item`, in the
-/// template of the gallery; `acts`, a behaviour formula of the first screen, and `start` one of
-/// none; or a type that is wanted of it on the first screen.
-pub fn place_formula(alloc: Global, place: &str, text: &str) -> Result<Written, Stop>
+/// A formula in the place that this word names.
+pub fn place_formula(alloc: Global, word: &str, text: &str) -> Result<Written, Stop>
     ensures shallow { IfOk result (λ w. tree_depth w.expr ≤ 64) }
 {
-    let spot = match place {
-        "pure" => Spot::pure(Some(0), None, None),
-        "item" => Spot::pure(Some(0), Some(4), None),
-        "acts" => Spot::behaviour(Some(0), None),
-        "start" => Spot::behaviour(None, None),
-        "number" => Spot::pure(Some(0), None, Some(Ty::Number)),
-        "text" => Spot::pure(Some(0), None, Some(Ty::Text)),
-        "boolean" => Spot::pure(Some(0), None, Some(Ty::Boolean)),
-        "date" => Spot::pure(Some(0), None, Some(Ty::Date)),
-        "table" => Spot::pure(Some(0), None, Some(any_table(alloc))),
-        _ => return Err(Stop::NoRow),
-    };
-    write_formula(alloc, "F", spot, text)
+    match Spot::of(word) {
+        Some(spot) => write_formula(alloc, "F", spot, text),
+        None => Err(Stop::NoRow),
+    }
 }
 
 /// A formula of this text, in the cell of this address.
@@ -78,12 +117,13 @@ pub fn write_formula(alloc: Global, cell: &str, spot: Spot, text: &str) -> Resul
     if text.len() >= 4_294_967_296 {
         return Err(Stop::NoRow);
     }
+    let cell = Words::of(alloc, cell)?;
     match parse_formula(alloc, text) {
         Ok(expr) => Ok(Written {
-            cell: Words::of(alloc, cell)?,
+            cell,
             screen: spot.screen,
             item: spot.item,
-            wanted: spot.wanted,
+            wanted: spot.wanted.ty(alloc),
             place: spot.kind,
             expr,
         }),

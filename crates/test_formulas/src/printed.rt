@@ -1,58 +1,51 @@
 //! Formulas as they are printed.
 ghost use Rattle.std.specs.Prelude.{◌<◌, ◌^◌, length};
 
-use fx_base::Memory;
+use crate::answer::{Answer, Stop};
 use fx_core::expr::Expr;
 use fx_parser::{ParseEnd, ReadBackEnd, bad_token, parse_formula, print, read_back, syntax_detail};
-use std::alloc::Global;
-use std::io::{self, ErrorKind};
 
-/// What is written of a line.
-pub fn row(alloc: Global, line: &str) -> io::Result<String> {
+/// Writes a formula as it is printed, or the rule that it breaks.
+pub fn write_row(answer: &mut Answer, line: &str) {
     if line.len() >= 4_294_967_296 {
-        return Err(ErrorKind::InvalidInput.into());
+        return answer.stop(Stop::NoRow);
     }
-    match print_line(alloc, line) {
-        Ok(text) => Ok(text),
-        Err(Memory) => Err(ErrorKind::OutOfMemory.into()),
-    }
-}
-
-/// A formula as it is printed, or the rule that it breaks.
-fn print_line(alloc: Global, source: &str) -> Result<String, Memory>
-    requires { length source.now < 2 ^ 32 }
-{
-    match parse_formula(alloc, source) {
-        Ok(tree) => show(alloc, &tree),
-        Err(end) => break_text(alloc, source, end),
+    match parse_formula(answer.alloc, line) {
+        Ok(tree) => write_printed(answer, &tree),
+        Err(end) => write_break(answer, line, end),
     }
 }
 
-/// A formula as it is printed, where it can be read back from that text.
-fn show(alloc: Global, tree: &Expr) -> Result<String, Memory> {
-    match read_back(alloc, tree) {
-        Ok(_) => print(alloc, tree),
-        Err(ReadBackEnd::Parse(ParseEnd::Memory)) => Err(Memory),
-        Err(_) => Ok(format!(in alloc; "Formula: not read back")?),
+/// Writes a formula as it is printed, where it can be read back from that text.
+fn write_printed(answer: &mut Answer, tree: &Expr) {
+    match read_back(answer.alloc, tree) {
+        Ok(_) => answer.add_made(print(answer.alloc, tree)),
+        Err(ReadBackEnd::Parse(ParseEnd::Memory)) => answer.stop(Stop::Memory),
+        Err(_) => answer.add("Formula: not read back"),
     }
 }
 
-/// The rule that a text breaks, as a refusal says it.
-fn break_text(alloc: Global, source: &str, end: ParseEnd) -> Result<String, Memory>
+/// Writes the rule that a text breaks, as a refusal says it.
+fn write_break(answer: &mut Answer, source: &str, end: ParseEnd)
     requires { length source.now < 2 ^ 32 }
 {
     match end {
         ParseEnd::Lex(bad) => {
-            let what = bad_token(bad.what);
-            Ok(format!(in alloc; "Formula: E1 BadToken at {}: {what}", bad.at)?)
+            answer.add_made(format!(in answer.alloc; "Formula: E1 BadToken at {}: ", bad.at));
+            answer.add(bad_token(bad.what));
         }
         ParseEnd::Syntax(at) => {
-            let what = syntax_detail(alloc, source, at)?;
-            Ok(format!(in alloc; "Formula: E2 Syntax at {at}: {}", what.as_str())?)
+            answer.add_made(format!(in answer.alloc; "Formula: E2 Syntax at {at}: "));
+            match syntax_detail(answer.alloc, source, at) {
+                Ok(what) => answer.add(what.as_str()),
+                Err(_) => answer.stop(Stop::Memory),
+            }
         }
-        ParseEnd::TooDeep(at) => Ok(format!(in alloc;
-            "Formula: E3 TooDeep at {at}: deeper than 64"
-        )?),
-        ParseEnd::Memory => Err(Memory),
+        ParseEnd::TooDeep(at) => {
+            answer.add_made(format!(in answer.alloc;
+                "Formula: E3 TooDeep at {at}: deeper than 64"
+            ));
+        }
+        ParseEnd::Memory => answer.stop(Stop::Memory),
     }
 }

@@ -4,128 +4,119 @@ ghost use Rattle.fx_infer.specs.Below.{tree_depth};
 ghost use Rattle.fx_infer.specs.declared.elaboration.Written.{Written};
 ghost use Rattle.fx_core.specs.Lawful.{IsLawful};
 
+use crate::answer::{Answer, Stop};
 use crate::apps::{App, app_of};
-use crate::stop::Stop;
 use crate::tree::DEPTH;
-use crate::types::type_text;
+use crate::types::write_type;
 use app_names::is_lawful;
 use fx_core::line as broken_line;
-use fx_core::names::{Names, Variable};
+use fx_core::names::Names;
 use fx_infer::{InferEnd, Written, elaborate, type_rounds};
 use fx_types::types::Ty;
-use std::alloc::Global;
 
-/// The final types of the names of the app of these parts, and behind them the rule that each
-/// formula breaks which breaks one; or that the types don't settle.
-pub fn rounds_text(alloc: Global, parts: &str) -> Result<String, Stop> {
-    let App { names, cells } = app_of(alloc, parts)?;
-    if !is_lawful(&names) {
-        return Err(Stop::NoRow);
-    }
-    match type_rounds(alloc, names, &cells) {
-        Ok(names) => settled_text(alloc, &names, &cells),
-        Err(InferEnd::Broken(broken)) => Ok(broken_line(alloc, &broken)?),
-        Err(InferEnd::Memory) => Err(Stop::Memory),
+/// The property of a gallery that gives its rows.
+const ITEMS: &str = "Items";
+
+/// Writes the final types of the names of the app of these parts, and behind them the rule that
+/// each formula breaks which breaks one; or that the types don't settle.
+pub fn write_rounds(answer: &mut Answer, parts: &str) {
+    match app_of(answer.alloc, parts) {
+        Ok(app) => settle(answer, app),
+        Err(why) => answer.stop(why),
     }
 }
 
-/// The types of names, and the rules that formulas break.
-fn settled_text(alloc: Global, names: &Names, cells: &[Written]) -> Result<String, Stop>
+/// Writes the same of an app.
+fn settle(answer: &mut Answer, app: App) {
+    let App { names, cells } = app;
+    if !is_lawful(&names) {
+        return answer.stop(Stop::NoRow);
+    }
+    match type_rounds(answer.alloc, names, &cells) {
+        Ok(names) => write_settled(answer, &names, &cells),
+        Err(InferEnd::Broken(broken)) => answer.add_made(broken_line(answer.alloc, &broken)),
+        Err(InferEnd::Memory) => answer.stop(Stop::Memory),
+    }
+}
+
+/// Writes the types of names, and the rules that formulas break.
+fn write_settled(answer: &mut Answer, names: &Names, cells: &[Written])
     requires lawful { IsLawful names.now }
     requires shallow { All (λ (c : Written). tree_depth c.expr ≤ 256) cells.now }
 {
-    let mut text = String::new(alloc);
-    add_variables(alloc, &mut text, names)?;
+    write_variables(answer, names);
     for collection in names.collections.as_slice() {
-        add_type(alloc, &mut text, collection.name.as_str(), &collection.ty)?;
+        write_entry(answer, "", collection.name.as_str(), &collection.ty);
     }
     for formula in names.formulas.as_slice() {
-        add_type(alloc, &mut text, formula.name.as_str(), &formula.ty)?;
+        write_entry(answer, "", formula.name.as_str(), &formula.ty);
     }
-    add_items(alloc, &mut text, names)?;
-    add_breaks(alloc, &mut text, names, cells)?;
-    Ok(text)
+    write_items(answer, names);
+    write_breaks(answer, names, cells);
 }
 
-/// Adds the types of variables, of which those of screens are named with them.
-fn add_variables(alloc: Global, text: &mut String, names: &Names) -> Result<(), Stop> {
+/// Writes the types of variables, of which those of screens are named with them.
+fn write_variables(answer: &mut Answer, names: &Names) {
     for variable in names.variables.as_slice() {
-        let name = variable_name(alloc, names, variable)?;
-        add_type(alloc, text, name.as_str(), &variable.ty)?;
+        let screen = screen_name(names, variable.screen);
+        write_entry(answer, screen, variable.name.as_str(), &variable.ty);
     }
-    Ok(())
 }
 
-/// The name of a variable, behind that of its screen.
-fn variable_name(alloc: Global, names: &Names, variable: &Variable) -> Result<String, Stop> {
-    let name = variable.name.as_str();
-    let Some(number) = variable.screen else {
-        return Ok(String::from_str(alloc, name)?);
+/// The name of a screen, or nothing.
+fn screen_name(names: &Names, screen: Option<u32>) -> &str {
+    let Some(number) = screen else {
+        return "";
     };
     match names.screens.get(number as usize) {
-        Some(screen) => {
-            let screen = screen.as_str();
-            Ok(format!(in alloc; "{screen}.{name}")?)
-        }
-        None => Err(Stop::NoRow),
+        Some(name) => name.as_str(),
+        None => "",
     }
 }
 
-/// Adds the types of the items of galleries that have a formula of them.
-fn add_items(alloc: Global, text: &mut String, names: &Names) -> Result<(), Stop> {
+/// Writes the types of the items of galleries that have a formula of them.
+fn write_items(answer: &mut Answer, names: &Names) {
     for property in names.properties.as_slice() {
-        let Some(control) = names.controls.get(property.control as usize) else {
-            return Err(Stop::NoRow);
-        };
-        let gallery = control.name.as_str();
-        let property = property.name.as_str();
-        let name = format!(in alloc; "{gallery}.{property}")?;
-        add_type(alloc, text, name.as_str(), &control.items)?;
-    }
-    Ok(())
-}
-
-/// The rule that a formula breaks, if it breaks one.
-fn break_text(alloc: Global, names: &Names, cell: &Written) -> Result<Option<String>, Stop>
-    requires lawful { IsLawful names.now }
-    requires shallow { tree_depth cell.now.expr ≤ 256 }
-{
-    match elaborate(alloc, names, cell) {
-        Ok(_) => Ok(None),
-        Err(InferEnd::Broken(broken)) => Ok(Some(broken_line(alloc, &broken)?)),
-        Err(InferEnd::Memory) => Err(Stop::Memory),
+        if property.name.as_str() == ITEMS {
+            match names.controls.get(property.control as usize) {
+                Some(control) => write_entry(answer, control.name.as_str(), ITEMS, &control.items),
+                None => answer.stop(Stop::NoRow),
+            }
+        }
     }
 }
 
-/// Adds the rules that formulas break.
-fn add_breaks(
-    alloc: Global,
-    text: &mut String,
-    names: &Names,
-    cells: &[Written],
-) -> Result<(), Stop>
+/// Writes the type of a name, behind that of the screen or control which it is of.
+fn write_entry(answer: &mut Answer, owner: &str, name: &str, ty: &Ty) {
+    answer.begin_entry();
+    answer.add(owner);
+    answer.add(if owner.is_empty() { "" } else { "." });
+    answer.add(name);
+    answer.add(": ");
+    write_type(answer, ty, DEPTH);
+}
+
+/// Writes the rules that formulas break.
+fn write_breaks(answer: &mut Answer, names: &Names, cells: &[Written])
     requires lawful { IsLawful names.now }
     requires shallow { All (λ (c : Written). tree_depth c.expr ≤ 256) cells.now }
 {
     for cell in cells {
-        if let Some(entry) = break_text(alloc, names, cell)? {
-            add_entry(text, entry.as_str())?;
+        write_break(answer, names, cell);
+    }
+}
+
+/// Writes the rule that a formula breaks, if it breaks one.
+fn write_break(answer: &mut Answer, names: &Names, cell: &Written)
+    requires lawful { IsLawful names.now }
+    requires shallow { tree_depth cell.now.expr ≤ 256 }
+{
+    match elaborate(answer.alloc, names, cell) {
+        Ok(_) => {}
+        Err(InferEnd::Broken(broken)) => {
+            answer.begin_entry();
+            answer.add_made(broken_line(answer.alloc, &broken));
         }
+        Err(InferEnd::Memory) => answer.stop(Stop::Memory),
     }
-    Ok(())
-}
-
-/// Adds a name with its type.
-fn add_type(alloc: Global, text: &mut String, name: &str, ty: &Ty) -> Result<(), Stop> {
-    let ty = type_text(alloc, ty, DEPTH)?;
-    add_entry(text, format!(in alloc; "{name}: {ty}")?.as_str())
-}
-
-/// Adds an entry behind the others.
-fn add_entry(text: &mut String, entry: &str) -> Result<(), Stop> {
-    if !text.is_empty() {
-        text.push_str(" | ")?;
-    }
-    text.push_str(entry)?;
-    Ok(())
 }

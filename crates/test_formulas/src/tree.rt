@@ -1,113 +1,104 @@
 //! Typed trees as texts.
 
-use crate::stop::Stop;
-use crate::types::type_text;
+use crate::answer::{Answer, Stop};
+use crate::types::write_type;
 use fx_core::deeds::Deed;
-use fx_core::{Core, CoreNode};
+use fx_core::{Core, CoreNode, Fun};
 use fx_types::words::Words;
-use std::alloc::Global;
 use view_text::plain;
 
 /// The deepest tree and type that is written.
 pub const DEPTH: u32 = 100;
 
-/// A typed tree as a text: a function with its parts, `as` before the type that a part is coerced
-/// to.
+/// Writes a typed tree: a function with its parts, `as` before the type that a part is coerced to.
 #[cycle(tree)]
-pub fn tree_text(alloc: Global, core: &Core, depth: u32) -> Result<String, Stop> {
+pub fn write_tree(answer: &mut Answer, core: &Core, depth: u32) {
     if depth == 0 {
-        return Err(Stop::NoRow);
+        return answer.stop(Stop::NoRow);
     }
     let depth = depth - 1;
     match &core.node {
-        CoreNode::Const(value) => Ok(plain(alloc, value)?),
-        CoreNode::Read(source) => Ok(format!(in alloc; "{source:?}")?),
-        CoreNode::Row(place) => Ok(format!(in alloc; "Row({place})")?),
-        CoreNode::Item => Ok(String::from_str(alloc, "Item")?),
-        CoreNode::Caught => Ok(String::from_str(alloc, "Caught")?),
+        CoreNode::Const(value) => answer.add_made(plain(answer.alloc, value)),
+        CoreNode::Read(source) => answer.add_made(format!(in answer.alloc; "{source:?}")),
+        CoreNode::Row(place) => answer.add_made(format!(in answer.alloc; "Row({place})")),
+        CoreNode::Item => answer.add("Item"),
+        CoreNode::Caught => answer.add("Caught"),
         CoreNode::Dot(part, name) => {
-            let part = tree_text(alloc, part, depth)?;
-            let name = name.as_str();
-            Ok(format!(in alloc; "{part}.{name}")?)
+            write_tree(answer, part, depth);
+            answer.add(".");
+            answer.add(name.as_str());
         }
         CoreNode::Call(fun, parts) => {
-            let head = format!(in alloc; "{fun:?}")?;
-            parts_text(alloc, head.as_str(), None, parts.as_slice(), depth)
+            write_name(answer, fun);
+            write_parts(answer, "(", parts.as_slice(), depth);
         }
         CoreNode::Over(fun, table, parts) => {
-            let head = format!(in alloc; "{fun:?}")?;
-            parts_text(alloc, head.as_str(), Some(table), parts.as_slice(), depth)
+            write_name(answer, fun);
+            answer.add("(");
+            write_tree(answer, table, depth);
+            let comma = if parts.is_empty() { "" } else { ", " };
+            write_parts(answer, comma, parts.as_slice(), depth);
         }
         CoreNode::With(record, formula) => {
-            let record = tree_text(alloc, record, depth)?;
-            let formula = tree_text(alloc, formula, depth)?;
-            Ok(format!(in alloc; "With({record}, {formula})")?)
+            answer.add("With(");
+            write_tree(answer, record, depth);
+            answer.add(", ");
+            write_tree(answer, formula, depth);
+            answer.add(")");
         }
-        CoreNode::Rec(fields) => fields_text(alloc, fields.as_slice(), depth),
-        CoreNode::List(_, parts) => parts_text(alloc, "List", None, parts.as_slice(), depth),
-        CoreNode::All(parts) => parts_text(alloc, "All", None, parts.as_slice(), depth),
-        CoreNode::Any(parts) => parts_text(alloc, "Any", None, parts.as_slice(), depth),
-        CoreNode::If(parts) => parts_text(alloc, "If", None, parts.as_slice(), depth),
-        CoreNode::Switch(parts) => parts_text(alloc, "Switch", None, parts.as_slice(), depth),
-        CoreNode::IfError(parts) => parts_text(alloc, "IfError", None, parts.as_slice(), depth),
+        CoreNode::Rec(fields) => write_fields(answer, fields.as_slice(), depth),
+        CoreNode::List(_, parts) => write_parts(answer, "List(", parts.as_slice(), depth),
+        CoreNode::All(parts) => write_parts(answer, "All(", parts.as_slice(), depth),
+        CoreNode::Any(parts) => write_parts(answer, "Any(", parts.as_slice(), depth),
+        CoreNode::If(parts) => write_parts(answer, "If(", parts.as_slice(), depth),
+        CoreNode::Switch(parts) => write_parts(answer, "Switch(", parts.as_slice(), depth),
+        CoreNode::IfError(parts) => write_parts(answer, "IfError(", parts.as_slice(), depth),
         CoreNode::Coerce(part, ty) => {
-            let part = tree_text(alloc, part, depth)?;
-            let ty = type_text(alloc, ty, DEPTH)?;
-            Ok(format!(in alloc; "({part} as {ty})")?)
+            answer.add("(");
+            write_tree(answer, part, depth);
+            answer.add(" as ");
+            write_type(answer, ty, DEPTH);
+            answer.add(")");
         }
-        CoreNode::Chain(parts) => parts_text(alloc, "Chain", None, parts.as_slice(), depth),
-        CoreNode::Act(deed, parts) => parts_text(
-            alloc,
-            deed_text(deed),
-            None,
-            parts.as_slice(),
-            depth,
-        ),
+        CoreNode::Chain(parts) => write_parts(answer, "Chain(", parts.as_slice(), depth),
+        CoreNode::Act(deed, parts) => {
+            answer.add(deed_name(deed));
+            write_parts(answer, "(", parts.as_slice(), depth);
+        }
     }
 }
 
-/// Parts behind the name of what they are parts of.
+/// Writes parts behind what begins them, and the bracket that ends them.
 #[cycle(tree)]
-fn parts_text(
-    alloc: Global,
-    head: &str,
-    first: Option<&Core>,
-    parts: &[Core],
-    depth: u32,
-) -> Result<String, Stop> {
-    let mut text = String::from_str(alloc, head)?;
-    text.push_str("(")?;
-    if let Some(first) = first {
-        text.push_str(tree_text(alloc, first, depth)?.as_str())?;
-    }
+fn write_parts(answer: &mut Answer, head: &str, parts: &[Core], depth: u32) {
+    answer.add(head);
     for (place, part) in parts.iter().enumerate() {
-        if place > 0 || first.is_some() {
-            text.push_str(", ")?;
-        }
-        text.push_str(tree_text(alloc, part, depth)?.as_str())?;
+        answer.add_comma(place);
+        write_tree(answer, part, depth);
     }
-    text.push_str(")")?;
-    Ok(text)
+    answer.add(")");
 }
 
-/// The fields of a record.
+/// Writes the fields of a record.
 #[cycle(tree)]
-fn fields_text(alloc: Global, fields: &[(Words, Core)], depth: u32) -> Result<String, Stop> {
-    let mut text = String::from_str(alloc, "{")?;
+fn write_fields(answer: &mut Answer, fields: &[(Words, Core)], depth: u32) {
+    answer.add("{");
     for (place, (name, part)) in fields.iter().enumerate() {
-        if place > 0 {
-            text.push_str(", ")?;
-        }
-        text.push_str(name.as_str())?;
-        text.push_str(": ")?;
-        text.push_str(tree_text(alloc, part, depth)?.as_str())?;
+        answer.add_comma(place);
+        answer.add(name.as_str());
+        answer.add(": ");
+        write_tree(answer, part, depth);
     }
-    text.push_str("}")?;
-    Ok(text)
+    answer.add("}");
+}
+
+/// Writes the name of a function.
+fn write_name(answer: &mut Answer, fun: &Fun) {
+    answer.add_made(format!(in answer.alloc; "{fun:?}"));
 }
 
 /// The name of a deed.
-fn deed_text(deed: &Deed) -> &'static str {
+fn deed_name(deed: &Deed) -> &'static str {
     match deed {
         Deed::Set(_) => "Set",
         Deed::UpdateContext(_) => "UpdateContext",

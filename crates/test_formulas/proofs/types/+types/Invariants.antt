@@ -1,8 +1,8 @@
 use Rattle.std.proofs.Common.{◌+◌, ◌*◌}
 use Rattle.test_formulas.proofs.types.+types.Given as goal
 
-abbrev pub decreases-type_text : goal.decreases-type_text
-decreases-type_text l = 2 * l.depth
+abbrev pub decreases-write_type : goal.decreases-write_type
+decreases-write_type l = 2 * l.depth
 
-abbrev pub decreases-columns_text : goal.decreases-columns_text
-decreases-columns_text l = 2 * l.depth + 1
+abbrev pub decreases-write_columns : goal.decreases-write_columns
+decreases-write_columns l = 2 * l.depth + 1
