@@ -15,19 +15,14 @@ use fx_types::{Cmp, Fault, Kind, Value, Words};
 use row_queries::{Cells, Held, Row, Test, TestNode, Tests, fault_of, meets};
 use std::alloc::Global;
 
-pub fn write(page: &mut Page) -> Result<(), Memory> {
+pub fn write(page: &mut Page) {
     page.add("# A condition, and one before an error, of the row 3");
-    add_before_an_error(page, "that its number is 2, and an error", 20_000)?;
-    add_before_an_error(page, "that its number is 3, and an error", 30_000)?;
+    add_before_an_error(page, "that its number is 2, and an error", 20_000);
+    add_before_an_error(page, "that its number is 3, and an error", 30_000);
     match number_is(30_000) {
         Some(test) => add_held(page, "that its number is 3", &row(page.alloc), &test),
-        None => no_number(page),
+        None => page.add("no number"),
     }
-}
-
-fn no_number(page: &mut Page) -> Result<(), Memory> {
-    page.add("no number");
-    Ok(())
 }
 
 // A row without cells.
@@ -58,41 +53,47 @@ fn division_by_zero(message: Words) -> Test
     }
 }
 
-// Two tests, the one before the other.
-fn both(alloc: Global, first: Test, second: Test) -> Result<Test, Memory>
-    ensures { IfOk result (λ t. t ≡ all_of (also first (also second no_conditions))) }
+// A test before an error.
+fn before_an_error(alloc: Global, first: Test, message: Words) -> Result<Test, Memory>
+    ensures { IfOk result (λ t. t ≡ all_of (also first
+        (also (constant_data (fault_data Div0 message)) no_conditions))) }
 {
     let mut tests = Tests::new(alloc);
     tests.push(first)?;
-    tests.push(second)?;
+    tests.push(division_by_zero(message))?;
     Ok(Test {
         node: TestNode::And(tests),
     })
 }
 
 // Adds what the row holds of a test of its number before an error.
-fn add_before_an_error(page: &mut Page, what: &str, units: i64) -> Result<(), Memory> {
-    let alloc = page.alloc;
-    let Some(first) = number_is(units) else {
-        return no_number(page);
+fn add_before_an_error(page: &mut Page, what: &str, units: i64) {
+    let Ok(message) = Words::of(page.alloc, "") else {
+        return page.miss();
     };
-    let error = division_by_zero(Words::of(alloc, "")?);
-    let test = both(alloc, first, error)?;
-    add_held(page, what, &row(alloc), &test)
+    let Some(first) = number_is(units) else {
+        return page.add("no number");
+    };
+    match before_an_error(page.alloc, first, message) {
+        Ok(test) => add_held(page, what, &row(page.alloc), &test),
+        Err(Memory) => page.miss(),
+    }
 }
 
 // Adds what a row holds of a test, and whether there is an error.
-fn add_held(page: &mut Page, what: &str, row: &Row, test: &Test) -> Result<(), Memory>
+fn add_held(page: &mut Page, what: &str, row: &Row, test: &Test)
     requires { CanAsk (values_of row.now) test.now }
 {
-    let alloc = page.alloc;
-    let held = match meets(alloc, test, row)? {
-        Held::Yes => "holds",
-        Held::No => "doesn't hold",
-        Held::Error => "is an error",
-    };
-    let kind = fault_of(alloc, test, row)?.map(|fault| fault.kind);
-    page.add_made(format!(in alloc; "{what}: {held}"));
-    page.add_answer("by a division by zero", kind == Some(Kind::Div0));
-    Ok(())
+    page.put(what);
+    page.add(match meets(page.alloc, test, row) {
+        Ok(Held::Yes) => ": holds",
+        Ok(Held::No) => ": doesn't hold",
+        Ok(Held::Error) => ": is an error",
+        Err(Memory) => return page.miss(),
+    });
+    let fault = fault_of(page.alloc, test, row);
+    page.add_answer(
+        "by a division by zero",
+        matches!(&fault, Ok(Some(fault)) if fault.kind == Kind::Div0),
+    );
 }

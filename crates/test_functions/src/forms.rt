@@ -1,84 +1,94 @@
 //! Values in plain form and as JSON.
 
 use crate::page::Page;
-use crate::parts::{pair, text};
+use crate::parts::{Scalar, number, pair, value_of};
 use fx_base::Memory;
-use fx_number::Num;
-use fx_types::{Day, Fault, Fields, Kind, Rows, Value, Words};
+use fx_types::{Fault, Fields, Kind, Rows, Value, Words};
 use std::alloc::Global;
 use view_text::{Named, named_json, plain, value_json};
 
-pub fn write(page: &mut Page) -> Result<(), Memory> {
+/// The scalars that are written.
+const SCALARS: [Scalar; 15] = [
+    Scalar::Number(0),
+    Scalar::Number(-10_000),
+    Scalar::Number(5_000),
+    Scalar::Number(9_223_372_036_854_770_000),
+    Scalar::Number(-9_223_372_036_854_775_807),
+    Scalar::Text(""),
+    Scalar::Text("a\"b"),
+    Scalar::Text("tab\t\u{1}\\"),
+    Scalar::Text("Straße 😀"),
+    Scalar::Date(-25_567),
+    Scalar::Date(0),
+    Scalar::Date(19_782),
+    Scalar::Date(2_932_896),
+    Scalar::Blank,
+    Scalar::Boolean(true),
+];
+
+pub fn write(page: &mut Page) {
     page.add("# Plain form and JSON");
-    for units in [
-        0,
-        -10_000,
-        5_000,
-        9_223_372_036_854_770_000,
-        -9_223_372_036_854_775_807,
-    ] {
-        add(page, number(units));
+    for scalar in SCALARS {
+        add_made(page, value_of(page.alloc, scalar));
     }
-    for words in ["", "a\"b", "tab\t\u{1}\\", "Straße 😀"] {
-        let value = text(page.alloc, words)?;
-        add(page, value);
+    add_made(page, error(page.alloc));
+    add(page, &Value::Rec(Fields::new(page.alloc)));
+    add(page, &Value::Tab(Rows::new(page.alloc)));
+    add_made(page, nested(page.alloc));
+    match named(page.alloc) {
+        Ok(all) => page.add_made(named_json(page.alloc, &all)),
+        Err(Memory) => page.miss(),
     }
-    for days in [-25_567, 0, 19_782, 2_932_896] {
-        if let Some(day) = Day::of(days) {
-            add(page, Value::Date(day));
-        }
-    }
-    add(page, Value::Blank);
-    add(page, Value::Boolean(true));
-    add_errors(page)?;
-    add_rows(page)?;
-    add_named(page)
 }
 
-fn add_errors(page: &mut Page) -> Result<(), Memory> {
-    let message = Words::of(page.alloc, "Name")?;
+// Adds a value that was made, if there was memory for it.
+fn add_made(page: &mut Page, value: Result<Value, Memory>) {
+    match value {
+        Ok(value) => add(page, &value),
+        Err(Memory) => page.miss(),
+    }
+}
+
+// Adds both forms of a value.
+fn add(page: &mut Page, value: &Value) {
+    page.put_made(plain(page.alloc, value));
+    page.put(" is ");
+    match value_json(page.alloc, value) {
+        Ok(json) => page.add_made(json.to_string(page.alloc)),
+        Err(Memory) => page.miss(),
+    }
+}
+
+fn error(alloc: Global) -> Result<Value, Memory> {
+    let message = Words::of(alloc, "Name")?;
     let kind = Kind::ConstraintViolated;
-    add(page, Value::Fault(Fault { kind, message }));
-    Ok(())
+    Ok(Value::Fault(Fault { kind, message }))
 }
 
-fn add_rows(page: &mut Page) -> Result<(), Memory> {
-    let alloc = page.alloc;
-    add(page, Value::Rec(Fields::new(alloc)));
-    add(page, Value::Tab(Rows::new(alloc)));
+// A record of a record and a table.
+fn nested(alloc: Global) -> Result<Value, Memory> {
+    let rows = rows(alloc)?;
     let words = Words::of(alloc, "x")?;
     let record = pair(alloc, number(10_000), Value::Text(words))?;
+    let nested = pair(alloc, Value::Rec(record), Value::Tab(rows))?;
+    Ok(Value::Rec(nested))
+}
+
+fn rows(alloc: Global) -> Result<Rows, Memory> {
     let mut rows = Rows::new(alloc);
     rows.push(pair(alloc, number(10_000), Value::Blank)?)?;
     rows.push(pair(alloc, number(20_000), Value::Boolean(false))?)?;
-    let nested = pair(alloc, Value::Rec(record), Value::Tab(rows))?;
-    add(page, Value::Rec(nested));
-    Ok(())
+    Ok(rows)
 }
 
 // Named formulas, as they are listed.
-fn add_named(page: &mut Page) -> Result<(), Memory> {
-    let alloc = page.alloc;
-    let mut all = Vec::new(alloc);
-    for (name, units) in [("A", 3_333), ("B", 9_999)] {
-        let name = Words::of(alloc, name)?;
-        let value = number(units);
-        all.push(Named { name, value })?;
-    }
-    page.add_made(named_json(alloc, &all));
-    Ok(())
+fn named(alloc: Global) -> Result<Vec<Named>, Memory> {
+    let first = Words::of(alloc, "A")?;
+    let second = Words::of(alloc, "B")?;
+    Ok(vec![in alloc; name_number(first, 3_333), name_number(second, 9_999)]?)
 }
 
-fn number(units: i64) -> Value {
-    Num::from_units(units).map_or(Value::Blank, Value::Number)
-}
-
-fn add(page: &mut Page, value: Value) {
-    page.add_made(both_forms(page.alloc, &value));
-}
-
-fn both_forms(alloc: Global, value: &Value) -> Result<String, Memory> {
-    let shown = plain(alloc, value)?;
-    let json = value_json(alloc, value)?.to_string(alloc)?;
-    Ok(format!(in alloc; "{shown} is {json}")?)
+fn name_number(name: Words, units: i64) -> Named {
+    let value = number(units);
+    Named { name, value }
 }

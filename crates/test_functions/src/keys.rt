@@ -3,83 +3,77 @@ ghost use Rattle.fx_types.specs.ValueView.{view};
 ghost use Rattle.fx_value.specs.Order.{IsScalar};
 
 use crate::page::Page;
+use crate::parts::{Scalar, value_of};
 use fx_base::Memory;
-use fx_number::Num;
-use fx_types::{Day, Value, Words};
+use fx_types::Value;
 use fx_value::{compare, key_of};
-use std::alloc::Global;
 use std::cmp::Ordering;
 use view_text::plain;
 
-pub fn write(page: &mut Page) -> Result<(), Memory> {
+/// The scalars whose keys are written.
+const KEYED: [Scalar; 10] = [
+    Scalar::Blank,
+    Scalar::Number(-1),
+    Scalar::Number(0),
+    Scalar::Number(10_000),
+    Scalar::Boolean(false),
+    Scalar::Boolean(true),
+    Scalar::Date(-25_567),
+    Scalar::Date(0),
+    Scalar::Text("ab"),
+    Scalar::Text("abß"),
+];
+
+pub fn write(page: &mut Page) {
     page.add("# Keys");
-    add_key(page, Value::Blank);
-    add_numbers(page);
-    add_key(page, Value::Boolean(false));
-    add_key(page, Value::Boolean(true));
-    add_days(page);
-    add_texts(page)
-}
-
-fn add_numbers(page: &mut Page) {
-    for units in [-1, 0, 10_000] {
-        if let Some(number) = Num::from_units(units) {
-            add_key(page, Value::Number(number));
+    for scalar in KEYED {
+        match value_of(page.alloc, scalar) {
+            Ok(value) => add_key(page, &value),
+            Err(Memory) => page.miss(),
         }
     }
+    add_order(page, Scalar::Text("ab"), Scalar::Text("abß"));
+    add_order(page, Scalar::Blank, Scalar::Text("ab"));
+    add_order(page, Scalar::Text("abß"), Scalar::Text("abß"));
 }
 
-fn add_days(page: &mut Page) {
-    for days in [-25_567, 0] {
-        if let Some(day) = Day::of(days) {
-            add_key(page, Value::Date(day));
-        }
-    }
-}
-
-fn add_texts(page: &mut Page) -> Result<(), Memory> {
-    let short = Words::of(page.alloc, "ab")?;
-    let long = Words::of(page.alloc, "abß")?;
-    add_both(page, &Value::Text(short), &Value::Text(long));
-    Ok(())
-}
-
-// Two texts and their orders. They are lent, since each place where a value may end costs a proof a
-// second.
-fn add_both(page: &mut Page, short: &Value, long: &Value)
-    requires short { IsScalar (view short.now) }
-    requires long { IsScalar (view long.now) }
-{
-    page.add_made(key_text(page.alloc, short));
-    page.add_made(key_text(page.alloc, long));
-    page.add_made(order_text(page.alloc, short, long));
-    page.add_made(order_text(page.alloc, &Value::Blank, short));
-    page.add_made(order_text(page.alloc, long, long));
-}
-
-fn add_key(page: &mut Page, value: Value)
-    requires { IsScalar (view value) }
-{
-    page.add_made(key_text(page.alloc, &value));
-}
-
-fn key_text(alloc: Global, value: &Value) -> Result<String, Memory>
+// Adds a value with the bytes of its key.
+fn add_key(page: &mut Page, value: &Value)
     requires { IsScalar (view value.now) }
 {
-    let mut line = plain(alloc, value)?;
-    for byte in &key_of(alloc, value)? {
-        line = format!(in alloc; "{line} {byte}")?;
+    page.put_made(plain(page.alloc, value));
+    match key_of(page.alloc, value) {
+        Ok(bytes) => {
+            for byte in &bytes {
+                page.put_made(format!(in page.alloc; " {byte}"));
+            }
+        }
+        Err(_) => page.miss(),
     }
-    Ok(line)
+    page.add("");
 }
 
-fn order_text(alloc: Global, left: &Value, right: &Value) -> Result<String, Memory> {
-    let order = match compare(left, right) {
-        Ordering::Less => "is below",
-        Ordering::Equal => "is as",
-        Ordering::Greater => "is above",
-    };
-    let left = plain(alloc, left)?;
-    let right = plain(alloc, right)?;
-    Ok(format!(in alloc; "{left} {order} {right}")?)
+// Adds how two values stand to one another.
+fn add_order(page: &mut Page, left: Scalar, right: Scalar) {
+    match value_of(page.alloc, left) {
+        Ok(left) => add_order_to(page, &left, right),
+        Err(Memory) => page.miss(),
+    }
+}
+
+fn add_order_to(page: &mut Page, left: &Value, right: Scalar) {
+    match value_of(page.alloc, right) {
+        Ok(right) => add_compared(page, left, &right),
+        Err(Memory) => page.miss(),
+    }
+}
+
+fn add_compared(page: &mut Page, left: &Value, right: &Value) {
+    page.put_made(plain(page.alloc, left));
+    page.put(match compare(left, right) {
+        Ordering::Less => " is below ",
+        Ordering::Equal => " is as ",
+        Ordering::Greater => " is above ",
+    });
+    page.add_made(plain(page.alloc, right));
 }

@@ -3,8 +3,6 @@ ghost use Rattle.depend_graph.specs.Order.{AreBelow};
 
 use crate::page::Page;
 use depend_graph::{OrderEnd, order};
-use fx_base::Memory;
-use std::alloc::Global;
 
 pub fn write(page: &mut Page) {
     page.add("# Orders");
@@ -19,18 +17,16 @@ fn add_order(page: &mut Page, count: u32, edges: &[(u32, u32)])
     requires { AreBelow count edges.now }
 {
     match order(page.alloc, count, edges) {
-        Ok(numbers) => page.add_made(list_numbers(page.alloc, "in order:", numbers.as_slice())),
-        Err(OrderEnd::Cycle(path)) => {
-            page.add_made(list_numbers(page.alloc, "in a circle:", path.as_slice()));
-        }
-        Err(OrderEnd::Memory) => page.miss_line(),
+        Ok(numbers) => add_numbers(page, "in order:", numbers.as_slice()),
+        Err(OrderEnd::Cycle(path)) => add_numbers(page, "in a circle:", path.as_slice()),
+        Err(OrderEnd::Memory) => page.miss(),
     }
 }
 
-fn list_numbers(alloc: Global, what: &str, numbers: &[u32]) -> Result<String, Memory> {
-    let mut line = String::from_str(alloc, what)?;
+fn add_numbers(page: &mut Page, what: &str, numbers: &[u32]) {
+    page.put(what);
     for number in numbers {
-        line.push_str(format!(in alloc; " {number}")?.as_str())?;
+        page.put_made(format!(in page.alloc; " {number}"));
     }
-    Ok(line)
+    page.add("");
 }

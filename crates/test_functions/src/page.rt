@@ -1,16 +1,15 @@
 //! The text that is written.
 
-use fx_base::Memory;
-use std::alloc::Global;
+use std::alloc::{AllocError, Global};
 
 /// Lines of text.
-// That there is no memory for a line is kept and told at the end, so that no caller ends where it
+// That there is no memory for a piece is kept and told at the end, so that no caller ends where it
 // adds one.
 #[derive(Drop)]
 pub struct Page {
     pub alloc: Global,
-    pub text: String,
-    /// Whether a line is missing, for which there was no memory.
+    text: String,
+    /// Whether a piece is missing, for which there was no memory.
     is_short: bool,
 }
 
@@ -23,39 +22,49 @@ impl Page {
         }
     }
 
-    /// Adds a line at the end.
-    pub fn add(&mut self, line: &str) {
-        if self.push(line).is_err() {
-            self.miss_line();
+    /// Puts a piece at the end.
+    pub fn put(&mut self, piece: &str) {
+        if self.text.push_str(piece).is_err() {
+            self.miss();
         }
     }
 
-    /// Adds a line that was made, if there was memory for it.
-    pub fn add_made<E: Drop>(&mut self, line: Result<String, E>) {
-        match line {
-            Ok(line) => self.add(line.as_str()),
-            Err(_) => self.miss_line(),
+    /// Puts a piece that was made at the end, if there was memory for it.
+    pub fn put_made<E: Drop>(&mut self, piece: Result<String, E>) {
+        match piece {
+            Ok(piece) => self.put(piece.as_str()),
+            Err(_) => self.miss(),
         }
+    }
+
+    /// Ends a line with a piece.
+    pub fn add(&mut self, piece: &str) {
+        self.put(piece);
+        self.put("\n");
+    }
+
+    /// Ends a line with a piece that was made, if there was memory for it.
+    pub fn add_made<E: Drop>(&mut self, piece: Result<String, E>) {
+        self.put_made(piece);
+        self.put("\n");
     }
 
     /// Adds a line of a question and its answer.
     pub fn add_answer(&mut self, question: &str, answer: bool) {
-        self.add_made(format!(in self.alloc; "{question}: {answer}"));
+        self.put(question);
+        self.add(if answer { ": true" } else { ": false" });
     }
 
-    /// Keeps that there was no memory for a line.
-    pub fn miss_line(&mut self) {
+    /// Keeps that there was no memory for a piece.
+    pub fn miss(&mut self) {
         self.is_short = true;
     }
 
-    /// Whether no line is missing.
-    pub fn is_whole(&self) -> bool {
-        !self.is_short
-    }
-
-    fn push(&mut self, line: &str) -> Result<(), Memory> {
-        self.text.push_str(line)?;
-        self.text.push('\n')?;
-        Ok(())
+    /// The text, if no piece of it is missing.
+    pub fn finish(self) -> Result<String, AllocError> {
+        if self.is_short {
+            return Err(AllocError);
+        }
+        Ok(self.text)
     }
 }

@@ -2,9 +2,7 @@
 
 use crate::page::Page;
 use app_wire::{Method, Request, Route, RouteEnd, Routes};
-use fx_base::Memory;
 use fx_types::Words;
-use std::alloc::Global;
 
 /// Requests of each route, and of none.
 const REQUESTS: &str = "PUT /s/a
@@ -33,37 +31,37 @@ HEAD /plan
 GET /plan/
 POST /rows/T/4294967296";
 
-pub fn write(page: &mut Page) -> Result<(), Memory> {
+pub fn write(page: &mut Page) {
     page.add(
         "# Requests: the route of each with the parts of its path, or the code of its refusal",
     );
-    add_all(page, &Routes::new(page.alloc)?)
+    match Routes::new(page.alloc) {
+        Ok(routes) => add_all(page, &routes),
+        Err(_) => page.miss(),
+    }
 }
 
-fn add_all(page: &mut Page, routes: &Routes) -> Result<(), Memory> {
+fn add_all(page: &mut Page, routes: &Routes) {
     for line in REQUESTS.lines() {
         let (method, path) = line.split_once(' ').unwrap_or((line, ""));
-        add_route(page, routes, line, method_of(method), path.as_bytes())?;
+        page.put(line);
+        add_route(page, routes, method_of(method), path.as_bytes());
     }
-    add_route(
-        page,
-        routes,
-        "a path that is no text",
-        Method::Get,
-        b"/rows/\xc3%A9/0",
-    )
+    page.put("a path that is no text");
+    add_route(page, routes, Method::Get, b"/rows/\xc3%A9/0");
 }
 
-fn add_route(
-    page: &mut Page,
-    routes: &Routes,
-    said: &str,
-    method: Method,
-    path: &[u8],
-) -> Result<(), Memory> {
-    let answer = answer(page.alloc, routes, method, path)?;
-    page.add_made(format!(in page.alloc; "{said} = {answer}"));
-    Ok(())
+// Adds what a request gets.
+fn add_route(page: &mut Page, routes: &Routes, method: Method, path: &[u8]) {
+    page.put(" = ");
+    match Vec::from_slice(page.alloc, path) {
+        Ok(path) => {
+            let body = Vec::new(page.alloc);
+            put_answer(page, routes, &Request { method, path, body });
+        }
+        Err(_) => page.miss(),
+    }
+    page.add("");
 }
 
 fn method_of(word: &str) -> Method {
@@ -76,46 +74,42 @@ fn method_of(word: &str) -> Method {
     }
 }
 
-// What a request gets: its route, or the code of its refusal.
-fn answer(alloc: Global, routes: &Routes, method: Method, path: &[u8]) -> Result<String, Memory> {
-    let request = Request {
-        method,
-        path: Vec::from_slice(alloc, path)?,
-        body: Vec::new(alloc),
-    };
-    match routes.route(alloc, &request) {
-        Ok(route) => text(alloc, &route),
-        Err(RouteEnd::NoRoute) => Ok(String::from_str(alloc, "7")?),
-        Err(RouteEnd::WrongMethod) => Ok(String::from_str(alloc, "8")?),
-        Err(RouteEnd::Memory) => Err(Memory),
+// Puts the route of a request, or the code of its refusal.
+fn put_answer(page: &mut Page, routes: &Routes, request: &Request) {
+    match routes.route(page.alloc, request) {
+        Ok(route) => put_route(page, &route),
+        Err(RouteEnd::NoRoute) => page.put("7"),
+        Err(RouteEnd::WrongMethod) => page.put("8"),
+        Err(RouteEnd::Memory) => page.miss(),
     }
 }
 
-// A route and the parts of its path.
-fn text(alloc: Global, route: &Route) -> Result<String, Memory> {
+// Puts a route and the parts of its path.
+fn put_route(page: &mut Page, route: &Route) {
     match route {
-        Route::Begin(name) => with_name(alloc, "Begin", name),
-        Route::End(name) => with_name(alloc, "End", name),
-        Route::View(name) => with_name(alloc, "View", name),
-        Route::Named(name) => with_name(alloc, "Named", name),
+        Route::Begin(name) => put_name(page, "Begin ", name),
+        Route::End(name) => put_name(page, "End ", name),
+        Route::View(name) => put_name(page, "View ", name),
+        Route::Named(name) => put_name(page, "Named ", name),
         Route::Items(name, gallery, from) => {
-            let text = with_name(alloc, "Items", name)?;
-            Ok(format!(in alloc; "{text} {} {from}", gallery.as_str())?)
+            put_name(page, "Items ", name);
+            put_name(page, " ", gallery);
+            page.put_made(format!(in page.alloc; " {from}"));
         }
-        Route::Event(name) => with_name(alloc, "Event", name),
-        Route::Input(name) => with_name(alloc, "Input", name),
-        Route::Rows(name) => with_name(alloc, "Rows", name),
-        Route::Edit(name) => with_name(alloc, "Edit", name),
+        Route::Event(name) => put_name(page, "Event ", name),
+        Route::Input(name) => put_name(page, "Input ", name),
+        Route::Rows(name) => put_name(page, "Rows ", name),
+        Route::Edit(name) => put_name(page, "Edit ", name),
         Route::Page(table, after) => {
-            let text = with_name(alloc, "Page", table)?;
-            Ok(format!(in alloc; "{text} {after}")?)
+            put_name(page, "Page ", table);
+            page.put_made(format!(in page.alloc; " {after}"));
         }
-        Route::Plan => Ok(String::from_str(alloc, "Plan")?),
-        Route::Graph => Ok(String::from_str(alloc, "Graph")?),
+        Route::Plan => page.put("Plan"),
+        Route::Graph => page.put("Graph"),
     }
 }
 
-// A kind of route and the first part of its path.
-fn with_name(alloc: Global, kind: &str, name: &Words) -> Result<String, Memory> {
-    Ok(format!(in alloc; "{kind} {}", name.as_str())?)
+fn put_name(page: &mut Page, what: &str, name: &Words) {
+    page.put(what);
+    page.put(name.as_str());
 }

@@ -1,13 +1,16 @@
 //! How types join, which values fit them, and what values weigh.
 
 use crate::page::Page;
-use crate::parts::{pair, single};
+use crate::parts::{Scalar, pair, single};
 use fx_base::Memory;
-use fx_number::Num;
+use fx_core::Scalar as ScalarType;
 use fx_types::{Columns, Rows, Ty, Value, Words};
 use fx_value::{coerce, fits, join, same, weigh};
 use std::alloc::Global;
 use view_text::plain;
+
+/// The number 1.
+const ONE: Scalar = Scalar::Number(10_000);
 
 pub fn write(page: &mut Page) -> Result<(), Memory> {
     page.add("# Types and weights");
@@ -18,9 +21,9 @@ pub fn write(page: &mut Page) -> Result<(), Memory> {
 
 fn add_records(page: &mut Page) -> Result<(), Memory> {
     let alloc = page.alloc;
-    let record = single(alloc, "A", one())?;
-    let has_a = columns(alloc, "A", Ty::Number)?;
-    let has_b = columns(alloc, "B", Ty::Text)?;
+    let record = single(alloc, "A", ONE)?;
+    let has_a = columns(alloc, "A", ScalarType::Number)?;
+    let has_b = columns(alloc, "B", ScalarType::Text)?;
     add_record(page, &Value::Rec(record), &Ty::Rec(has_a), &Ty::Rec(has_b))
 }
 
@@ -46,10 +49,10 @@ fn joins_text(alloc: Global, ty: &Ty) -> Result<bool, Memory> {
 fn add_tables(page: &mut Page) -> Result<(), Memory> {
     let alloc = page.alloc;
     let mut rows = Rows::new(alloc);
-    rows.push(single(alloc, "B", one())?)?;
-    rows.push(single(alloc, "B", Value::Blank)?)?;
-    let has_b = columns(alloc, "B", Ty::Number)?;
-    let has_a = columns(alloc, "A", Ty::Date)?;
+    rows.push(single(alloc, "B", ONE)?)?;
+    rows.push(single(alloc, "B", Scalar::Blank)?)?;
+    let has_b = columns(alloc, "B", ScalarType::Number)?;
+    let has_a = columns(alloc, "A", ScalarType::Date)?;
     add_joined(page, &Value::Tab(rows), &Ty::Tab(has_b), &Ty::Tab(has_a))
 }
 
@@ -60,14 +63,10 @@ fn add_nested(page: &mut Page) -> Result<(), Memory> {
     Ok(())
 }
 
-/// The number 1.
-fn one() -> Value {
-    Num::from_units(10_000).map_or(Value::Blank, Value::Number)
-}
-
-fn columns(alloc: Global, name: &str, ty: Ty) -> Result<Columns, Memory> {
+fn columns(alloc: Global, name: &str, ty: ScalarType) -> Result<Columns, Memory> {
+    let name = Words::of(alloc, name)?;
     let mut columns = Columns::new(alloc);
-    columns.push((Words::of(alloc, name)?, ty))?;
+    columns.push((name, ty.ty()))?;
     Ok(columns)
 }
 
