@@ -109,8 +109,8 @@ pub record IsPlaced (f : Frame) (c : Cell) : Type 0 where
 
 -- The formula of a place, with this text and this tree, in which positions are told from this byte
 -- on.
-pub record IsCell (f : Frame) (s : Spot) (from : ℕ) (words : List ℕ) (e : Tree) (c : Cell) : Type
-    0 where
+pub record IsCell (f : Frame) (s : Spot) (from : ℕ) (words : List ℕ) (e : Tree) (c : Cell)
+    : Type 0 where
   pub placed : IsPlaced f c
   pub spot : c.spot ≡ s
   pub at : c.at ≡ from

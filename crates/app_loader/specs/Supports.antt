@@ -44,8 +44,8 @@ pub record IsJoined (n : Names) (reads : List Source) (supports : List (List Sou
       ⊎ ((x : Source) × IsAmong x reads × IsBehind n supports x s))
 
 -- the supports of formulas under names, by their numbers
-pub record AreSupports (n : Names) (is : List CellInfo) (supports : List (List Source)) : Type
-    0 where
+pub record AreSupports (n : Names) (is : List CellInfo) (supports : List (List Source))
+    : Type 0 where
   pub many : length supports ≡ length is
   pub each : (k : ℕ) (support : List Source) → slice_get supports k ≡ Some support
       → IsSupport (unordered n is) k support

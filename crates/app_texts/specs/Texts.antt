@@ -43,8 +43,8 @@ IsToldOfText cell source (TooDeep at) b = b ≡ in_text cell rule.TooDeep at (co
 IsToldOfText cell source Memory b = ⊥
 
 -- this is why a text is none of its kind, and what is told of it
-pub record IsUnparsed (Ends : List ℕ → ParseEnd → Type 0) (cell source : List ℕ) (b : Broken) : Type
-    0 where
+pub record IsUnparsed (Ends : List ℕ → ParseEnd → Type 0) (cell source : List ℕ) (b : Broken)
+    : Type 0 where
   pub end : ParseEnd
   pub ends : Ends source end
   pub told : IsToldOfText cell source end b
@@ -102,8 +102,8 @@ AreNamedAt f source cs bs =
 
 -- THE FORMULAS OF AN APP FILE, and its breaks: the named ones first, and then the others in the
 -- order of the app.
-pub record AreFormulasOf (a : AppFile) (f : Frame) (cs : List Cell) (bs : List Broken) : Type
-    0 where
+pub record AreFormulasOf (a : AppFile) (f : Frame) (cs : List Cell) (bs : List Broken)
+    : Type 0 where
   pub named_cells : List Cell
   pub named_breaks : List Broken
   pub named : AreNamedAt f (encode_utf8_all a.formulas) named_cells named_breaks

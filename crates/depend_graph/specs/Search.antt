@@ -26,8 +26,8 @@ pub record IsOnPath (reads : List (List ℕ)) (states : List State) (path : List
 
 -- the path is the open numbers, each of which reads the next; the order is the numbers that are
 -- done, each behind all that it reads
-pub record IsSearchState (reads : List (List ℕ)) (states : List State) (path order : List ℕ) : Type
-    0 where
+pub record IsSearchState (reads : List (List ℕ)) (states : List State) (path order : List ℕ)
+    : Type 0 where
   pub is_open : (n place left : ℕ) → visit_state states n ≡ Open place left
       → IsOnPath reads states path n place left
   pub on_path : (k : ℕ) → k < length path → (left : ℕ)

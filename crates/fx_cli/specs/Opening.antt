@@ -53,8 +53,8 @@ module _ {K : Type 0} (g : Ghosts K) (name : List ℕ) where
   -- Opened for an app, which is a sound one of which sessions can be opened, it was served: that
   -- began with the tables and the marks that it had then, without a session or a desk, and ended
   -- with those that it has now.
-  pub record IsServed (old new : K) (app : App) (serves : OfficeAt → OfficeAt → Type 0) : Type
-      0 where
+  pub record IsServed (old new : K) (app : App) (serves : OfficeAt → OfficeAt → Type 0)
+      : Type 0 where
     pub accepted : IsSoundApp app
     pub opens : CanOpen app.names
     pub opened : K

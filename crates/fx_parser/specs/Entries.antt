@@ -48,8 +48,8 @@ abbrev pub next_seen : Option (Bor (List Item)) → Option (List Item)
 next_seen = option_map (λ x. x.now)
 
 -- The first named formula of the tokens, where the others follow.
-pub record IsFirstFormula (source : List ℕ) (ts : List Item) (n : Named) (others : List Item) : Type
-    0 where
+pub record IsFirstFormula (source : List ℕ) (ts : List Item) (n : Named) (others : List Item)
+    : Type 0 where
   pub entry : NamedFormula
   pub is_it : n ≡ named_of source entry
   pub onward : (es : List NamedFormula) → AreEntriesOf 64 others es

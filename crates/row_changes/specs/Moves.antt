@@ -40,8 +40,8 @@ pub record Adds (old new : TableChanges) (body : List ℕ) : Type 0 where
   pub changes : (kept : LinesOf) → AreOf kept old → AreOf kept new
 
 -- a row that has a line with this body gets another one, or is taken out
-pub record Puts (old new : TableChanges) (id : ℕ) (was : List ℕ) (now : Option (List ℕ)) : Type
-    0 where
+pub record Puts (old new : TableChanges) (id : ℕ) (was : List ℕ) (now : Option (List ℕ))
+    : Type 0 where
   pub lines : (kept : LinesOf) → AreOf kept old → body_at id (overlay old kept) ≡ Some was
       → overlay new kept ≡ with_now id now (overlay old kept)
   pub changes : (kept : LinesOf) → AreOf kept old → body_at id (overlay old kept) ≡ Some was

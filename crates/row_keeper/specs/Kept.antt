@@ -20,8 +20,8 @@ empty_table t = record { columns = t.columns; now = no_rows; then = no_rows }
 
 -- The tables have the columns of the schema, which is a lawful one; and where no transaction is
 -- begun they are as they were when the last one ended.
-pub record IsKept (schema : Option Schema) (tables : List TableView) (is_begun : Bool) : Type
-    0 where
+pub record IsKept (schema : Option Schema) (tables : List TableView) (is_begun : Bool)
+    : Type 0 where
   pub columns : columns_kept tables ≡ columns_shaped (shapes_of schema)
   pub lawful : IfSome schema IsLawfulSchema
   pub still : is_begun ≡ false → states_then tables ≡ states_now tables

@@ -20,8 +20,8 @@ all_statements tab (t ∷ ts) (c ∷ cs) = table_statements tab t.columns c
     ++ all_statements (suc tab) ts cs
 
 -- the changes are ones of a table's lines, and the lines have their marks
-pub record IsOfTable (k : Contents) (tab : ℕ) (columns : List Column) (c : TableChanges) : Type
-    0 where
+pub record IsOfTable (k : Contents) (tab : ℕ) (columns : List Column) (c : TableChanges)
+    : Type 0 where
   pub ordered : IsOrdered nat_cmp c.changed
   pub changes : AreOf (k.lines tab) c
   pub marks : (place : ℕ) → marked_at columns place ≡ true
@@ -44,8 +44,8 @@ lasts_now tab [] = []
 lasts_now tab (c ∷ cs) = (tab, last_of c) ∷ lasts_now (suc tab) cs
 
 -- a table has the lines that the transaction has made of it, and their marks
-pub record IsWritten (k l : Contents) (tab : ℕ) (columns : List Column) (c : TableChanges) : Type
-    0 where
+pub record IsWritten (k l : Contents) (tab : ℕ) (columns : List Column) (c : TableChanges)
+    : Type 0 where
   pub lines : l.lines tab ≡ overlay c (k.lines tab)
   pub marks : (place : ℕ) → marked_at columns place ≡ true
       → AreMarked (suc place) (l.lines tab) (l.marks tab (suc place))

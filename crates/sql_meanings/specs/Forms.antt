@@ -18,8 +18,8 @@ OthersStay old new schema tree = AllByRecursion
 
 -- the table's tree has these rows, in the order of their rowids, each other table has its own, and
 -- so many were changed
-pub record Rewrites (old new : State) (table : Table) (made : List Row) (changed count : ℕ) : Type
-    0 where
+pub record Rewrites (old new : State) (table : Table) (made : List Row) (changed count : ℕ)
+    : Type 0 where
   pub schema : new.now.schema ≡ kept_schema
   pub rows : IsPermutation made (new.now.trees table.tree)
   pub shaped : IsShaped TableShape (new.now.trees table.tree)

@@ -34,8 +34,8 @@ AreLinesOf columns xs = AllByRecursion (IsLineOf columns) xs
 
 -- the lines that are kept of a table are ones of its rows, and so are those that a transaction has
 -- made of them
-pub record HasRows (contents : Contents) (tab : ℕ) (columns : List Column) (c : TableChanges) : Type
-    0 where
+pub record HasRows (contents : Contents) (tab : ℕ) (columns : List Column) (c : TableChanges)
+    : Type 0 where
   pub then : AreLinesOf columns (contents.lines tab)
   pub now : AreLinesOf columns (overlay c (contents.lines tab))
 
@@ -48,8 +48,8 @@ HaveRows contents tab [] (c ∷ cs) = ⊥
 HaveRows contents tab (t ∷ ts) [] = ⊥
 
 -- the database keeps this schema and its tables, of which the transaction has made these changes
-pub record IsShapedSo (contents : Contents) (schema : Schema) (cs : List TableChanges) : Type
-    0 where
+pub record IsShapedSo (contents : Contents) (schema : Schema) (cs : List TableChanges)
+    : Type 0 where
   pub lawful : IsLawfulSchema schema
   pub body : contents.body ≡ Some (schema_bytes schema)
   pub read : schema_in (schema_bytes schema) ≡ schema
