@@ -1,11 +1,9 @@
 -- What parts may write, the whole may.
 use Rattle.std.proofs.Common.{◌≡◌, List, ◌∷◌, sym, subst, inl, inr}
-use Rattle.fx_base.specs.Silence.{MayFallSilent, SilenceCause}
 use Rattle.fx_core.specs.declared.sources.Source.{Source}
 use Rattle.fx_core.specs.Term.{Term, Terms, of, nil, cons, all, Top}
-use Rattle.fx_deeds.proofs.Allowing.{only_over, only_wider}
-use Rattle.fx_deeds.specs.WorldSteps.{Passed, Stage}
-use Rattle.fx_deeds.specs.Writable.{WritesOnly}
+use Rattle.fx_deeds.proofs.Attempts.{attempt_wider}
+use Rattle.fx_deeds.specs.WorldSteps.{Attempt, Stage}
 use Rattle.fx_behave.specs.Writable.{AnyMayWrite, MayWrite}
 
 -- ---- trees
@@ -34,20 +32,19 @@ others_may rest t others Q e f x m = f x (subst (λ (ts : List Term). AnyMayWrit
 
 -- ---- calls
 
-module _ {A : Type 0} (a b : Stage A) (p : Passed a b) where
-  -- parts, for the tree
-  pub only_parts : (k : Top) (ts : Terms) (w : Term) → of k ts ≡ w → MayFallSilent (SilenceCause a.marks b.marks) (WritesOnly (AnyMayWrite ts)) a.state b.state → MayFallSilent (SilenceCause a.marks b.marks) (WritesOnly (MayWrite w)) a.state b.state
-  only_parts k ts w e h = only_wider (AnyMayWrite ts) (MayWrite w) (part_may k ts w e) a b p h
+module _ {A : Type 0} (a b : Stage A) where
+  -- parts, for their head
+  pub attempt_all : (k : Top) (ts : Terms) → Attempt a b (AnyMayWrite ts) → Attempt a b (MayWrite (of k ts))
+  attempt_all k ts p = attempt_wider a b (AnyMayWrite ts) (MayWrite (of k ts)) (λ x m. inr m) p
+
+  -- and for the tree
+  pub attempt_parts : (k : Top) (ts : Terms) (w : Term) → of k ts ≡ w → Attempt a b (AnyMayWrite ts) → Attempt a b (MayWrite w)
+  attempt_parts k ts w e p = attempt_wider a b (AnyMayWrite ts) (MayWrite w) (part_may k ts w e) p
 
   -- one part, for the tree
-  pub only_one : (k : Top) (x t w : Term) → of k (cons x nil) ≡ w → t ≡ x → MayFallSilent (SilenceCause a.marks b.marks) (WritesOnly (MayWrite t)) a.state b.state → MayFallSilent (SilenceCause a.marks b.marks) (WritesOnly (MayWrite w)) a.state b.state
-  only_one k x t w e q h = only_wider (MayWrite t) (MayWrite w) (one_may k x t w e q) a b p h
+  pub attempt_one : (k : Top) (x t w : Term) → of k (cons x nil) ≡ w → t ≡ x → Attempt a b (MayWrite t) → Attempt a b (MayWrite w)
+  attempt_one k x t w e q p = attempt_wider a b (MayWrite t) (MayWrite w) (one_may k x t w e q) p
 
   -- the same tree
-  pub only_same : (v w : Term) → v ≡ w → MayFallSilent (SilenceCause a.marks b.marks) (WritesOnly (MayWrite v)) a.state b.state → MayFallSilent (SilenceCause a.marks b.marks) (WritesOnly (MayWrite w)) a.state b.state
-  only_same v w e h = only_wider (MayWrite v) (MayWrite w) (same_may v w e) a b p h
-
-  -- what was allowed before, and then a tree that may no more
-  pub only_next : (c : Stage A) (Q : Source → Type 0) (t : Term) → Passed b c → ((x : Source) → MayWrite t x → Q x)
-      → MayFallSilent (SilenceCause a.marks b.marks) (WritesOnly Q) a.state b.state → MayFallSilent (SilenceCause b.marks c.marks) (WritesOnly (MayWrite t)) b.state c.state → MayFallSilent (SilenceCause a.marks c.marks) (WritesOnly Q) a.state c.state
-  only_next c Q t q f h k = only_over Q (MayWrite t) Q (λ x m. m) f a b c p q h k
+  pub attempt_same : (v w : Term) → v ≡ w → Attempt a b (MayWrite v) → Attempt a b (MayWrite w)
+  attempt_same v w e p = attempt_wider a b (MayWrite v) (MayWrite w) (same_may v w e) p

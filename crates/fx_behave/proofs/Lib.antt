@@ -14,3 +14,4 @@ pub mod WritesAll
 pub mod SingleAll
 pub mod CutOff
 pub mod Cutting
+pub mod Formulas

@@ -14,9 +14,8 @@ ghost use Rattle.fx_core.specs.Term.{act as deed_head, all, cons, nil, of, over,
 ghost use Rattle.fx_typing.specs.Acts as acting;
 ghost use Rattle.fx_value.specs.Fits.{fits_in};
 ghost use Rattle.fx_deeds.specs.Fitting.{AreOf};
-ghost use Rattle.fx_deeds.specs.StagesOver.{Passed, StateBecomes};
+ghost use Rattle.fx_deeds.specs.StagesOver.{Attempt, StateBecomes};
 ghost use Rattle.fx_deeds.specs.State.{ground};
-ghost use Rattle.fx_deeds.specs.Writable.{WritesOnly};
 ghost use Rattle.fx_behave.specs.Actable.{AreActable, AreActingBranches, AreActingRecoveries};
 ghost use Rattle.fx_behave.specs.Actable.{AreTwo, CanAct, LastHasType, IsActable, IsActableInside};
 ghost use Rattle.fx_behave.specs.Actable.{IsMatchedBy, IsActingSwitch};
@@ -56,9 +55,7 @@ pub fn act<W: World, L: Ledger>(
     steps: &mut Steps<L>,
 ) -> Result<Value, Stop>
     requires { CanAct (W.fixed world.old).types scope.old core.now }
-    ensures passed { Passed W.Env W.World.own world.old world.new }
-    ensures only { StateBecomes W.Env W.World.own world.old world.new
-        (WritesOnly (MayWrite core.now)) }
+    ensures attempt { Attempt W.Env W.World.own world.old world.new (MayWrite core.now) }
     ensures scope { scope.new ≡ scope.old }
     ensures keeper { IsErrOf result Stop.Keeper
         → Rose (W.marks world.old).faults (W.marks world.new).faults }
@@ -82,9 +79,7 @@ fn perform<W: World, L: Ledger>(
     steps: &mut Steps<L>,
 ) -> Result<Value, Stop>
     requires { CanAct (W.fixed world.old).types scope.old core.now }
-    ensures passed { Passed W.Env W.World.own world.old world.new }
-    ensures only { StateBecomes W.Env W.World.own world.old world.new
-        (WritesOnly (MayWrite core.now)) }
+    ensures attempt { Attempt W.Env W.World.own world.old world.new (MayWrite core.now) }
     ensures scope { scope.new ≡ scope.old }
     ensures keeper { IsErrOf result Stop.Keeper
         → Rose (W.marks world.old).faults (W.marks world.new).faults }
@@ -113,9 +108,7 @@ fn node<W: World, L: Ledger>(
 ) -> Result<Value, Stop>
     requires can { CanAct (W.fixed world.old).types scope.old core.now }
     requires acts { acting.acts core.now ≡ true }
-    ensures passed { Passed W.Env W.World.own world.old world.new }
-    ensures only { StateBecomes W.Env W.World.own world.old world.new
-        (WritesOnly (MayWrite core.now)) }
+    ensures attempt { Attempt W.Env W.World.own world.old world.new (MayWrite core.now) }
     ensures scope { scope.new ≡ scope.old }
     ensures keeper { IsErrOf result Stop.Keeper
         → Rose (W.marks world.old).faults (W.marks world.new).faults }
@@ -179,9 +172,8 @@ fn act_deed<W: World, L: Ledger>(
     steps: &mut Steps<L>,
 ) -> Result<Value, Stop>
     requires { CanAct (W.fixed world.old).types scope.old (of (deed_head deed.now) (all parts.now)) }
-    ensures passed { Passed W.Env W.World.own world.old world.new }
-    ensures only { StateBecomes W.Env W.World.own world.old world.new
-        (WritesOnly (MayWrite (of (deed_head deed.now) (all parts.now)))) }
+    ensures attempt { Attempt W.Env W.World.own world.old world.new
+        (MayWrite (of (deed_head deed.now) (all parts.now))) }
     ensures scope { scope.new ≡ scope.old }
     ensures keeper { IsErrOf result Stop.Keeper
         → Rose (W.marks world.old).faults (W.marks world.new).faults }
@@ -215,9 +207,8 @@ fn update_if<W: World, L: Ledger>(
 ) -> Result<Value, Stop>
     requires { CanAct (W.fixed world.old).types scope.old
         (of (deed_head (deed.UpdateIf target)) (all parts.now)) }
-    ensures passed { Passed W.Env W.World.own world.old world.new }
-    ensures only { StateBecomes W.Env W.World.own world.old world.new
-        (WritesOnly (MayWrite (of (deed_head (deed.UpdateIf target)) (all parts.now)))) }
+    ensures attempt { Attempt W.Env W.World.own world.old world.new
+        (MayWrite (of (deed_head (deed.UpdateIf target)) (all parts.now))) }
     ensures scope { scope.new ≡ scope.old }
     ensures keeper { IsErrOf result Stop.Keeper
         → Rose (W.marks world.old).faults (W.marks world.new).faults }
@@ -265,9 +256,7 @@ fn chain<W: World, L: Ledger>(
     steps: &mut Steps<L>,
 ) -> Result<Value, Stop>
     requires { (u : Shape) × LastHasType (W.fixed world.old).types scope.old u parts.now }
-    ensures passed { Passed W.Env W.World.own world.old world.new }
-    ensures only { StateBecomes W.Env W.World.own world.old world.new
-        (WritesOnly (AnyMayWrite (all parts.now))) }
+    ensures attempt { Attempt W.Env W.World.own world.old world.new (AnyMayWrite (all parts.now)) }
     ensures scope { scope.new ≡ scope.old }
     ensures keeper { IsErrOf result Stop.Keeper
         → Rose (W.marks world.old).faults (W.marks world.new).faults }
@@ -300,9 +289,7 @@ fn branches<W: World, L: Ledger>(
     steps: &mut Steps<L>,
 ) -> Result<Value, Stop>
     requires { (u : Shape) × AreActingBranches (W.fixed world.old).types scope.old u parts.now }
-    ensures passed { Passed W.Env W.World.own world.old world.new }
-    ensures only { StateBecomes W.Env W.World.own world.old world.new
-        (WritesOnly (AnyMayWrite (all parts.now))) }
+    ensures attempt { Attempt W.Env W.World.own world.old world.new (AnyMayWrite (all parts.now)) }
     ensures scope { scope.new ≡ scope.old }
     ensures keeper { IsErrOf result Stop.Keeper
         → Rose (W.marks world.old).faults (W.marks world.new).faults }
@@ -340,9 +327,7 @@ fn switch<W: World, L: Ledger>(
     steps: &mut Steps<L>,
 ) -> Result<Value, Stop>
     requires { (u : Shape) × IsActingSwitch (W.fixed world.old).types scope.old u parts.now }
-    ensures passed { Passed W.Env W.World.own world.old world.new }
-    ensures only { StateBecomes W.Env W.World.own world.old world.new
-        (WritesOnly (AnyMayWrite (all parts.now))) }
+    ensures attempt { Attempt W.Env W.World.own world.old world.new (AnyMayWrite (all parts.now)) }
     ensures scope { scope.new ≡ scope.old }
     ensures keeper { IsErrOf result Stop.Keeper
         → Rose (W.marks world.old).faults (W.marks world.new).faults }
@@ -376,9 +361,7 @@ fn matches<W: World, L: Ledger>(
 ) -> Result<Value, Stop>
     requires { (u : Shape) × IsMatchedBy (W.fixed world.old).types scope.old (view wanted) u
         parts.now }
-    ensures passed { Passed W.Env W.World.own world.old world.new }
-    ensures only { StateBecomes W.Env W.World.own world.old world.new
-        (WritesOnly (AnyMayWrite (all parts.now))) }
+    ensures attempt { Attempt W.Env W.World.own world.old world.new (AnyMayWrite (all parts.now)) }
     ensures scope { scope.new ≡ scope.old }
     ensures keeper { IsErrOf result Stop.Keeper
         → Rose (W.marks world.old).faults (W.marks world.new).faults }
@@ -416,9 +399,7 @@ fn recover<W: World, L: Ledger>(
     steps: &mut Steps<L>,
 ) -> Result<Value, Stop>
     requires { (u : Shape) × AreActingRecoveries (W.fixed world.old).types scope.old u parts.now }
-    ensures passed { Passed W.Env W.World.own world.old world.new }
-    ensures only { StateBecomes W.Env W.World.own world.old world.new
-        (WritesOnly (AnyMayWrite (all parts.now))) }
+    ensures attempt { Attempt W.Env W.World.own world.old world.new (AnyMayWrite (all parts.now)) }
     ensures scope { scope.new ≡ scope.old }
     ensures keeper { IsErrOf result Stop.Keeper
         → Rose (W.marks world.old).faults (W.marks world.new).faults }
@@ -465,9 +446,7 @@ fn catch_error<W: World, L: Ledger>(
 ) -> Result<Value, Stop>
     requires { CanAct (W.fixed world.old).types (caught_in scope.old fault.kind fault.message)
         formula.now }
-    ensures passed { Passed W.Env W.World.own world.old world.new }
-    ensures only { StateBecomes W.Env W.World.own world.old world.new
-        (WritesOnly (MayWrite formula.now)) }
+    ensures attempt { Attempt W.Env W.World.own world.old world.new (MayWrite formula.now) }
     ensures scope { scope.new ≡ scope.old }
     ensures keeper { IsErrOf result Stop.Keeper
         → Rose (W.marks world.old).faults (W.marks world.new).faults }
@@ -500,9 +479,8 @@ fn within<W: World, L: Ledger>(
 ) -> Result<Value, Stop>
     requires { CanAct (W.fixed world.old).types scope.old
         (of scoped (cons part.now (cons formula.now nil))) }
-    ensures passed { Passed W.Env W.World.own world.old world.new }
-    ensures only { StateBecomes W.Env W.World.own world.old world.new
-        (WritesOnly (AnyMayWrite (cons part.now (cons formula.now nil)))) }
+    ensures attempt { Attempt W.Env W.World.own world.old world.new
+        (AnyMayWrite (cons part.now (cons formula.now nil))) }
     ensures scope { scope.new ≡ scope.old }
     ensures keeper { IsErrOf result Stop.Keeper
         → Rose (W.marks world.old).faults (W.marks world.new).faults }
@@ -534,9 +512,7 @@ fn in_scope<W: World, L: Ledger>(
     steps: &mut Steps<L>,
 ) -> Result<Value, Stop>
     requires { CanAct (W.fixed world.old).types (inner scope.old (view row)) formula.now }
-    ensures passed { Passed W.Env W.World.own world.old world.new }
-    ensures only { StateBecomes W.Env W.World.own world.old world.new
-        (WritesOnly (MayWrite formula.now)) }
+    ensures attempt { Attempt W.Env W.World.own world.old world.new (MayWrite formula.now) }
     ensures scope { scope.new ≡ scope.old }
     ensures keeper { IsErrOf result Stop.Keeper
         → Rose (W.marks world.old).faults (W.marks world.new).faults }
@@ -567,9 +543,8 @@ fn for_all<W: World, L: Ledger>(
 ) -> Result<Value, Stop>
     requires { CanAct (W.fixed world.old).types scope.old
         (of (over fun.ForAll) (cons table.now (all parts.now))) }
-    ensures passed { Passed W.Env W.World.own world.old world.new }
-    ensures only { StateBecomes W.Env W.World.own world.old world.new
-        (WritesOnly (AnyMayWrite (cons table.now (all parts.now)))) }
+    ensures attempt { Attempt W.Env W.World.own world.old world.new
+        (AnyMayWrite (cons table.now (all parts.now))) }
     ensures scope { scope.new ≡ scope.old }
     ensures keeper { IsErrOf result Stop.Keeper
         → Rose (W.marks world.old).faults (W.marks world.new).faults }
@@ -609,9 +584,7 @@ fn each<W: World, L: Ledger>(
 ) -> Result<Vec<Value>, Stop>
     requires { (u : Shape) × IsActableInside (W.fixed world.old).types scope.old u formula.now
         rows.now }
-    ensures passed { Passed W.Env W.World.own world.old world.new }
-    ensures only { StateBecomes W.Env W.World.own world.old world.new
-        (WritesOnly (MayWrite formula.now)) }
+    ensures attempt { Attempt W.Env W.World.own world.old world.new (MayWrite formula.now) }
     ensures scope { scope.new ≡ scope.old }
     ensures keeper { IsErrOf result Stop.Keeper
         → Rose (W.marks world.old).faults (W.marks world.new).faults }
@@ -644,9 +617,7 @@ fn part_values<W: World, L: Ledger>(
     steps: &mut Steps<L>,
 ) -> Result<Vec<Value>, Stop>
     requires { (us : List Shape) × AreActable (W.fixed world.old).types scope.old us parts.now }
-    ensures passed { Passed W.Env W.World.own world.old world.new }
-    ensures only { StateBecomes W.Env W.World.own world.old world.new
-        (WritesOnly (AnyMayWrite (all parts.now))) }
+    ensures attempt { Attempt W.Env W.World.own world.old world.new (AnyMayWrite (all parts.now)) }
     ensures scope { scope.new ≡ scope.old }
     ensures keeper { IsErrOf result Stop.Keeper
         → Rose (W.marks world.old).faults (W.marks world.new).faults }

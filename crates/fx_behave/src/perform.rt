@@ -1,13 +1,12 @@
 // Formulas that don't act.
 ghost use Rattle.std.specs.Prelude.{◌≡◌, IfOk, IsErrOf, false, length, true};
 ghost use Rattle.fx_base.specs.Faults.{Rose};
-ghost use Rattle.fx_base.specs.Telling.{Stays};
 ghost use Rattle.fx_types.specs.Types.{Shape};
 ghost use Rattle.fx_types.specs.ValueView.{view};
 ghost use Rattle.fx_env.specs.Scopes.{CanEvaluate, IsTypedHere};
 ghost use Rattle.fx_plan.specs.Limited.{limited};
 ghost use Rattle.fx_value.specs.Fits.{fits_in};
-ghost use Rattle.fx_deeds.specs.StagesOver.{Passed, StateBecomes};
+ghost use Rattle.fx_deeds.specs.StagesOver.{Look, StateBecomes};
 ghost use Rattle.fx_deeds.specs.State.{ground};
 ghost use Rattle.fx_behave.specs.Perform.{Performs};
 
@@ -32,8 +31,7 @@ pub(crate) fn evaluate<W: World, L: Ledger>(
     steps: &mut Steps<L>,
 ) -> Result<Value, Stop>
     requires { CanEvaluate (W.fixed world.old).types scope.old core.now }
-    ensures passed { Passed W.Env W.World.own world.old world.new }
-    ensures stays { StateBecomes W.Env W.World.own world.old world.new Stays }
+    ensures look { Look W.Env W.World.own world.old world.new }
     ensures scope { scope.new ≡ scope.old }
     ensures keeper { IsErrOf result Stop.Keeper
         → Rose (W.marks world.old).faults (W.marks world.new).faults }

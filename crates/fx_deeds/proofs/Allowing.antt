@@ -1,9 +1,6 @@
--- What was written on the way, call after call.
-use Rattle.std.proofs.Common.{◌≡◌, ◌⊎◌, ℕ, List, [], ◌∷◌, ◌++◌, Bool, true, false, Option, Result, ap, sym, subst, ◌∙◌, append_assoc, inl, inr}
-use Rattle.std.specs.Prelude.{IfOk, OnErr}
+-- What was written on the way.
+use Rattle.std.proofs.Common.{◌≡◌, ◌⊎◌, ℕ, List, [], ◌∷◌, ◌++◌, Bool, true, false, ap, sym, subst, ◌∙◌, append_assoc, inl, inr}
 use Rattle.std.proofs.lemmas.List.{append-nil}
-use Rattle.fx_base.proofs.Silences.{goes_two, goes_weaker}
-use Rattle.fx_base.specs.Silence.{MayFallSilent, SilenceCause}
 use Rattle.fx_base.specs.Telling.{Stays}
 use Rattle.fx_types.specs.Values.{Data}
 use Rattle.fx_core.specs.declared.schema.Column.{Column}
@@ -12,9 +9,7 @@ use Rattle.fx_core.specs.declared.sources.Source.TheVariants as source
 use Rattle.session_state.specs.declared.change.Change.{Change}
 use Rattle.row_keeper.specs.declared.rows.Put.{Put}
 use Rattle.row_keeper.specs.declared.rows.Put.TheVariants.{Id, NoRow, Refused}
-use Rattle.fx_deeds.proofs.Passing.{either_end, same_state}
 use Rattle.fx_deeds.specs.Changed.{IsChanged, IsRowChanged, IsRowMade, IsRowRemoved, written}
-use Rattle.fx_deeds.specs.WorldSteps.{Passed, Stage}
 use Rattle.fx_deeds.specs.State.{WorldState}
 use Rattle.fx_deeds.specs.Within.{IsAmong}
 use Rattle.fx_deeds.specs.Writable.{IsOneOf, WritesOnly}
@@ -46,7 +41,7 @@ writes_on P Q R f g a b c p q = record {
 pub writes_wider : {A : Type 0} (P Q : Source → Type 0) → ((x : Source) → P x → Q x) → (a b : WorldState A) → WritesOnly P a b → WritesOnly Q a b
 writes_wider P Q f a b p = record { more = p.more; wrote = p.wrote; allowed = λ x h. f x (p.allowed x h) }
 
-unwritten : {A : Type 0} (P : Source → Type 0) (a b : WorldState A) → Stays a b → WritesOnly P a b
+pub unwritten : {A : Type 0} (P : Source → Type 0) (a b : WorldState A) → Stays a b → WritesOnly P a b
 unwritten P a b e = subst (λ z. WritesOnly P a z) (sym e) (writes_nothing P a)
 
 -- the first of what is left, where all of it is allowed
@@ -57,49 +52,6 @@ first_among left k others P e f x (inr w) = absurd w
 -- the others
 pub others_among : (left : List Source) (k : Source) (others : List Source) (P : Source → Type 0) → left ≡ k ∷ others → ((x : Source) → IsAmong x left → P x) → (x : Source) → IsAmong x others → P x
 others_among left k others P e f x h = f x (subst (λ ks. IsAmong x ks) (sym e) (inr h))
-
--- ---- calls
-
--- nothing was done
-pub only_nowhere : {A : Type 0} (P : Source → Type 0) (lost : Type 0) (x : Option (WorldState A)) → MayFallSilent lost (WritesOnly P) x x
-only_nowhere P lost x = goes_weaker lost Stays (WritesOnly P) (unwritten P) x x (same_state lost x)
-
--- a call that leaves the state
-pub only_staying : {A : Type 0} (P : Source → Type 0) (a b : Stage A) → Passed a b → MayFallSilent (SilenceCause a.marks b.marks) Stays a.state b.state → MayFallSilent (SilenceCause a.marks b.marks) (WritesOnly P) a.state b.state
-only_staying P a b p s = goes_weaker (SilenceCause a.marks b.marks) Stays (WritesOnly P) (unwritten P) a.state b.state s
-
--- what is allowed is allowed by more
-pub only_wider : {A : Type 0} (P Q : Source → Type 0) → ((x : Source) → P x → Q x) → (a b : Stage A) → Passed a b
-    → MayFallSilent (SilenceCause a.marks b.marks) (WritesOnly P) a.state b.state → MayFallSilent (SilenceCause a.marks b.marks) (WritesOnly Q) a.state b.state
-only_wider P Q f a b p h = goes_weaker (SilenceCause a.marks b.marks) (WritesOnly P) (WritesOnly Q) (writes_wider P Q f) a.state b.state h
-
--- one call after another
-pub only_over : {A : Type 0} (P Q R : Source → Type 0) → ((x : Source) → P x → R x) → ((x : Source) → Q x → R x) → (a b c : Stage A) → Passed a b → Passed b c
-    → MayFallSilent (SilenceCause a.marks b.marks) (WritesOnly P) a.state b.state → MayFallSilent (SilenceCause b.marks c.marks) (WritesOnly Q) b.state c.state
-    → MayFallSilent (SilenceCause a.marks c.marks) (WritesOnly R) a.state c.state
-only_over P Q R f g a b c p q h k =
-    goes_two (WritesOnly P) (WritesOnly Q) (WritesOnly R) (writes_on P Q R f g) a.marks b.marks c.marks p.later q.later a.state b.state c.state h k
-
--- two of the same
-pub only_on : {A : Type 0} (P : Source → Type 0) (a b c : Stage A) → Passed a b → Passed b c
-    → MayFallSilent (SilenceCause a.marks b.marks) (WritesOnly P) a.state b.state → MayFallSilent (SilenceCause b.marks c.marks) (WritesOnly P) b.state c.state
-    → MayFallSilent (SilenceCause a.marks c.marks) (WritesOnly P) a.state c.state
-only_on P a b c p q h k = only_over P P P (λ x w. w) (λ x w. w) a b c p q h k
-
--- and behind a call that leaves the state
-pub only_behind : {A : Type 0} (P : Source → Type 0) (a b c : Stage A) → Passed a b → Passed b c
-    → MayFallSilent (SilenceCause a.marks b.marks) Stays a.state b.state → MayFallSilent (SilenceCause b.marks c.marks) (WritesOnly P) b.state c.state
-    → MayFallSilent (SilenceCause a.marks c.marks) (WritesOnly P) a.state c.state
-only_behind P a b c p q h k = only_on P a b c p q (only_staying P a b p h) k
-
--- a call that makes a change, or leaves the state
-pub only_changing : {A T E : Type 0} (r : Result T E) (P : Source → Type 0) (a b : Stage A) → Passed a b → (C : T → WorldState A → WorldState A → Type 0) → ((d : T) (s t : WorldState A) → C d s t → WritesOnly P s t)
-    → IfOk r (λ d. MayFallSilent (SilenceCause a.marks b.marks) (C d) a.state b.state) → OnErr r (MayFallSilent (SilenceCause a.marks b.marks) Stays a.state b.state)
-    → MayFallSilent (SilenceCause a.marks b.marks) (WritesOnly P) a.state b.state
-only_changing r P a b p C only d s =
-    either_end r (λ d. MayFallSilent (SilenceCause a.marks b.marks) (C d) a.state b.state) (MayFallSilent (SilenceCause a.marks b.marks) Stays a.state b.state) (MayFallSilent (SilenceCause a.marks b.marks) (WritesOnly P) a.state b.state)
-    (λ x h. goes_weaker (SilenceCause a.marks b.marks) (C x) (WritesOnly P) (only x) a.state b.state h)
-    (λ h. only_staying P a b p h) d s
 
 -- ---- changes
 

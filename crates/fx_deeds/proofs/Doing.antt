@@ -1,18 +1,24 @@
 -- A deed by what it is, with the values that it takes.
-use Rattle.std.proofs.Common.{◌≡◌, ℕ, List, [], ◌∷◌, Option, Result, length, map, true, refl, subst, sym}
-use Rattle.std.specs.Prelude.{IfOk}
-use Rattle.fx_base.specs.Silence.{MayFallSilent}
+use Rattle.std.proofs.Common.{◌≡◌, ℕ, List, [], ◌∷◌, Result, length, map, true, refl, subst, sym}
+use Rattle.std.specs.Prelude.{IfOk, IsErrOf, OnErr}
+use Rattle.fx_base.specs.Faults.{Rose}
+use Rattle.fx_base.specs.Silence.{MayFallSilent, SilenceCause}
 use Rattle.fx_types.specs.declared.values.Value.{Value}
 use Rattle.fx_types.specs.Types.{Shape, booleans}
 use Rattle.fx_types.specs.ValueView.{view}
 use Rattle.fx_value.specs.Fits.{fits_in}
+use Rattle.fx_env.specs.declared.environment.Stop.{Stop}
+use Rattle.fx_env.specs.declared.environment.Stop.TheVariants.{Keeper}
 use Rattle.fx_core.specs.declared.deeds.Deed.{Deed}
 use Rattle.fx_core.specs.declared.deeds.Deed.TheVariants as deed
 use Rattle.fx_core.specs.declared.deeds.Target.{Target}
 use Rattle.fx_deeds.specs.Doable.{AnswersAs, CanDo}
 use Rattle.fx_deeds.specs.Done.{IsDeed}
 use Rattle.fx_deeds.specs.Fitting.{SourceTypes}
-use Rattle.fx_deeds.specs.State.{EvalFrame, WorldState}
+use Rattle.fx_deeds.specs.CutOff.{CutDeed}
+use Rattle.fx_deeds.specs.WorldSteps.{Attempt, Stage}
+use Rattle.fx_deeds.specs.State.{eval_frame}
+use Rattle.fx_deeds.specs.Writable.{DeedMayWrite}
 
 -- ---- one value
 
@@ -51,14 +57,20 @@ none_reset types k (v ∷ vs) h = absurd h
 pub can_as : (types : SourceTypes) (d e : Deed) (vs ws : List Value) → d ≡ e → vs ≡ ws → CanDo types d (map view vs) → CanDo types e (map view ws)
 can_as types d e vs ws p q h = subst (λ us. CanDo types e (map view us)) q (subst (λ z. CanDo types z (map view vs)) p h)
 
--- what was done with it was done with the deed
-pub done_as : {A E : Type 0} (r : Result Value E) (lost : Type 0) (y z : Option (WorldState A)) (f : EvalFrame) (d e : Deed) (vs ws : List Value) → d ≡ e → vs ≡ ws →
-    IfOk r (λ x. MayFallSilent lost (λ s t. IsDeed f e (map view ws) s (view x) t) y z) → IfOk r (λ x. MayFallSilent lost (λ s t. IsDeed f d (map view vs) s (view x) t) y z)
-done_as r lost y z f d e vs ws p q h =
-    subst (λ u. IfOk r (λ x. MayFallSilent lost (λ s t. IsDeed f u (map view vs) s (view x) t) y z)) (sym p)
-    (subst (λ us. IfOk r (λ x. MayFallSilent lost (λ s t. IsDeed f e (map view us) s (view x) t) y z)) (sym q) h)
+-- what is said of a deed with these values, by its answer and what it leaves
+abbrev pub Deeds : {A : Type 0} → Stage A → Stage A → Result Value Stop → Deed → List Value → Type 0
+Deeds a b r d vs = record {
+  attempt : Attempt a b (DeedMayWrite d);
+  keeper : IsErrOf r Keeper → Rose a.marks.faults b.marks.faults;
+  done : IfOk r (λ x. MayFallSilent (SilenceCause a.marks b.marks) (λ s t. IsDeed (eval_frame a.fixed) d (map view vs) s (view x) t) a.state b.state);
+  cut : OnErr r (MayFallSilent (SilenceCause a.marks b.marks) (CutDeed (eval_frame a.fixed) d (map view vs)) a.state b.state);
+  fits : (u : Shape) → AnswersAs a.fixed.types d u → IfOk r (λ x. fits_in (view x) u ≡ true);
+}
 
--- and the answer fits
-pub fits_as : {E : Type 0} (r : Result Value E) (types : SourceTypes) (d e : Deed) (u : Shape) → d ≡ e → (AnswersAs types e u → u ≡ booleans) → AnswersAs types d u →
-    IfOk r (λ x. fits_in (view x) booleans ≡ true) → IfOk r (λ x. fits_in (view x) u ≡ true)
-fits_as r types d e u p g a h = subst (λ t. IfOk r (λ x. fits_in (view x) t ≡ true)) (sym (g (subst (λ z. AnswersAs types z u) p a))) h
+-- what is said of what a deed and its values are is said of them
+pub deed_is : {A : Type 0} (a b : Stage A) (r : Result Value Stop) (d e : Deed) (vs ws : List Value) → d ≡ e → vs ≡ ws → Deeds a b r e ws → Deeds a b r d vs
+deed_is a b r d e vs ws p q h = subst (λ z. Deeds a b r z vs) (sym p) (subst (λ us. Deeds a b r e us) (sym q) h)
+
+-- an answer that is true or an error
+pub truth : {E : Type 0} (r : Result Value E) → IfOk r (λ x. fits_in (view x) booleans ≡ true) → (u : Shape) → u ≡ booleans → IfOk r (λ x. fits_in (view x) u ≡ true)
+truth r h u e = subst (λ t. IfOk r (λ x. fits_in (view x) t ≡ true)) (sym e) h

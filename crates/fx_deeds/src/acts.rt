@@ -7,9 +7,9 @@ ghost use Rattle.fx_value.specs.Fits.{fits_in};
 ghost use Rattle.fx_deeds.specs.CutOff.{CutDeed};
 ghost use Rattle.fx_deeds.specs.Doable.{AnswersAs, CanDo};
 ghost use Rattle.fx_deeds.specs.Done.{IsDeed};
-ghost use Rattle.fx_deeds.specs.StagesOver.{Passed, StateBecomes};
+ghost use Rattle.fx_deeds.specs.StagesOver.{Attempt, StateBecomes};
 ghost use Rattle.fx_deeds.specs.State.{eval_frame};
-ghost use Rattle.fx_deeds.specs.Writable.{DeedMayWrite, WritesOnly};
+ghost use Rattle.fx_deeds.specs.Writable.{DeedMayWrite};
 
 use crate::deeds::{patch, remove, remove_if};
 use crate::session::{clear, clear_collect, collect, navigate, notify, reset, set, set_all};
@@ -30,9 +30,7 @@ pub fn do_deed<W: World, L: Ledger>(
     steps: &mut Steps<L>,
 ) -> Result<Value, Stop>
     requires { CanDo (W.fixed world.old).types deed.now (map view values.items) }
-    ensures passed { Passed W.Env W.World.own world.old world.new }
-    ensures only { StateBecomes W.Env W.World.own world.old world.new
-        (WritesOnly (DeedMayWrite deed.now)) }
+    ensures attempt { Attempt W.Env W.World.own world.old world.new (DeedMayWrite deed.now) }
     ensures keeper { IsErrOf result Stop.Keeper
         → Rose (W.marks world.old).faults (W.marks world.new).faults }
     ensures done { IfOk result (λ x. StateBecomes W.Env W.World.own world.old world.new

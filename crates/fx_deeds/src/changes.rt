@@ -14,8 +14,8 @@ ghost use Rattle.session_state.specs.Changes.{FitsChange};
 ghost use Rattle.fx_deeds.specs.Changed.{IsChanged, IsRowChanged, IsRowMade, IsRowRemoved, written};
 ghost use Rattle.fx_deeds.specs.CutOff.{UpTo};
 ghost use Rattle.fx_deeds.specs.Deeds.{Makes};
-ghost use Rattle.fx_deeds.specs.StagesOver.{Passed, StateBecomes};
-ghost use Rattle.fx_deeds.specs.Writable.{IsOneOf, WritesOnly};
+ghost use Rattle.fx_deeds.specs.StagesOver.{Attempt, StateBecomes};
+ghost use Rattle.fx_deeds.specs.Writable.{IsOneOf};
 
 use crate::answers::taken_or;
 use crate::world::World;
@@ -29,9 +29,7 @@ use std::alloc::Global;
 /// Makes a change of the session, or refuses it.
 pub(crate) fn change<W: World>(world: &mut W, change: Change) -> Result<bool, Stop>
     requires { FitsChange (W.names world.old) change }
-    ensures passed { Passed W.Env W.World.own world.old world.new }
-    ensures only { StateBecomes W.Env W.World.own world.old world.new
-        (WritesOnly (IsOneOf (written change))) }
+    ensures attempt { Attempt W.Env W.World.own world.old world.new (IsOneOf (written change)) }
     ensures named { W.names world.new ≡ W.names world.old }
     ensures keeper { IsErrOf result Stop.Keeper
         → Rose (W.marks world.old).faults (W.marks world.new).faults }
@@ -50,9 +48,7 @@ pub(crate) fn make<W: World>(
     taken: Value,
 ) -> Result<Value, Stop>
     requires { FitsChange (W.names world.old) wanted }
-    ensures passed { Passed W.Env W.World.own world.old world.new }
-    ensures only { StateBecomes W.Env W.World.own world.old world.new
-        (WritesOnly (IsOneOf (written wanted))) }
+    ensures attempt { Attempt W.Env W.World.own world.old world.new (IsOneOf (written wanted)) }
     ensures keeper { IsErrOf result Stop.Keeper
         → Rose (W.marks world.old).faults (W.marks world.new).faults }
     ensures done { IfOk result (λ x. StateBecomes W.Env W.World.own world.old world.new
@@ -70,9 +66,8 @@ pub(crate) fn make<W: World>(
 pub(crate) fn insert<W: World>(world: &mut W, table: u16, cells: &Cells) -> Result<Put, Stop>
     requires { IsSomeAnd (slice_get (W.fixed world.old).schema.tables table)
         (λ t. AreCellsOf t.columns cells.now) }
-    ensures passed { Passed W.Env W.World.own world.old world.new }
-    ensures only { StateBecomes W.Env W.World.own world.old world.new
-        (WritesOnly (IsOneOf (source.Table table ∷ []))) }
+    ensures attempt { Attempt W.Env W.World.own world.old world.new
+        (IsOneOf (source.Table table ∷ [])) }
     ensures keeper { IsErrOf result Stop.Keeper
         → Rose (W.marks world.old).faults (W.marks world.new).faults }
     ensures put { IfOk result (λ put. StateBecomes W.Env W.World.own world.old world.new
@@ -94,9 +89,8 @@ pub(crate) fn replace<W: World>(
 ) -> Result<Put, Stop>
     requires { IsSomeAnd (slice_get (W.fixed world.old).schema.tables table)
         (λ t. AreCellsOf t.columns cells.now) }
-    ensures passed { Passed W.Env W.World.own world.old world.new }
-    ensures only { StateBecomes W.Env W.World.own world.old world.new
-        (WritesOnly (IsOneOf (source.Table table ∷ []))) }
+    ensures attempt { Attempt W.Env W.World.own world.old world.new
+        (IsOneOf (source.Table table ∷ [])) }
     ensures keeper { IsErrOf result Stop.Keeper
         → Rose (W.marks world.old).faults (W.marks world.new).faults }
     ensures put { IfOk result (λ put. StateBecomes W.Env W.World.own world.old world.new
@@ -111,9 +105,8 @@ pub(crate) fn replace<W: World>(
 /// Takes a row out of a table, and says whether it was there.
 pub(crate) fn remove<W: World>(world: &mut W, table: u16, id: u32) -> Result<bool, Stop>
     requires { IsSome (slice_get (W.fixed world.old).schema.tables table) }
-    ensures passed { Passed W.Env W.World.own world.old world.new }
-    ensures only { StateBecomes W.Env W.World.own world.old world.new
-        (WritesOnly (IsOneOf (source.Table table ∷ []))) }
+    ensures attempt { Attempt W.Env W.World.own world.old world.new
+        (IsOneOf (source.Table table ∷ [])) }
     ensures keeper { IsErrOf result Stop.Keeper
         → Rose (W.marks world.old).faults (W.marks world.new).faults }
     ensures was { IfOk result (λ was. StateBecomes W.Env W.World.own world.old world.new

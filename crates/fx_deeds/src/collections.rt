@@ -16,8 +16,8 @@ ghost use Rattle.fx_deeds.specs.Fitting.{CanChange, IsOfColumns};
 ghost use Rattle.fx_deeds.specs.Found.{IsTakenFrom};
 ghost use Rattle.fx_deeds.specs.RowValues.{blank_row as blank_row_of, columns_of_rows, record_row};
 ghost use Rattle.fx_deeds.specs.RowValues.{rows_among};
-ghost use Rattle.fx_deeds.specs.StagesOver.{Passed, StateBecomes};
-ghost use Rattle.fx_deeds.specs.Writable.{IsOneOf, WritesOnly};
+ghost use Rattle.fx_deeds.specs.StagesOver.{Attempt, StateBecomes};
+ghost use Rattle.fx_deeds.specs.Writable.{IsOneOf};
 
 use crate::answers::error;
 use crate::changes::{change, make};
@@ -158,9 +158,8 @@ fn take_row<W: World, L: Ledger>(
     steps: &mut Steps<L>,
 ) -> Result<Option<Value>, Stop>
     requires { (cs : ColumnList) × IsOfColumns (W.fixed world.old).types collection cs }
-    ensures passed { Passed W.Env W.World.own world.old world.new }
-    ensures only { StateBecomes W.Env W.World.own world.old world.new
-        (WritesOnly (IsOneOf (source.Gathered collection ∷ []))) }
+    ensures attempt { Attempt W.Env W.World.own world.old world.new
+        (IsOneOf (source.Gathered collection ∷ [])) }
     ensures keeper { IsErrOf result Stop.Keeper
         → Rose (W.marks world.old).faults (W.marks world.new).faults }
     ensures done { IfOk result (λ o. StateBecomes W.Env W.World.own world.old world.new
@@ -190,9 +189,8 @@ fn take_rows<W: World, L: Ledger>(
     steps: &mut Steps<L>,
 ) -> Result<Value, Stop>
     requires { IsOfColumns (W.fixed world.old).types collection (column_list columns.now) }
-    ensures passed { Passed W.Env W.World.own world.old world.new }
-    ensures only { StateBecomes W.Env W.World.own world.old world.new
-        (WritesOnly (IsOneOf (source.Gathered collection ∷ []))) }
+    ensures attempt { Attempt W.Env W.World.own world.old world.new
+        (IsOneOf (source.Gathered collection ∷ [])) }
     ensures keeper { IsErrOf result Stop.Keeper
         → Rose (W.marks world.old).faults (W.marks world.new).faults }
     ensures done { IfOk result (λ x. StateBecomes W.Env W.World.own world.old world.new
@@ -222,9 +220,8 @@ pub(crate) fn remove_equal<W: World, L: Ledger>(
     steps: &mut Steps<L>,
 ) -> Result<Value, Stop>
     requires { (cs : ColumnList) × IsOfColumns (W.fixed world.old).types collection cs }
-    ensures passed { Passed W.Env W.World.own world.old world.new }
-    ensures only { StateBecomes W.Env W.World.own world.old world.new
-        (WritesOnly (IsOneOf (source.Gathered collection ∷ []))) }
+    ensures attempt { Attempt W.Env W.World.own world.old world.new
+        (IsOneOf (source.Gathered collection ∷ [])) }
     ensures keeper { IsErrOf result Stop.Keeper
         → Rose (W.marks world.old).faults (W.marks world.new).faults }
     ensures done { IfOk result (λ x. StateBecomes W.Env W.World.own world.old world.new
@@ -250,9 +247,8 @@ fn append<W: World, L: Ledger>(
 ) -> Result<Value, Stop>
     requires { (cs : ColumnList) × IsOfColumns (W.fixed world.old).types collection cs
         × (fits_in (record_of row) (records cs) ≡ true) }
-    ensures passed { Passed W.Env W.World.own world.old world.new }
-    ensures only { StateBecomes W.Env W.World.own world.old world.new
-        (WritesOnly (IsOneOf (source.Gathered collection ∷ []))) }
+    ensures attempt { Attempt W.Env W.World.own world.old world.new
+        (IsOneOf (source.Gathered collection ∷ [])) }
     ensures keeper { IsErrOf result Stop.Keeper
         → Rose (W.marks world.old).faults (W.marks world.new).faults }
     ensures done { IfOk result (λ x. StateBecomes W.Env W.World.own world.old world.new
@@ -284,9 +280,8 @@ fn put_for<W: World, L: Ledger>(
 ) -> Result<Value, Stop>
     requires { (cs : ColumnList) × IsOfColumns (W.fixed world.old).types collection cs
         × (fits_in (record_of changed) (records cs) ≡ true) }
-    ensures passed { Passed W.Env W.World.own world.old world.new }
-    ensures only { StateBecomes W.Env W.World.own world.old world.new
-        (WritesOnly (IsOneOf (source.Gathered collection ∷ []))) }
+    ensures attempt { Attempt W.Env W.World.own world.old world.new
+        (IsOneOf (source.Gathered collection ∷ [])) }
     ensures keeper { IsErrOf result Stop.Keeper
         → Rose (W.marks world.old).faults (W.marks world.new).faults }
     ensures done { IfOk result (λ x. StateBecomes W.Env W.World.own world.old world.new
@@ -335,9 +330,8 @@ fn patch_row<W: World, L: Ledger>(
 ) -> Result<Value, Stop>
     requires { (cs : ColumnList) × IsOfColumns (W.fixed world.old).types collection cs
         × (fits_in (record_of changed) (records cs) ≡ true) }
-    ensures passed { Passed W.Env W.World.own world.old world.new }
-    ensures only { StateBecomes W.Env W.World.own world.old world.new
-        (WritesOnly (IsOneOf (source.Gathered collection ∷ []))) }
+    ensures attempt { Attempt W.Env W.World.own world.old world.new
+        (IsOneOf (source.Gathered collection ∷ [])) }
     ensures keeper { IsErrOf result Stop.Keeper
         → Rose (W.marks world.old).faults (W.marks world.new).faults }
     ensures done { IfOk result (λ x. StateBecomes W.Env W.World.own world.old world.new
@@ -365,9 +359,8 @@ pub(crate) fn patch_equal<W: World, L: Ledger>(
 ) -> Result<Value, Stop>
     requires { (cs : ColumnList) × IsOfColumns (W.fixed world.old).types collection cs
         × CanChange cs (rows_among (map view changes.now)) (record_row cs (view base.now)) }
-    ensures passed { Passed W.Env W.World.own world.old world.new }
-    ensures only { StateBecomes W.Env W.World.own world.old world.new
-        (WritesOnly (IsOneOf (source.Gathered collection ∷ []))) }
+    ensures attempt { Attempt W.Env W.World.own world.old world.new
+        (IsOneOf (source.Gathered collection ∷ [])) }
     ensures keeper { IsErrOf result Stop.Keeper
         → Rose (W.marks world.old).faults (W.marks world.new).faults }
     ensures done { IfOk result (λ x. StateBecomes W.Env W.World.own world.old world.new

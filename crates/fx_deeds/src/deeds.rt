@@ -9,9 +9,9 @@ ghost use Rattle.fx_value.specs.Fits.{fits_in};
 ghost use Rattle.fx_deeds.specs.CutOff.{CutDeed, CutUpdate};
 ghost use Rattle.fx_deeds.specs.Doable.{AnswersAs, CanDo, CanUpdate};
 ghost use Rattle.fx_deeds.specs.Done.{IsDeed, IsUpdate};
-ghost use Rattle.fx_deeds.specs.StagesOver.{Passed, StateBecomes};
+ghost use Rattle.fx_deeds.specs.StagesOver.{Attempt, StateBecomes};
 ghost use Rattle.fx_deeds.specs.State.{eval_frame};
-ghost use Rattle.fx_deeds.specs.Writable.{DeedMayWrite, WritesOnly};
+ghost use Rattle.fx_deeds.specs.Writable.{DeedMayWrite};
 
 use crate::answers::first_error;
 use crate::collections::{patch_equal, remove_equal};
@@ -36,9 +36,8 @@ pub fn remove<W: World, L: Ledger>(
     steps: &mut Steps<L>,
 ) -> Result<Value, Stop>
     requires { CanDo (W.fixed world.old).types (deed.Remove target) (map view values.now) }
-    ensures passed { Passed W.Env W.World.own world.old world.new }
-    ensures only { StateBecomes W.Env W.World.own world.old world.new
-        (WritesOnly (DeedMayWrite (deed.Remove target))) }
+    ensures attempt { Attempt W.Env W.World.own world.old world.new
+        (DeedMayWrite (deed.Remove target)) }
     ensures keeper { IsErrOf result Stop.Keeper
         → Rose (W.marks world.old).faults (W.marks world.new).faults }
     ensures done { IfOk result (λ x. StateBecomes W.Env W.World.own world.old world.new
@@ -67,9 +66,8 @@ pub fn remove_if<W: World, L: Ledger>(
     steps: &mut Steps<L>,
 ) -> Result<Value, Stop>
     requires { CanDo (W.fixed world.old).types (deed.RemoveIf target) (view filtered ∷ []) }
-    ensures passed { Passed W.Env W.World.own world.old world.new }
-    ensures only { StateBecomes W.Env W.World.own world.old world.new
-        (WritesOnly (DeedMayWrite (deed.RemoveIf target))) }
+    ensures attempt { Attempt W.Env W.World.own world.old world.new
+        (DeedMayWrite (deed.RemoveIf target)) }
     ensures keeper { IsErrOf result Stop.Keeper
         → Rose (W.marks world.old).faults (W.marks world.new).faults }
     ensures done { IfOk result (λ x. StateBecomes W.Env W.World.own world.old world.new
@@ -97,9 +95,8 @@ pub fn patch<W: World, L: Ledger>(
     steps: &mut Steps<L>,
 ) -> Result<Value, Stop>
     requires { CanDo (W.fixed world.old).types (deed.Patch target) (map view values.now) }
-    ensures passed { Passed W.Env W.World.own world.old world.new }
-    ensures only { StateBecomes W.Env W.World.own world.old world.new
-        (WritesOnly (DeedMayWrite (deed.Patch target))) }
+    ensures attempt { Attempt W.Env W.World.own world.old world.new
+        (DeedMayWrite (deed.Patch target)) }
     ensures keeper { IsErrOf result Stop.Keeper
         → Rose (W.marks world.old).faults (W.marks world.new).faults }
     ensures done { IfOk result (λ x. StateBecomes W.Env W.World.own world.old world.new
@@ -136,9 +133,8 @@ pub fn update<W: World, L: Ledger>(
     steps: &mut Steps<L>,
 ) -> Result<Value, Stop>
     requires { CanUpdate (W.fixed world.old).types target rows.now (map view changes.now) }
-    ensures passed { Passed W.Env W.World.own world.old world.new }
-    ensures only { StateBecomes W.Env W.World.own world.old world.new
-        (WritesOnly (DeedMayWrite (deed.UpdateIf target))) }
+    ensures attempt { Attempt W.Env W.World.own world.old world.new
+        (DeedMayWrite (deed.UpdateIf target)) }
     ensures keeper { IsErrOf result Stop.Keeper
         → Rose (W.marks world.old).faults (W.marks world.new).faults }
     ensures done { IfOk result (λ x. StateBecomes W.Env W.World.own world.old world.new

@@ -14,8 +14,8 @@ ghost use Rattle.fx_deeds.specs.Deeds.{AreRemoved, OrError};
 ghost use Rattle.fx_deeds.specs.Fitting.{IsOfColumns};
 ghost use Rattle.fx_deeds.specs.RemainingRows.{AreRecords, IsFirstValue, values_behind};
 ghost use Rattle.fx_deeds.specs.RemainingRows.{record_rows};
-ghost use Rattle.fx_deeds.specs.StagesOver.{Passed, StateBecomes};
-ghost use Rattle.fx_deeds.specs.Writable.{IsOneOf, WritesOnly};
+ghost use Rattle.fx_deeds.specs.StagesOver.{Attempt, StateBecomes};
+ghost use Rattle.fx_deeds.specs.Writable.{IsOneOf};
 
 use crate::changes::make;
 use crate::removing::remove_rows;
@@ -90,9 +90,8 @@ pub(crate) fn remove_filtered<W: World>(
     filtered: Value,
 ) -> Result<Value, Stop>
     requires { IsSome (slice_get (W.fixed world.old).schema.tables table) }
-    ensures passed { Passed W.Env W.World.own world.old world.new }
-    ensures only { StateBecomes W.Env W.World.own world.old world.new
-        (WritesOnly (IsOneOf (source.Table table ∷ []))) }
+    ensures attempt { Attempt W.Env W.World.own world.old world.new
+        (IsOneOf (source.Table table ∷ [])) }
     ensures keeper { IsErrOf result Stop.Keeper
         → Rose (W.marks world.old).faults (W.marks world.new).faults }
     ensures done { IfOk result (λ x. StateBecomes W.Env W.World.own world.old world.new
@@ -121,9 +120,8 @@ pub(crate) fn take_filtered<W: World, L: Ledger>(
     steps: &mut Steps<L>,
 ) -> Result<Value, Stop>
     requires { (cs : ColumnList) × IsOfColumns (W.fixed world.old).types collection cs }
-    ensures passed { Passed W.Env W.World.own world.old world.new }
-    ensures only { StateBecomes W.Env W.World.own world.old world.new
-        (WritesOnly (IsOneOf (source.Gathered collection ∷ []))) }
+    ensures attempt { Attempt W.Env W.World.own world.old world.new
+        (IsOneOf (source.Gathered collection ∷ [])) }
     ensures keeper { IsErrOf result Stop.Keeper
         → Rose (W.marks world.old).faults (W.marks world.new).faults }
     ensures done { IfOk result (λ x. StateBecomes W.Env W.World.own world.old world.new

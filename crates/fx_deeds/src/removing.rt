@@ -12,8 +12,8 @@ ghost use Rattle.fx_deeds.specs.CutOff.{UpTo};
 ghost use Rattle.fx_deeds.specs.Deeds.{AreRemoved, row_id_value};
 ghost use Rattle.fx_deeds.specs.Found.{NamesRow, IsTakenOut};
 ghost use Rattle.fx_deeds.specs.RowValues.{id_in};
-ghost use Rattle.fx_deeds.specs.StagesOver.{Passed, StateBecomes};
-ghost use Rattle.fx_deeds.specs.Writable.{IsOneOf, WritesOnly};
+ghost use Rattle.fx_deeds.specs.StagesOver.{Attempt, StateBecomes};
+ghost use Rattle.fx_deeds.specs.Writable.{IsOneOf};
 
 use crate::answers::error;
 use crate::changes::remove;
@@ -91,9 +91,8 @@ fn remove_row<W: World>(
     row: &Value,
 ) -> Result<Option<Value>, Stop>
     requires { IsSome (slice_get (W.fixed world.old).schema.tables table) }
-    ensures passed { Passed W.Env W.World.own world.old world.new }
-    ensures only { StateBecomes W.Env W.World.own world.old world.new
-        (WritesOnly (IsOneOf (source.Table table ∷ []))) }
+    ensures attempt { Attempt W.Env W.World.own world.old world.new
+        (IsOneOf (source.Table table ∷ [])) }
     ensures keeper { IsErrOf result Stop.Keeper
         → Rose (W.marks world.old).faults (W.marks world.new).faults }
     ensures done { IfOk result (λ o. StateBecomes W.Env W.World.own world.old world.new
@@ -121,9 +120,8 @@ pub(crate) fn remove_rows<W: World>(
     rows: &[Value],
 ) -> Result<Value, Stop>
     requires { IsSome (slice_get (W.fixed world.old).schema.tables table) }
-    ensures passed { Passed W.Env W.World.own world.old world.new }
-    ensures only { StateBecomes W.Env W.World.own world.old world.new
-        (WritesOnly (IsOneOf (source.Table table ∷ []))) }
+    ensures attempt { Attempt W.Env W.World.own world.old world.new
+        (IsOneOf (source.Table table ∷ [])) }
     ensures keeper { IsErrOf result Stop.Keeper
         → Rose (W.marks world.old).faults (W.marks world.new).faults }
     ensures done { IfOk result (λ x. StateBecomes W.Env W.World.own world.old world.new

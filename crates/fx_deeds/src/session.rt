@@ -2,7 +2,6 @@
 ghost use Rattle.std.specs.Prelude.{◌≡◌, ◌++◌, ◌∷◌, [], false, true, None, IfOk, IsErrOf, IsSome};
 ghost use Rattle.std.specs.Prelude.{MatchResult, map, OnErr, take};
 ghost use Rattle.fx_base.specs.Faults.{Rose};
-ghost use Rattle.fx_base.specs.Telling.{Stays};
 ghost use Rattle.fx_types.specs.Types.{ColumnList, booleans, tables};
 ghost use Rattle.fx_types.specs.Values.{boolean, fault};
 ghost use Rattle.fx_types.specs.ValueView.{view};
@@ -18,8 +17,8 @@ ghost use Rattle.fx_deeds.specs.Deeds.{text_or_none};
 ghost use Rattle.fx_deeds.specs.Fitting.{CollectionCanTake, SourceCanTake, CanTakeAll, IsOfColumns};
 ghost use Rattle.fx_deeds.specs.Fitting.{IsOfScreen};
 ghost use Rattle.fx_deeds.specs.RowValues.{rows_among};
-ghost use Rattle.fx_deeds.specs.StagesOver.{Passed, StateBecomes};
-ghost use Rattle.fx_deeds.specs.Writable.{IsOneOf, WritesOnly};
+ghost use Rattle.fx_deeds.specs.StagesOver.{Attempt, Look, StateBecomes};
+ghost use Rattle.fx_deeds.specs.Writable.{IsOneOf};
 
 use crate::answers::{error, first_error};
 use crate::changes::{change, make};
@@ -41,9 +40,8 @@ pub fn set<W: World>(
     value: Value,
 ) -> Result<Value, Stop>
     requires { SourceCanTake (W.fixed world.old).types (source.Global variable) (view value) }
-    ensures passed { Passed W.Env W.World.own world.old world.new }
-    ensures only { StateBecomes W.Env W.World.own world.old world.new
-        (WritesOnly (IsOneOf (source.Global variable ∷ []))) }
+    ensures attempt { Attempt W.Env W.World.own world.old world.new
+        (IsOneOf (source.Global variable ∷ [])) }
     ensures keeper { IsErrOf result Stop.Keeper
         → Rose (W.marks world.old).faults (W.marks world.new).faults }
     ensures done { IfOk result (λ x. StateBecomes W.Env W.World.own world.old world.new
@@ -68,9 +66,7 @@ pub fn set_all<W: World>(
     values: &[Value],
 ) -> Result<Value, Stop>
     requires { CanTakeAll (W.fixed world.old).types variables.now (map view values.now) }
-    ensures passed { Passed W.Env W.World.own world.old world.new }
-    ensures only { StateBecomes W.Env W.World.own world.old world.new
-        (WritesOnly (IsOneOf variables.now)) }
+    ensures attempt { Attempt W.Env W.World.own world.old world.new (IsOneOf variables.now) }
     ensures keeper { IsErrOf result Stop.Keeper
         → Rose (W.marks world.old).faults (W.marks world.new).faults }
     ensures done { IfOk result (λ x. StateBecomes W.Env W.World.own world.old world.new
@@ -101,8 +97,7 @@ pub(crate) fn rows_held<W: World, L: Ledger>(
     steps: &mut Steps<L>,
 ) -> Result<Rows, Stop>
     requires { IsSome ((W.fixed world.old).types (source.Gathered collection)) }
-    ensures passed { Passed W.Env W.World.own world.old world.new }
-    ensures stays { StateBecomes W.Env W.World.own world.old world.new Stays }
+    ensures look { Look W.Env W.World.own world.old world.new }
     ensures keeper { IsErrOf result Stop.Keeper
         → Rose (W.marks world.old).faults (W.marks world.new).faults }
     ensures held { IfOk result (λ rows. StateBecomes W.Env W.World.own world.old world.new
@@ -124,9 +119,8 @@ pub fn collect<W: World, L: Ledger>(
     steps: &mut Steps<L>,
 ) -> Result<Value, Stop>
     requires { CollectionCanTake (W.fixed world.old).types collection (map view values.now) }
-    ensures passed { Passed W.Env W.World.own world.old world.new }
-    ensures only { StateBecomes W.Env W.World.own world.old world.new
-        (WritesOnly (IsOneOf (source.Gathered collection ∷ []))) }
+    ensures attempt { Attempt W.Env W.World.own world.old world.new
+        (IsOneOf (source.Gathered collection ∷ [])) }
     ensures keeper { IsErrOf result Stop.Keeper
         → Rose (W.marks world.old).faults (W.marks world.new).faults }
     ensures done { IfOk result (λ x. StateBecomes W.Env W.World.own world.old world.new
@@ -160,9 +154,8 @@ pub fn clear_collect<W: World>(
     values: &[Value],
 ) -> Result<Value, Stop>
     requires { CollectionCanTake (W.fixed world.old).types collection (map view values.now) }
-    ensures passed { Passed W.Env W.World.own world.old world.new }
-    ensures only { StateBecomes W.Env W.World.own world.old world.new
-        (WritesOnly (IsOneOf (source.Gathered collection ∷ []))) }
+    ensures attempt { Attempt W.Env W.World.own world.old world.new
+        (IsOneOf (source.Gathered collection ∷ [])) }
     ensures keeper { IsErrOf result Stop.Keeper
         → Rose (W.marks world.old).faults (W.marks world.new).faults }
     ensures done { IfOk result (λ x. StateBecomes W.Env W.World.own world.old world.new
@@ -189,9 +182,8 @@ pub fn clear_collect<W: World>(
 /// Empties a collection.
 pub fn clear<W: World>(alloc: Global, world: &mut W, collection: u32) -> Result<Value, Stop>
     requires { (cs : ColumnList) × IsOfColumns (W.fixed world.old).types collection cs }
-    ensures passed { Passed W.Env W.World.own world.old world.new }
-    ensures only { StateBecomes W.Env W.World.own world.old world.new
-        (WritesOnly (IsOneOf (source.Gathered collection ∷ []))) }
+    ensures attempt { Attempt W.Env W.World.own world.old world.new
+        (IsOneOf (source.Gathered collection ∷ [])) }
     ensures keeper { IsErrOf result Stop.Keeper
         → Rose (W.marks world.old).faults (W.marks world.new).faults }
     ensures done { IfOk result (λ x. StateBecomes W.Env W.World.own world.old world.new
@@ -211,8 +203,7 @@ pub fn clear<W: World>(alloc: Global, world: &mut W, collection: u32) -> Result<
 /// Makes a screen the current one. The app has it; a world that was asked since may have forgotten
 /// that, so it is tested.
 pub fn navigate<W: World>(alloc: Global, world: &mut W, screen: u32) -> Result<Value, Stop>
-    ensures passed { Passed W.Env W.World.own world.old world.new }
-    ensures only { StateBecomes W.Env W.World.own world.old world.new (WritesOnly (IsOneOf [])) }
+    ensures attempt { Attempt W.Env W.World.own world.old world.new (IsOneOf []) }
     ensures keeper { IsErrOf result Stop.Keeper
         → Rose (W.marks world.old).faults (W.marks world.new).faults }
     ensures done { IfOk result (λ x. StateBecomes W.Env W.World.own world.old world.new
@@ -229,8 +220,7 @@ pub fn navigate<W: World>(alloc: Global, world: &mut W, screen: u32) -> Result<V
 
 /// Tells the user a text, which a blank one has none of, unless it is an error.
 pub fn notify<W: World>(alloc: Global, world: &mut W, text: Value) -> Result<Value, Stop>
-    ensures passed { Passed W.Env W.World.own world.old world.new }
-    ensures only { StateBecomes W.Env W.World.own world.old world.new (WritesOnly (IsOneOf [])) }
+    ensures attempt { Attempt W.Env W.World.own world.old world.new (IsOneOf []) }
     ensures keeper { IsErrOf result Stop.Keeper
         → Rose (W.marks world.old).faults (W.marks world.new).faults }
     ensures done { IfOk result (λ x. StateBecomes W.Env W.World.own world.old world.new
@@ -262,8 +252,7 @@ fn words_of(alloc: Global, text: Value) -> Result<Result<Words, Fault>, Memory>
 
 // Tells the user these words.
 fn tell<W: World>(alloc: Global, world: &mut W, words: Words) -> Result<Value, Stop>
-    ensures passed { Passed W.Env W.World.own world.old world.new }
-    ensures only { StateBecomes W.Env W.World.own world.old world.new (WritesOnly (IsOneOf [])) }
+    ensures attempt { Attempt W.Env W.World.own world.old world.new (IsOneOf []) }
     ensures keeper { IsErrOf result Stop.Keeper
         → Rose (W.marks world.old).faults (W.marks world.new).faults }
     ensures done { IfOk result (λ x. StateBecomes W.Env W.World.own world.old world.new
@@ -278,9 +267,8 @@ fn tell<W: World>(alloc: Global, world: &mut W, words: Words) -> Result<Value, S
 /// Takes the user's input of a control away.
 pub fn reset<W: World>(alloc: Global, world: &mut W, control: u32) -> Result<Value, Stop>
     requires { IsSome ((W.fixed world.old).types (source.Input control)) }
-    ensures passed { Passed W.Env W.World.own world.old world.new }
-    ensures only { StateBecomes W.Env W.World.own world.old world.new
-        (WritesOnly (IsOneOf (source.Input control ∷ []))) }
+    ensures attempt { Attempt W.Env W.World.own world.old world.new
+        (IsOneOf (source.Input control ∷ [])) }
     ensures keeper { IsErrOf result Stop.Keeper
         → Rose (W.marks world.old).faults (W.marks world.new).faults }
     ensures done { IfOk result (λ x. StateBecomes W.Env W.World.own world.old world.new

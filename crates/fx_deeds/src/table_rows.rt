@@ -32,8 +32,8 @@ ghost use Rattle.fx_deeds.specs.Found.{NamesRow};
 ghost use Rattle.fx_deeds.specs.RowValues.{blank_cells as blank_cells_of};
 ghost use Rattle.fx_deeds.specs.RowValues.{changed_cells as changed_cells_of, rows_among};
 ghost use Rattle.fx_deeds.specs.RowValues.{values_among};
-ghost use Rattle.fx_deeds.specs.StagesOver.{Passed, StateBecomes};
-ghost use Rattle.fx_deeds.specs.Writable.{IsOneOf, WritesOnly};
+ghost use Rattle.fx_deeds.specs.StagesOver.{Attempt, Look, StateBecomes};
+ghost use Rattle.fx_deeds.specs.Writable.{IsOneOf};
 
 use crate::answers::error;
 use crate::changes::{insert, replace};
@@ -146,8 +146,7 @@ fn find_cells<W: World>(
     id: u32,
 ) -> Result<Option<Cells>, Stop>
     requires { IsShape (W.fixed world.old).schema table shape.now }
-    ensures passed { Passed W.Env W.World.own world.old world.new }
-    ensures stays { StateBecomes W.Env W.World.own world.old world.new Stays }
+    ensures look { Look W.Env W.World.own world.old world.new }
     ensures keeper { IsErrOf result Stop.Keeper
         → Rose (W.marks world.old).faults (W.marks world.new).faults }
     ensures found { IfOk result (λ o. StateBecomes W.Env W.World.own world.old world.new
@@ -172,9 +171,8 @@ fn make_row<W: World>(
 ) -> Result<Value, Stop>
     requires shape { IsShape (W.fixed world.old).schema table shape.now }
     requires cells { AreCellsOf shape.now.columns cells }
-    ensures passed { Passed W.Env W.World.own world.old world.new }
-    ensures only { StateBecomes W.Env W.World.own world.old world.new
-        (WritesOnly (IsOneOf (source.Table table ∷ []))) }
+    ensures attempt { Attempt W.Env W.World.own world.old world.new
+        (IsOneOf (source.Table table ∷ [])) }
     ensures keeper { IsErrOf result Stop.Keeper
         → Rose (W.marks world.old).faults (W.marks world.new).faults }
     ensures done { IfOk result (λ x. StateBecomes W.Env W.World.own world.old world.new
@@ -205,9 +203,8 @@ fn put_changed<W: World>(
 ) -> Result<Patched, Stop>
     requires shape { IsShape (W.fixed world.old).schema table shape.now }
     requires can { CanChangeRows shape.now changes.now }
-    ensures passed { Passed W.Env W.World.own world.old world.new }
-    ensures only { StateBecomes W.Env W.World.own world.old world.new
-        (WritesOnly (IsOneOf (source.Table table ∷ []))) }
+    ensures attempt { Attempt W.Env W.World.own world.old world.new
+        (IsOneOf (source.Table table ∷ [])) }
     ensures keeper { IsErrOf result Stop.Keeper
         → Rose (W.marks world.old).faults (W.marks world.new).faults }
     ensures done { IfOk result (λ r. StateBecomes W.Env W.World.own world.old world.new
@@ -237,9 +234,8 @@ fn patch_row<W: World>(
 ) -> Result<Value, Stop>
     requires shape { IsShape (W.fixed world.old).schema table shape.now }
     requires can { CanChangeRows shape.now changes.now }
-    ensures passed { Passed W.Env W.World.own world.old world.new }
-    ensures only { StateBecomes W.Env W.World.own world.old world.new
-        (WritesOnly (IsOneOf (source.Table table ∷ []))) }
+    ensures attempt { Attempt W.Env W.World.own world.old world.new
+        (IsOneOf (source.Table table ∷ [])) }
     ensures keeper { IsErrOf result Stop.Keeper
         → Rose (W.marks world.old).faults (W.marks world.new).faults }
     ensures done { IfOk result (λ x. StateBecomes W.Env W.World.own world.old world.new
@@ -263,9 +259,8 @@ fn patch_new<W: World>(
 ) -> Result<Value, Stop>
     requires shape { IsShape (W.fixed world.old).schema table shape.now }
     requires can { CanChangeRows shape.now changes.now }
-    ensures passed { Passed W.Env W.World.own world.old world.new }
-    ensures only { StateBecomes W.Env W.World.own world.old world.new
-        (WritesOnly (IsOneOf (source.Table table ∷ []))) }
+    ensures attempt { Attempt W.Env W.World.own world.old world.new
+        (IsOneOf (source.Table table ∷ [])) }
     ensures keeper { IsErrOf result Stop.Keeper
         → Rose (W.marks world.old).faults (W.marks world.new).faults }
     ensures done { IfOk result (λ x. StateBecomes W.Env W.World.own world.old world.new
@@ -305,9 +300,8 @@ fn patch_numbered<W: World>(
 ) -> Result<Value, Stop>
     requires shape { IsShape (W.fixed world.old).schema table shape.now }
     requires can { CanChangeRows shape.now changes.now }
-    ensures passed { Passed W.Env W.World.own world.old world.new }
-    ensures only { StateBecomes W.Env W.World.own world.old world.new
-        (WritesOnly (IsOneOf (source.Table table ∷ []))) }
+    ensures attempt { Attempt W.Env W.World.own world.old world.new
+        (IsOneOf (source.Table table ∷ [])) }
     ensures keeper { IsErrOf result Stop.Keeper
         → Rose (W.marks world.old).faults (W.marks world.new).faults }
     ensures done { IfOk result (λ x. StateBecomes W.Env W.World.own world.old world.new
@@ -339,9 +333,8 @@ fn patch_base<W: World>(
 ) -> Result<Value, Stop>
     requires shape { IsShape (W.fixed world.old).schema table shape.now }
     requires can { CanChangeRows shape.now changes.now }
-    ensures passed { Passed W.Env W.World.own world.old world.new }
-    ensures only { StateBecomes W.Env W.World.own world.old world.new
-        (WritesOnly (IsOneOf (source.Table table ∷ []))) }
+    ensures attempt { Attempt W.Env W.World.own world.old world.new
+        (IsOneOf (source.Table table ∷ [])) }
     ensures keeper { IsErrOf result Stop.Keeper
         → Rose (W.marks world.old).faults (W.marks world.new).faults }
     ensures done { IfOk result (λ x. StateBecomes W.Env W.World.own world.old world.new
@@ -379,9 +372,8 @@ pub(crate) fn patch_table<W: World>(
 ) -> Result<Value, Stop>
     requires { OfTable (W.fixed world.old).schema table
         (λ p. CanPatchRows p (rows_among (map view changes.now))) }
-    ensures passed { Passed W.Env W.World.own world.old world.new }
-    ensures only { StateBecomes W.Env W.World.own world.old world.new
-        (WritesOnly (IsOneOf (source.Table table ∷ []))) }
+    ensures attempt { Attempt W.Env W.World.own world.old world.new
+        (IsOneOf (source.Table table ∷ [])) }
     ensures keeper { IsErrOf result Stop.Keeper
         → Rose (W.marks world.old).faults (W.marks world.new).faults }
     ensures done { IfOk result (λ x. StateBecomes W.Env W.World.own world.old world.new
@@ -412,9 +404,8 @@ fn update_row<W: World>(
 ) -> Result<Option<Value>, Stop>
     requires shape { IsShape (W.fixed world.old).schema table shape.now }
     requires can { CanChangeRows shape.now (rows_in (view change.now)) }
-    ensures passed { Passed W.Env W.World.own world.old world.new }
-    ensures only { StateBecomes W.Env W.World.own world.old world.new
-        (WritesOnly (IsOneOf (source.Table table ∷ []))) }
+    ensures attempt { Attempt W.Env W.World.own world.old world.new
+        (IsOneOf (source.Table table ∷ [])) }
     ensures keeper { IsErrOf result Stop.Keeper
         → Rose (W.marks world.old).faults (W.marks world.new).faults }
     ensures done { IfOk result (λ o. StateBecomes W.Env W.World.own world.old world.new
@@ -469,9 +460,8 @@ pub(crate) fn update_table<W: World>(
 ) -> Result<Value, Stop>
     requires { OfTable (W.fixed world.old).schema table
         (λ p. CanChangeEach p (map view changes.now)) }
-    ensures passed { Passed W.Env W.World.own world.old world.new }
-    ensures only { StateBecomes W.Env W.World.own world.old world.new
-        (WritesOnly (IsOneOf (source.Table table ∷ []))) }
+    ensures attempt { Attempt W.Env W.World.own world.old world.new
+        (IsOneOf (source.Table table ∷ [])) }
     ensures keeper { IsErrOf result Stop.Keeper
         → Rose (W.marks world.old).faults (W.marks world.new).faults }
     ensures done { IfOk result (λ x. StateBecomes W.Env W.World.own world.old world.new
@@ -497,9 +487,8 @@ fn update_rows<W: World>(
 ) -> Result<Value, Stop>
     requires shape { IsShape (W.fixed world.old).schema table shape.now }
     requires can { CanChangeEach shape.now (map view changes.now) }
-    ensures passed { Passed W.Env W.World.own world.old world.new }
-    ensures only { StateBecomes W.Env W.World.own world.old world.new
-        (WritesOnly (IsOneOf (source.Table table ∷ []))) }
+    ensures attempt { Attempt W.Env W.World.own world.old world.new
+        (IsOneOf (source.Table table ∷ [])) }
     ensures keeper { IsErrOf result Stop.Keeper
         → Rose (W.marks world.old).faults (W.marks world.new).faults }
     ensures done { IfOk result (λ x. StateBecomes W.Env W.World.own world.old world.new

@@ -17,8 +17,8 @@ ghost use Rattle.fx_deeds.specs.Done.{errors_in, errors_of};
 ghost use Rattle.fx_deeds.specs.Fitting.{CanChangeAll, IsOfColumns};
 ghost use Rattle.fx_deeds.specs.RemainingRows.{AreRecords, IsChangedFirst, record_rows};
 ghost use Rattle.fx_deeds.specs.RowValues.{columns_of_rows};
-ghost use Rattle.fx_deeds.specs.StagesOver.{Passed, StateBecomes};
-ghost use Rattle.fx_deeds.specs.Writable.{IsOneOf, WritesOnly};
+ghost use Rattle.fx_deeds.specs.StagesOver.{Attempt, StateBecomes};
+ghost use Rattle.fx_deeds.specs.Writable.{IsOneOf};
 
 use crate::changes::make;
 use crate::collections::collection_columns;
@@ -135,9 +135,8 @@ pub(crate) fn update_equal<W: World, L: Ledger>(
 ) -> Result<Value, Stop>
     requires { (cs : ColumnList) × IsOfColumns (W.fixed world.old).types collection cs
         × CanChangeAll cs kept.now (map view changes.now) }
-    ensures passed { Passed W.Env W.World.own world.old world.new }
-    ensures only { StateBecomes W.Env W.World.own world.old world.new
-        (WritesOnly (IsOneOf (source.Gathered collection ∷ []))) }
+    ensures attempt { Attempt W.Env W.World.own world.old world.new
+        (IsOneOf (source.Gathered collection ∷ [])) }
     ensures keeper { IsErrOf result Stop.Keeper
         → Rose (W.marks world.old).faults (W.marks world.new).faults }
     ensures done { IfOk result (λ x. StateBecomes W.Env W.World.own world.old world.new

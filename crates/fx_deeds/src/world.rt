@@ -62,10 +62,10 @@ pub trait World: Env {
             Stays (state self.old) (state self.new) }
         ensures ready { OnOk result (AreReady (Self.fixed self.old).types gives
             (sources_in core.now) (state self.new) (values_told (Self.told self.new))) }
-        ensures marks { IsLater (Self.marks self.old) (Self.marks self.new) }
+        ensures counts { IsLater (Self.marks self.old) (Self.marks self.new)
+            × (Self.visited self.old ≤ Self.visited self.new) }
         ensures keeper { IsErrOf result Stop.Keeper
-            → Rose (Self.marks self.old).faults (Self.marks self.new).faults }
-        ensures visited { Self.visited self.old ≤ Self.visited self.new };
+            → Rose (Self.marks self.old).faults (Self.marks self.new).faults };
 
     /// Makes a change of the session, and says whether it was made. `Keeper` only where a fault was
     /// counted.
@@ -79,10 +79,10 @@ pub trait World: Env {
         ensures stops { OnErr result (MayFallSilent
             (SilenceCause (Self.marks self.old) (Self.marks self.new)) Stays (state self.old)
             (state self.new)) }
-        ensures marks { IsLater (Self.marks self.old) (Self.marks self.new) }
+        ensures counts { IsLater (Self.marks self.old) (Self.marks self.new)
+            × (Self.visited self.old ≤ Self.visited self.new) }
         ensures keeper { IsErrOf result Stop.Keeper
-            → Rose (Self.marks self.old).faults (Self.marks self.new).faults }
-        ensures visited { Self.visited self.old ≤ Self.visited self.new };
+            → Rose (Self.marks self.old).faults (Self.marks self.new).faults };
 
     /// Puts a new row into a table, or says which rule it breaks first. `Keeper` only where a fault
     /// was counted.
@@ -100,10 +100,10 @@ pub trait World: Env {
         ensures stops { OnErr result (MayFallSilent
             (SilenceCause (Self.marks self.old) (Self.marks self.new)) Stays (state self.old)
             (state self.new)) }
-        ensures marks { IsLater (Self.marks self.old) (Self.marks self.new) }
+        ensures counts { IsLater (Self.marks self.old) (Self.marks self.new)
+            × (Self.visited self.old ≤ Self.visited self.new) }
         ensures keeper { IsErrOf result Stop.Keeper
-            → Rose (Self.marks self.old).faults (Self.marks self.new).faults }
-        ensures visited { Self.visited self.old ≤ Self.visited self.new };
+            → Rose (Self.marks self.old).faults (Self.marks self.new).faults };
 
     /// Puts other cells into a row of a table, or says that there is none of this number, or which
     /// rule it would break first. `Keeper` only where a fault was counted.
@@ -121,10 +121,10 @@ pub trait World: Env {
         ensures stops { OnErr result (MayFallSilent
             (SilenceCause (Self.marks self.old) (Self.marks self.new)) Stays (state self.old)
             (state self.new)) }
-        ensures marks { IsLater (Self.marks self.old) (Self.marks self.new) }
+        ensures counts { IsLater (Self.marks self.old) (Self.marks self.new)
+            × (Self.visited self.old ≤ Self.visited self.new) }
         ensures keeper { IsErrOf result Stop.Keeper
-            → Rose (Self.marks self.old).faults (Self.marks self.new).faults }
-        ensures visited { Self.visited self.old ≤ Self.visited self.new };
+            → Rose (Self.marks self.old).faults (Self.marks self.new).faults };
 
     /// Takes a row out of a table, and says whether it was there. `Keeper` only where a fault was
     /// counted.
@@ -138,10 +138,10 @@ pub trait World: Env {
         ensures stops { OnErr result (MayFallSilent
             (SilenceCause (Self.marks self.old) (Self.marks self.new)) Stays (state self.old)
             (state self.new)) }
-        ensures marks { IsLater (Self.marks self.old) (Self.marks self.new) }
+        ensures counts { IsLater (Self.marks self.old) (Self.marks self.new)
+            × (Self.visited self.old ≤ Self.visited self.new) }
         ensures keeper { IsErrOf result Stop.Keeper
-            → Rose (Self.marks self.old).faults (Self.marks self.new).faults }
-        ensures visited { Self.visited self.old ≤ Self.visited self.new };
+            → Rose (Self.marks self.old).faults (Self.marks self.new).faults };
 
     /// A law: worlds that tell the same as environments have the same state.
     ghost keeps: { (a b : Self) → Self.told a ≡ Self.told b → state a ≡ state b };

@@ -24,8 +24,7 @@ use Rattle.fx_core.specs.Term as top
 use Rattle.fx_core.specs.TermView.{core_branch}
 use Rattle.fx_value.specs.Fits.{fits_in}
 use Rattle.fx_core.specs.declared.deeds.Deed.TheVariants as deed
-use Rattle.fx_deeds.proofs.Passing.{passed_nowhere, passed_on}
-use Rattle.fx_deeds.proofs.Allowing.{only_nowhere, only_on, only_over, only_staying, only_wider}
+use Rattle.fx_deeds.proofs.Passing.{passed_on}
 use Rattle.fx_deeds.specs.CutOff.{CutDeed, CutUpdate}
 use Rattle.fx_deeds.specs.Doable.{AnswersAs, CanDo, CanUpdate}
 use Rattle.fx_deeds.specs.Done.{IsDeed, IsUpdate}
@@ -37,25 +36,26 @@ use Rattle.fx_behave.proofs.Cutting as cutting
 use Rattle.fx_behave.proofs.Actables.{chain_actable, if_actable, formula_actable, quiet_ready, record_actable, recover_actable, switch_actable}
 use Rattle.fx_behave.proofs.Eaches.{formula_is, formula_there, gone, table_can}
 use Rattle.fx_behave.proofs.Following as left
+use Rattle.fx_behave.proofs.Formulas as formulas
 use Rattle.fx_behave.proofs.Going.{begins}
 use Rattle.fx_behave.proofs.Heads as heads
 use Rattle.fx_behave.proofs.Nodes as nodes
 use Rattle.fx_behave.proofs.Sequences as steps
 use Rattle.fx_behave.proofs.Sequences.{is_no_error, refl_le}
 use Rattle.fx_behave.proofs.Updated as updated
-use Rattle.fx_behave.proofs.Allowing.{first_may, only_next, only_one, only_parts, only_same, others_may}
+use Rattle.fx_behave.proofs.Allowing.{attempt_all, attempt_one, attempt_parts, attempt_same, first_may, others_may}
 use Rattle.fx_behave.specs.Actable.{AreActingBranches, AreActingRecoveries, CanAct, LastHasType, IsActable, IsActableInside, IsMatchedBy, IsActingSwitch}
 use Rattle.fx_behave.specs.CutOff.{IsActCut, IsBranchCut, IsCutOff, IsForAllCut, IsSwitchCut, IsUpdateIfCut, cut_part as part_of, parts as parts_of}
 use Rattle.fx_behave.specs.Perform.{PerformsEach, IsBranched, IsForAll, PerformsSwitch, IsUpdateIf, Performs, switch_decision, performing, performings}
 use Rattle.fx_behave.specs.Writable.{AnyMayWrite, MayWrite}
+use Rattle.fx_deeds.proofs.Attempts.{attempt_next, attempt_none, attempt_on, attempt_over, attempt_wider, look_attempts}
 use Rattle.fx_behave.proofs.acting.+perform.Goals as goal
 
 pub chain-loop-part-init : goal.chain-loop-part-init
 chain-loop-part-init g t c =
     record {
-      passed = passed_nowhere _;
+      attempt = attempt_none _ _;
       allowed = λ x m. m;
-      only = only_nowhere (AnyMayWrite (all c.args.parts.now)) (SilenceCause (g.W.Env.marks c.args.world.now) (g.W.Env.marks c.args.world.now)) (g.W.World.state c.args.world.now);
       scope = refl;
       fits = λ u r. r;
       done = begins _ _ (steps.chain_of (ground g.W.World.gives (g.W.Env.fixed c.args.world.now)) c.args.scope.now c.args.parts.now);
@@ -67,46 +67,43 @@ pub chain-perform-requires : goal.chain-perform-requires
 chain-perform-requires g t c κs within =
     let j = steps.first_is_smaller c.loop-part.rest.now c.in-Some.part.now c.in-Some.others.now (terms_size (all c.args.parts.now)) c.in-Some.ensures.cases.0 c.loop-part.invariant.small in (
       omega (arith, j),
-      (within.0, (within.1, steps.moved (λ f h. CanAct f.types h c.in-Some.part.now) _ _ _ _ c.loop-part.invariant.passed.fixed c.loop-part.invariant.scope (left.chain_first (g.W.Env.fixed c.args.world.now).types c.args.scope.now c.requires.0 c.in-Some.part.now c.in-Some.others.now c.loop-part.rest.now c.in-Some.ensures.cases.0 (c.loop-part.invariant.fits c.requires.0 c.requires.1)))),
+      (within.0, (within.1, steps.moved (λ f h. CanAct f.types h c.in-Some.part.now) _ _ _ _ c.loop-part.invariant.attempt.passed.fixed c.loop-part.invariant.scope (left.chain_first (g.W.Env.fixed c.args.world.now).types c.args.scope.now c.requires.0 c.in-Some.part.now c.in-Some.others.now c.loop-part.rest.now c.in-Some.ensures.cases.0 (c.loop-part.invariant.fits c.requires.0 c.requires.1)))),
     )
 
 pub chain-perform-requires-in-Some : goal.chain-perform-requires-in-Some
 chain-perform-requires-in-Some g t c κs within =
     let j = steps.first_is_smaller c.loop-part.rest.now c.in-Some.part.now c.in-Some.others.now (terms_size (all c.args.parts.now)) c.in-Some.ensures.cases.0 c.loop-part.invariant.small in (
       omega (arith, j),
-      (within.0, (within.1, steps.moved (λ f h. CanAct f.types h c.in-Some.part.now) _ _ _ _ c.loop-part.invariant.passed.fixed c.loop-part.invariant.scope (left.chain_first (g.W.Env.fixed c.args.world.now).types c.args.scope.now c.requires.0 c.in-Some.part.now c.in-Some.others.now c.loop-part.rest.now c.in-Some.ensures.cases.0 (c.loop-part.invariant.fits c.requires.0 c.requires.1)))),
+      (within.0, (within.1, steps.moved (λ f h. CanAct f.types h c.in-Some.part.now) _ _ _ _ c.loop-part.invariant.attempt.passed.fixed c.loop-part.invariant.scope (left.chain_first (g.W.Env.fixed c.args.world.now).types c.args.scope.now c.requires.0 c.in-Some.part.now c.in-Some.others.now c.loop-part.rest.now c.in-Some.ensures.cases.0 (c.loop-part.invariant.fits c.requires.0 c.requires.1)))),
     )
 
-pub chain-returns-then-is_empty-clause-passed : goal.chain-returns-then-is_empty-clause-passed
-chain-returns-then-is_empty-clause-passed g t c =
-    passed_on _ _ _ c.loop-part.invariant.passed c.perform.ensures.passed
+pub chain-returns-then-is_empty-clause-attempt : goal.chain-returns-then-is_empty-clause-attempt
+chain-returns-then-is_empty-clause-attempt g t c = attempt_next _ _ _ (AnyMayWrite (all c.args.parts.now)) (MayWrite c.in-Some.part.now) (first_may c.loop-part.rest.now c.in-Some.part.now c.in-Some.others.now (AnyMayWrite (all c.args.parts.now)) c.in-Some.ensures.cases.0 c.loop-part.invariant.allowed) c.loop-part.invariant.attempt c.perform.ensures.attempt
 
 pub chain-returns-then-is_empty-clause-done : goal.chain-returns-then-is_empty-clause-done
 chain-returns-then-is_empty-clause-done g t c =
     IfOk-weaker c.perform.result _ _
-    (λ v k. steps.chain_ends g.W.World.gives _ _ _ _ _ _ _ _ _ _ (steps.chain_of (ground g.W.World.gives (g.W.Env.fixed c.args.world.now)) c.args.scope.now c.args.parts.now) c.in-Some.part.now c.in-Some.others.now c.loop-part.rest.now (view v) c.loop-part.invariant.passed.fixed c.loop-part.invariant.scope c.loop-part.invariant.passed.later c.perform.ensures.passed.later c.in-Some.ensures.cases.0 (steps.none_left_is _ (sym c.is_empty.ensures ∙ c.if-is_empty.true)) c.loop-part.invariant.done k)
+    (λ v k. steps.chain_ends g.W.World.gives _ _ _ _ _ _ _ _ _ _ (steps.chain_of (ground g.W.World.gives (g.W.Env.fixed c.args.world.now)) c.args.scope.now c.args.parts.now) c.in-Some.part.now c.in-Some.others.now c.loop-part.rest.now (view v) c.loop-part.invariant.attempt.passed.fixed c.loop-part.invariant.scope c.loop-part.invariant.attempt.passed.later c.perform.ensures.attempt.passed.later c.in-Some.ensures.cases.0 (steps.none_left_is _ (sym c.is_empty.ensures ∙ c.if-is_empty.true)) c.loop-part.invariant.done k)
     c.perform.ensures.done
 
 pub chain-returns-then-is_empty-clause-fits : goal.chain-returns-then-is_empty-clause-fits
 chain-returns-then-is_empty-clause-fits g t c =
-    λ u r. c.perform.ensures.fits u (steps.moved (λ f h. IsActable f.types h c.in-Some.part.now u) _ _ _ _ c.loop-part.invariant.passed.fixed c.loop-part.invariant.scope (left.chain_last (g.W.Env.fixed c.args.world.now).types c.args.scope.now u c.in-Some.part.now c.in-Some.others.now c.loop-part.rest.now c.in-Some.ensures.cases.0 (steps.none_left_is _ (sym c.is_empty.ensures ∙ c.if-is_empty.true)) (c.loop-part.invariant.fits u r)))
+    λ u r. c.perform.ensures.fits u (steps.moved (λ f h. IsActable f.types h c.in-Some.part.now u) _ _ _ _ c.loop-part.invariant.attempt.passed.fixed c.loop-part.invariant.scope (left.chain_last (g.W.Env.fixed c.args.world.now).types c.args.scope.now u c.in-Some.part.now c.in-Some.others.now c.loop-part.rest.now c.in-Some.ensures.cases.0 (steps.none_left_is _ (sym c.is_empty.ensures ∙ c.if-is_empty.true)) (c.loop-part.invariant.fits u r)))
 
 pub chain-loop-part-preserved : goal.chain-loop-part-preserved
 chain-loop-part-preserved g t c =
     record {
-      passed = passed_on _ _ _ c.loop-part.invariant.passed c.perform-in-Some.ensures.passed;
+      attempt = attempt_next _ _ _ (AnyMayWrite (all c.args.parts.now)) (MayWrite c.in-Some.part.now) (first_may c.loop-part.rest.now c.in-Some.part.now c.in-Some.others.now (AnyMayWrite (all c.args.parts.now)) c.in-Some.ensures.cases.0 c.loop-part.invariant.allowed) c.loop-part.invariant.attempt c.perform-in-Some.ensures.attempt;
       allowed = others_may c.loop-part.rest.now c.in-Some.part.now c.in-Some.others.now (AnyMayWrite (all c.args.parts.now)) c.in-Some.ensures.cases.0 c.loop-part.invariant.allowed;
-      only = only_next _ _ c.loop-part.invariant.passed _ (AnyMayWrite (all c.args.parts.now)) c.in-Some.part.now c.perform-in-Some.ensures.passed (first_may c.loop-part.rest.now c.in-Some.part.now c.in-Some.others.now (AnyMayWrite (all c.args.parts.now)) c.in-Some.ensures.cases.0 c.loop-part.invariant.allowed) c.loop-part.invariant.only c.perform-in-Some.ensures.only;
       scope = c.perform-in-Some.ensures.scope ∙ c.loop-part.invariant.scope;
       fits = λ u r. left.chain_rest (g.W.Env.fixed c.args.world.now).types c.args.scope.now u c.in-Some.part.now c.in-Some.others.now c.loop-part.rest.now c.in-Some.ensures.cases.0 (steps.some_left _ (sym c.is_empty.ensures ∙ c.if-is_empty.false)) (c.loop-part.invariant.fits u r);
-      done = steps.chain_goes g.W.World.gives _ _ _ _ _ _ _ _ _ _ (steps.chain_of (ground g.W.World.gives (g.W.Env.fixed c.args.world.now)) c.args.scope.now c.args.parts.now) c.in-Some.part.now c.in-Some.others.now c.loop-part.rest.now _ c.loop-part.invariant.passed.fixed c.loop-part.invariant.scope c.loop-part.invariant.passed.later c.perform-in-Some.ensures.passed.later c.in-Some.ensures.cases.0 (steps.some_left _ (sym c.is_empty.ensures ∙ c.if-is_empty.false)) c.loop-part.invariant.done c.in_ok-perform.ensures.done;
+      done = steps.chain_goes g.W.World.gives _ _ _ _ _ _ _ _ _ _ (steps.chain_of (ground g.W.World.gives (g.W.Env.fixed c.args.world.now)) c.args.scope.now c.args.parts.now) c.in-Some.part.now c.in-Some.others.now c.loop-part.rest.now _ c.loop-part.invariant.attempt.passed.fixed c.loop-part.invariant.scope c.loop-part.invariant.attempt.passed.later c.perform-in-Some.ensures.attempt.passed.later c.in-Some.ensures.cases.0 (steps.some_left _ (sym c.is_empty.ensures ∙ c.if-is_empty.false)) c.loop-part.invariant.done c.in_ok-perform.ensures.done;
       small = let j = steps.first_is_smaller c.loop-part.rest.now c.in-Some.part.now c.in-Some.others.now (terms_size (all c.args.parts.now)) c.in-Some.ensures.cases.0 c.loop-part.invariant.small in omega (arith, j);
-      cut = cutting.parts_go g.W.World.gives _ _ _ _ _ _ _ _ _ _ (cutting.parts_left (ground g.W.World.gives (g.W.Env.fixed c.args.world.now)) c.args.scope.now c.args.parts.now) c.in-Some.part.now c.in-Some.others.now c.loop-part.rest.now c.loop-part.invariant.passed.fixed c.loop-part.invariant.scope c.loop-part.invariant.passed.later c.perform-in-Some.ensures.passed.later c.in-Some.ensures.cases.0 _ c.loop-part.invariant.cut c.in_ok-perform.ensures.done;
+      cut = cutting.parts_go g.W.World.gives _ _ _ _ _ _ _ _ _ _ (cutting.parts_left (ground g.W.World.gives (g.W.Env.fixed c.args.world.now)) c.args.scope.now c.args.parts.now) c.in-Some.part.now c.in-Some.others.now c.loop-part.rest.now c.loop-part.invariant.attempt.passed.fixed c.loop-part.invariant.scope c.loop-part.invariant.attempt.passed.later c.perform-in-Some.ensures.attempt.passed.later c.in-Some.ensures.cases.0 _ c.loop-part.invariant.cut c.in_ok-perform.ensures.done;
     }
 
-pub chain-returns-in_err-perform-clause-passed : goal.chain-returns-in_err-perform-clause-passed
-chain-returns-in_err-perform-clause-passed g t c =
-    passed_on _ _ _ c.loop-part.invariant.passed c.perform-in-Some.ensures.passed
+pub chain-returns-in_err-perform-clause-attempt : goal.chain-returns-in_err-perform-clause-attempt
+chain-returns-in_err-perform-clause-attempt g t c = attempt_next _ _ _ (AnyMayWrite (all c.args.parts.now)) (MayWrite c.in-Some.part.now) (first_may c.loop-part.rest.now c.in-Some.part.now c.in-Some.others.now (AnyMayWrite (all c.args.parts.now)) c.in-Some.ensures.cases.0 c.loop-part.invariant.allowed) c.loop-part.invariant.attempt c.perform-in-Some.ensures.attempt
 
 pub chain-unreachable-requires : goal.chain-unreachable-requires
 chain-unreachable-requires g t c =
@@ -119,13 +116,10 @@ node-chain-requires g t c κs within =
       (within.0, (within.1, (c.requires.can.0, heads.parts_found (λ u ts. LastHasType (g.W.Env.fixed c.args.world.now).types c.args.scope.now u ts) (g.W.Env.fixed c.args.world.now).types c.args.scope.now top.chain _ c.as_slice.result.now _ (λ u r. chain_actable (g.W.Env.fixed c.args.world.now).types c.args.scope.now _ u r) (sym (ap core_branch c.in-Chain.is) ∙ c.core.view_is) c.as_slice.ensures c.requires.can.0 c.requires.can.1))),
     )
 
-pub node-returns-in-Chain-clause-done : goal.node-returns-in-Chain-clause-done
-node-returns-in-Chain-clause-done g t c =
-    steps.performed_as (SilenceCause (g.W.Env.marks c.args.world.now) (g.W.Env.marks c.chain.new.world)) (ground g.W.World.gives (g.W.Env.fixed c.args.world.now)) top.chain _ c.as_slice.result.now _ c.args.scope.now c.chain.result (g.W.World.state c.args.world.now) (g.W.World.state c.chain.new.world) (sym (ap core_branch c.in-Chain.is) ∙ c.core.view_is) c.as_slice.ensures c.requires.acts c.chain.ensures.done
-
-pub node-returns-in-Chain-clause-fits : goal.node-returns-in-Chain-clause-fits
-node-returns-in-Chain-clause-fits g t c =
-    λ u r. c.chain.ensures.fits u (heads.parts_found (λ u ts. LastHasType (g.W.Env.fixed c.args.world.now).types c.args.scope.now u ts) (g.W.Env.fixed c.args.world.now).types c.args.scope.now top.chain _ c.as_slice.result.now _ (λ u r. chain_actable (g.W.Env.fixed c.args.world.now).types c.args.scope.now _ u r) (sym (ap core_branch c.in-Chain.is) ∙ c.core.view_is) c.as_slice.ensures u r)
+pub node-returns-in-Chain : goal.node-returns-in-Chain
+node-returns-in-Chain g t c =
+    formulas.formula_is g.W.World.gives _ _ c.args.scope.now _ c.chain.result top.chain _ c.as_slice.result.now _ (sym (ap core_branch c.in-Chain.is) ∙ c.core.view_is) c.as_slice.ensures c.requires.acts
+    (record { attempt = attempt_all _ _ top.chain _ c.chain.ensures.attempt; scope = c.chain.ensures.scope; keeper = c.chain.ensures.keeper; done = c.chain.ensures.done; cut = c.chain.ensures.cut; fits = λ u r. c.chain.ensures.fits u (chain_actable (g.W.Env.fixed c.args.world.now).types c.args.scope.now _ u r) })
 
 pub node-branches-requires : goal.node-branches-requires
 node-branches-requires g t c κs within =
@@ -134,13 +128,10 @@ node-branches-requires g t c κs within =
       (within.0, (within.1, (c.requires.can.0, heads.parts_found (λ u ts. AreActingBranches (g.W.Env.fixed c.args.world.now).types c.args.scope.now u ts) (g.W.Env.fixed c.args.world.now).types c.args.scope.now (top.form form.If) _ c.as_slice-in-If.result.now _ (λ u r. if_actable (g.W.Env.fixed c.args.world.now).types c.args.scope.now _ u r) (sym (ap core_branch c.in-If.is) ∙ c.core.view_is) c.as_slice-in-If.ensures c.requires.can.0 c.requires.can.1))),
     )
 
-pub node-returns-in-If-clause-done : goal.node-returns-in-If-clause-done
-node-returns-in-If-clause-done g t c =
-    steps.performed_as (SilenceCause (g.W.Env.marks c.args.world.now) (g.W.Env.marks c.branches.new.world)) (ground g.W.World.gives (g.W.Env.fixed c.args.world.now)) (top.form form.If) _ c.as_slice-in-If.result.now _ c.args.scope.now c.branches.result (g.W.World.state c.args.world.now) (g.W.World.state c.branches.new.world) (sym (ap core_branch c.in-If.is) ∙ c.core.view_is) c.as_slice-in-If.ensures c.requires.acts c.branches.ensures.done
-
-pub node-returns-in-If-clause-fits : goal.node-returns-in-If-clause-fits
-node-returns-in-If-clause-fits g t c =
-    λ u r. c.branches.ensures.fits u (heads.parts_found (λ u ts. AreActingBranches (g.W.Env.fixed c.args.world.now).types c.args.scope.now u ts) (g.W.Env.fixed c.args.world.now).types c.args.scope.now (top.form form.If) _ c.as_slice-in-If.result.now _ (λ u r. if_actable (g.W.Env.fixed c.args.world.now).types c.args.scope.now _ u r) (sym (ap core_branch c.in-If.is) ∙ c.core.view_is) c.as_slice-in-If.ensures u r)
+pub node-returns-in-If : goal.node-returns-in-If
+node-returns-in-If g t c =
+    formulas.formula_is g.W.World.gives _ _ c.args.scope.now _ c.branches.result (top.form form.If) _ c.as_slice-in-If.result.now _ (sym (ap core_branch c.in-If.is) ∙ c.core.view_is) c.as_slice-in-If.ensures c.requires.acts
+    (record { attempt = attempt_all _ _ (top.form form.If) _ c.branches.ensures.attempt; scope = c.branches.ensures.scope; keeper = c.branches.ensures.keeper; done = c.branches.ensures.done; cut = c.branches.ensures.cut; fits = λ u r. c.branches.ensures.fits u (if_actable (g.W.Env.fixed c.args.world.now).types c.args.scope.now _ u r) })
 
 pub node-switch-requires : goal.node-switch-requires
 node-switch-requires g t c κs within =
@@ -149,13 +140,10 @@ node-switch-requires g t c κs within =
       (within.0, (within.1, (c.requires.can.0, heads.parts_found (λ u ts. IsActingSwitch (g.W.Env.fixed c.args.world.now).types c.args.scope.now u ts) (g.W.Env.fixed c.args.world.now).types c.args.scope.now (top.form form.Switch) _ c.as_slice-in-Switch.result.now _ (λ u r. switch_actable (g.W.Env.fixed c.args.world.now).types c.args.scope.now _ u r) (sym (ap core_branch c.in-Switch.is) ∙ c.core.view_is) c.as_slice-in-Switch.ensures c.requires.can.0 c.requires.can.1))),
     )
 
-pub node-returns-in-Switch-clause-done : goal.node-returns-in-Switch-clause-done
-node-returns-in-Switch-clause-done g t c =
-    steps.performed_as (SilenceCause (g.W.Env.marks c.args.world.now) (g.W.Env.marks c.switch.new.world)) (ground g.W.World.gives (g.W.Env.fixed c.args.world.now)) (top.form form.Switch) _ c.as_slice-in-Switch.result.now _ c.args.scope.now c.switch.result (g.W.World.state c.args.world.now) (g.W.World.state c.switch.new.world) (sym (ap core_branch c.in-Switch.is) ∙ c.core.view_is) c.as_slice-in-Switch.ensures c.requires.acts c.switch.ensures.done
-
-pub node-returns-in-Switch-clause-fits : goal.node-returns-in-Switch-clause-fits
-node-returns-in-Switch-clause-fits g t c =
-    λ u r. c.switch.ensures.fits u (heads.parts_found (λ u ts. IsActingSwitch (g.W.Env.fixed c.args.world.now).types c.args.scope.now u ts) (g.W.Env.fixed c.args.world.now).types c.args.scope.now (top.form form.Switch) _ c.as_slice-in-Switch.result.now _ (λ u r. switch_actable (g.W.Env.fixed c.args.world.now).types c.args.scope.now _ u r) (sym (ap core_branch c.in-Switch.is) ∙ c.core.view_is) c.as_slice-in-Switch.ensures u r)
+pub node-returns-in-Switch : goal.node-returns-in-Switch
+node-returns-in-Switch g t c =
+    formulas.formula_is g.W.World.gives _ _ c.args.scope.now _ c.switch.result (top.form form.Switch) _ c.as_slice-in-Switch.result.now _ (sym (ap core_branch c.in-Switch.is) ∙ c.core.view_is) c.as_slice-in-Switch.ensures c.requires.acts
+    (record { attempt = attempt_all _ _ (top.form form.Switch) _ c.switch.ensures.attempt; scope = c.switch.ensures.scope; keeper = c.switch.ensures.keeper; done = c.switch.ensures.done; cut = c.switch.ensures.cut; fits = λ u r. c.switch.ensures.fits u (switch_actable (g.W.Env.fixed c.args.world.now).types c.args.scope.now _ u r) })
 
 pub node-recover-requires : goal.node-recover-requires
 node-recover-requires g t c κs within =
@@ -164,13 +152,10 @@ node-recover-requires g t c κs within =
       (within.0, (within.1, (c.requires.can.0, heads.parts_found (λ u ts. AreActingRecoveries (g.W.Env.fixed c.args.world.now).types c.args.scope.now u ts) (g.W.Env.fixed c.args.world.now).types c.args.scope.now (top.form form.IfError) _ c.as_slice-in-IfError.result.now _ (λ u r. recover_actable (g.W.Env.fixed c.args.world.now).types c.args.scope.now _ u r) (sym (ap core_branch c.in-IfError.is) ∙ c.core.view_is) c.as_slice-in-IfError.ensures c.requires.can.0 c.requires.can.1))),
     )
 
-pub node-returns-in-IfError-clause-done : goal.node-returns-in-IfError-clause-done
-node-returns-in-IfError-clause-done g t c =
-    steps.performed_as (SilenceCause (g.W.Env.marks c.args.world.now) (g.W.Env.marks c.recover.new.world)) (ground g.W.World.gives (g.W.Env.fixed c.args.world.now)) (top.form form.IfError) _ c.as_slice-in-IfError.result.now _ c.args.scope.now c.recover.result (g.W.World.state c.args.world.now) (g.W.World.state c.recover.new.world) (sym (ap core_branch c.in-IfError.is) ∙ c.core.view_is) c.as_slice-in-IfError.ensures c.requires.acts c.recover.ensures.done
-
-pub node-returns-in-IfError-clause-fits : goal.node-returns-in-IfError-clause-fits
-node-returns-in-IfError-clause-fits g t c =
-    λ u r. c.recover.ensures.fits u (heads.parts_found (λ u ts. AreActingRecoveries (g.W.Env.fixed c.args.world.now).types c.args.scope.now u ts) (g.W.Env.fixed c.args.world.now).types c.args.scope.now (top.form form.IfError) _ c.as_slice-in-IfError.result.now _ (λ u r. recover_actable (g.W.Env.fixed c.args.world.now).types c.args.scope.now _ u r) (sym (ap core_branch c.in-IfError.is) ∙ c.core.view_is) c.as_slice-in-IfError.ensures u r)
+pub node-returns-in-IfError : goal.node-returns-in-IfError
+node-returns-in-IfError g t c =
+    formulas.formula_is g.W.World.gives _ _ c.args.scope.now _ c.recover.result (top.form form.IfError) _ c.as_slice-in-IfError.result.now _ (sym (ap core_branch c.in-IfError.is) ∙ c.core.view_is) c.as_slice-in-IfError.ensures c.requires.acts
+    (record { attempt = attempt_all _ _ (top.form form.IfError) _ c.recover.ensures.attempt; scope = c.recover.ensures.scope; keeper = c.recover.ensures.keeper; done = c.recover.ensures.done; cut = c.recover.ensures.cut; fits = λ u r. c.recover.ensures.fits u (recover_actable (g.W.Env.fixed c.args.world.now).types c.args.scope.now _ u r) })
 
 pub node-act_deed-requires : goal.node-act_deed-requires
 node-act_deed-requires g t c κs within =
@@ -179,13 +164,10 @@ node-act_deed-requires g t c κs within =
       (within.0, (within.1, heads.found_at (g.W.Env.fixed c.args.world.now).types c.args.scope.now _ _ (heads.parts_are (top.act c.in-Act.deed) _ c.as_slice-in-Act.result.now _ (sym (ap core_branch c.in-Act.is) ∙ c.core.view_is) c.as_slice-in-Act.ensures) c.requires.can)),
     )
 
-pub node-returns-in-Act-clause-done : goal.node-returns-in-Act-clause-done
-node-returns-in-Act-clause-done g t c =
-    steps.performed_as (SilenceCause (g.W.Env.marks c.args.world.now) (g.W.Env.marks c.act_deed.new.world)) (ground g.W.World.gives (g.W.Env.fixed c.args.world.now)) (top.act c.in-Act.deed) _ c.as_slice-in-Act.result.now _ c.args.scope.now c.act_deed.result (g.W.World.state c.args.world.now) (g.W.World.state c.act_deed.new.world) (sym (ap core_branch c.in-Act.is) ∙ c.core.view_is) c.as_slice-in-Act.ensures c.requires.acts c.act_deed.ensures.done
-
-pub node-returns-in-Act-clause-fits : goal.node-returns-in-Act-clause-fits
-node-returns-in-Act-clause-fits g t c =
-    λ u r. c.act_deed.ensures.fits u (heads.found (g.W.Env.fixed c.args.world.now).types c.args.scope.now _ _ (heads.parts_are (top.act c.in-Act.deed) _ c.as_slice-in-Act.result.now _ (sym (ap core_branch c.in-Act.is) ∙ c.core.view_is) c.as_slice-in-Act.ensures) u r)
+pub node-returns-in-Act : goal.node-returns-in-Act
+node-returns-in-Act g t c =
+    formulas.formula_is g.W.World.gives _ _ c.args.scope.now _ c.act_deed.result (top.act c.in-Act.deed) _ c.as_slice-in-Act.result.now _ (sym (ap core_branch c.in-Act.is) ∙ c.core.view_is) c.as_slice-in-Act.ensures c.requires.acts
+    (record { attempt = c.act_deed.ensures.attempt; scope = c.act_deed.ensures.scope; keeper = c.act_deed.ensures.keeper; done = c.act_deed.ensures.done; cut = c.act_deed.ensures.cut; fits = c.act_deed.ensures.fits })
 
 pub node-perform-requires : goal.node-perform-requires
 node-perform-requires g t c κs within =
@@ -233,7 +215,7 @@ for_all-each-requires g t c κs within =
     let k = gone (g.W.Env.fixed c.args.world.now).types c.args.scope.now c.args.table.now c.args.parts.now c.requires.0 c.requires.1 c.in-Some.formula.now _ c.in-Some.ensures.cases.0 (view c.in_ok-value.value) c.in_ok-value.ensures.fits c.in-Ok.rows c.as_slice.result.now c.in-Ok.ensures.0 c.as_slice.ensures in
     let j = steps.first_is_smaller c.args.parts.now c.in-Some.formula.now _ (terms_size (all c.args.parts.now)) c.in-Some.ensures.cases.0 (refl_le (terms_size (all c.args.parts.now))) in (
       omega (arith, j),
-      (within.0, (within.1, (k.type, steps.moved (λ f h. IsActableInside f.types h k.type c.in-Some.formula.now c.as_slice.result.now) _ _ _ _ c.perform.ensures.passed.fixed c.perform.ensures.scope k.inside))),
+      (within.0, (within.1, (k.type, steps.moved (λ f h. IsActableInside f.types h k.type c.in-Some.formula.now c.as_slice.result.now) _ _ _ _ c.perform.ensures.attempt.passed.fixed c.perform.ensures.scope k.inside))),
     )
 
 pub for_all-returns-in-Err-clause-done : goal.for_all-returns-in-Err-clause-done
@@ -280,7 +262,7 @@ act_deed-part_values-requires g t c κs within = (
 
 pub act_deed-do_deed-requires : goal.act_deed-do_deed-requires
 act_deed-do_deed-requires g t c =
-    subst (λ (f : Fixed). CanDo f.types c.args.deed.now (map view c.in_ok-values-in_default.values.items)) (sym c.part_values.ensures.passed.fixed)
+    subst (λ (f : Fixed). CanDo f.types c.args.deed.now (map view c.in_ok-values-in_default.values.items)) (sym c.part_values.ensures.attempt.passed.fixed)
     (acted.deed_can (g.W.Env.fixed c.args.world.now).types c.args.scope.now c.args.deed.now c.args.parts.now c.requires.0 (acted.not_updating c.args.deed.now c.in_default.not-UpdateIf) c.requires.1 (map view c.in_ok-values-in_default.values.items) c.in_ok-values-in_default.ensures.fits)
 
 pub node-within-requires : goal.node-within-requires
@@ -289,13 +271,10 @@ node-within-requires g t c κs within = (
   (within.0, (within.1, heads.found_at (g.W.Env.fixed c.args.world.now).types c.args.scope.now _ _ (nodes.two_are top.within _ _ _ _ _ (sym (ap core_branch c.in-With.is) ∙ c.core.view_is) c.deref.ensures c.deref-in-With.ensures) c.requires.can)),
 )
 
-pub node-returns-in-With-clause-done : goal.node-returns-in-With-clause-done
-node-returns-in-With-clause-done g t c =
-    steps.performed_as (SilenceCause (g.W.Env.marks c.args.world.now) (g.W.Env.marks c.within.new.world)) (ground g.W.World.gives (g.W.Env.fixed c.args.world.now)) top.within (c.deref.result.now ∷ c.deref-in-With.result.now ∷ []) (c.deref.result.now ∷ c.deref-in-With.result.now ∷ []) _ c.args.scope.now c.within.result (g.W.World.state c.args.world.now) (g.W.World.state c.within.new.world) (nodes.two_are top.within _ _ _ _ _ (sym (ap core_branch c.in-With.is) ∙ c.core.view_is) c.deref.ensures c.deref-in-With.ensures) refl c.requires.acts c.within.ensures.done
-
-pub node-returns-in-With-clause-fits : goal.node-returns-in-With-clause-fits
-node-returns-in-With-clause-fits g t c =
-    λ u r. c.within.ensures.fits u (heads.found (g.W.Env.fixed c.args.world.now).types c.args.scope.now _ _ (nodes.two_are top.within _ _ _ _ _ (sym (ap core_branch c.in-With.is) ∙ c.core.view_is) c.deref.ensures c.deref-in-With.ensures) u r)
+pub node-returns-in-With : goal.node-returns-in-With
+node-returns-in-With g t c =
+    formulas.formula_is g.W.World.gives _ _ c.args.scope.now _ c.within.result top.within (c.deref.result.now ∷ c.deref-in-With.result.now ∷ []) (c.deref.result.now ∷ c.deref-in-With.result.now ∷ []) _ (nodes.two_are top.within _ _ _ _ _ (sym (ap core_branch c.in-With.is) ∙ c.core.view_is) c.deref.ensures c.deref-in-With.ensures) refl c.requires.acts
+    (record { attempt = attempt_all _ _ top.within (all (c.deref.result.now ∷ c.deref-in-With.result.now ∷ [])) c.within.ensures.attempt; scope = c.within.ensures.scope; keeper = c.within.ensures.keeper; done = c.within.ensures.done; cut = c.within.ensures.cut; fits = c.within.ensures.fits })
 
 pub node-for_all-requires : goal.node-for_all-requires
 node-for_all-requires g t c κs within = (
@@ -303,13 +282,10 @@ node-for_all-requires g t c κs within = (
   (within.0, (within.1, heads.found_at (g.W.Env.fixed c.args.world.now).types c.args.scope.now _ _ (nodes.over_is (g.W.Env.fixed c.args.world.now).types c.args.scope.now _ _ c.deref-in-Over.result.now _ c.as_slice-in-Over.result.now _ (sym (ap core_branch c.in-Over.is) ∙ c.core.view_is) c.deref-in-Over.ensures c.as_slice-in-Over.ensures c.requires.can c.requires.acts) c.requires.can)),
 )
 
-pub node-returns-in-Over-clause-done : goal.node-returns-in-Over-clause-done
-node-returns-in-Over-clause-done g t c =
-    steps.performed_as (SilenceCause (g.W.Env.marks c.args.world.now) (g.W.Env.marks c.for_all.new.world)) (ground g.W.World.gives (g.W.Env.fixed c.args.world.now)) (top.over fun.ForAll) (c.deref-in-Over.result.now ∷ c.as_slice-in-Over.result.now) (c.deref-in-Over.result.now ∷ c.as_slice-in-Over.result.now) _ c.args.scope.now c.for_all.result (g.W.World.state c.args.world.now) (g.W.World.state c.for_all.new.world) (nodes.over_is (g.W.Env.fixed c.args.world.now).types c.args.scope.now _ _ c.deref-in-Over.result.now _ c.as_slice-in-Over.result.now _ (sym (ap core_branch c.in-Over.is) ∙ c.core.view_is) c.deref-in-Over.ensures c.as_slice-in-Over.ensures c.requires.can c.requires.acts) refl c.requires.acts c.for_all.ensures.done
-
-pub node-returns-in-Over-clause-fits : goal.node-returns-in-Over-clause-fits
-node-returns-in-Over-clause-fits g t c =
-    λ u r. c.for_all.ensures.fits u (heads.found (g.W.Env.fixed c.args.world.now).types c.args.scope.now _ _ (nodes.over_is (g.W.Env.fixed c.args.world.now).types c.args.scope.now _ _ c.deref-in-Over.result.now _ c.as_slice-in-Over.result.now _ (sym (ap core_branch c.in-Over.is) ∙ c.core.view_is) c.deref-in-Over.ensures c.as_slice-in-Over.ensures c.requires.can c.requires.acts) u r)
+pub node-returns-in-Over : goal.node-returns-in-Over
+node-returns-in-Over g t c =
+    formulas.formula_is g.W.World.gives _ _ c.args.scope.now _ c.for_all.result (top.over fun.ForAll) (c.deref-in-Over.result.now ∷ c.as_slice-in-Over.result.now) (c.deref-in-Over.result.now ∷ c.as_slice-in-Over.result.now) _ (nodes.over_is (g.W.Env.fixed c.args.world.now).types c.args.scope.now _ _ c.deref-in-Over.result.now _ c.as_slice-in-Over.result.now _ (sym (ap core_branch c.in-Over.is) ∙ c.core.view_is) c.deref-in-Over.ensures c.as_slice-in-Over.ensures c.requires.can c.requires.acts) refl c.requires.acts
+    (record { attempt = attempt_all _ _ (top.over fun.ForAll) (all (c.deref-in-Over.result.now ∷ c.as_slice-in-Over.result.now)) c.for_all.ensures.attempt; scope = c.for_all.ensures.scope; keeper = c.for_all.ensures.keeper; done = c.for_all.ensures.done; cut = c.for_all.ensures.cut; fits = c.for_all.ensures.fits })
 
 pub node-returns-in_ok-field_of-in-Dot-clause-done : goal.node-returns-in_ok-field_of-in-Dot-clause-done
 node-returns-in_ok-field_of-in-Dot-clause-done g t c =
@@ -335,13 +311,11 @@ pub node-returns-in_ok-list-in-List-clause-fits : goal.node-returns-in_ok-list-i
 node-returns-in_ok-list-in-List-clause-fits g t c =
     λ u r. nodes.list_fit (g.W.Env.fixed c.args.world.now).types c.args.scope.now _ u r _ _ _ (sym (ap core_branch c.in-List.is) ∙ c.core.view_is) c.as_slice-in-List.ensures (map view c.in_ok-values-in-List.values.items) (view c.in_ok-list-in-List.field-0) c.in_ok-values-in-List.ensures.fits c.in_ok-list-in-List.ensures
 
-pub for_all-returns-in_err-values-in-Ok-clause-passed : goal.for_all-returns-in_err-values-in-Ok-clause-passed
-for_all-returns-in_err-values-in-Ok-clause-passed g t c =
-    passed_on _ _ _ c.perform.ensures.passed c.each.ensures.passed
+pub for_all-returns-in_err-values-in-Ok-clause-attempt : goal.for_all-returns-in_err-values-in-Ok-clause-attempt
+for_all-returns-in_err-values-in-Ok-clause-attempt g t c = attempt_over _ _ _ (MayWrite c.args.table.now) (MayWrite c.in-Some.formula.now) (AnyMayWrite (cons c.args.table.now (all c.args.parts.now))) (λ x m. inl m) (first_may c.args.parts.now c.in-Some.formula.now _ (AnyMayWrite (cons c.args.table.now (all c.args.parts.now))) c.in-Some.ensures.cases.0 (λ x m. inr m)) c.perform.ensures.attempt c.each.ensures.attempt
 
-pub update_if-returns-in_err-changes-in-Ok-clause-passed : goal.update_if-returns-in_err-changes-in-Ok-clause-passed
-update_if-returns-in_err-changes-in-Ok-clause-passed g t c =
-    passed_on _ _ _ c.perform.ensures.passed c.each.ensures.passed
+pub update_if-returns-in_err-changes-in-Ok-clause-attempt : goal.update_if-returns-in_err-changes-in-Ok-clause-attempt
+update_if-returns-in_err-changes-in-Ok-clause-attempt g t c = attempt_over _ _ _ (MayWrite c.filter_and_change.result.0.now) (MayWrite c.filter_and_change.result.1.now) (MayWrite (of (top.act (deed.UpdateIf c.args.target)) (all c.args.parts.now))) (first_may c.args.parts.now c.filter_and_change.result.0.now (c.filter_and_change.result.1.now ∷ []) (MayWrite (of (top.act (deed.UpdateIf c.args.target)) (all c.args.parts.now))) c.filter_and_change.ensures (λ x m. inr m)) (first_may (c.filter_and_change.result.1.now ∷ []) c.filter_and_change.result.1.now [] (MayWrite (of (top.act (deed.UpdateIf c.args.target)) (all c.args.parts.now))) refl (others_may c.args.parts.now c.filter_and_change.result.0.now (c.filter_and_change.result.1.now ∷ []) (MayWrite (of (top.act (deed.UpdateIf c.args.target)) (all c.args.parts.now))) c.filter_and_change.ensures (λ x m. inr m))) c.perform.ensures.attempt c.each.ensures.attempt
 
 pub node-unreachable-requires : goal.node-unreachable-requires
 node-unreachable-requires g t c = other c.core.inside.node refl
@@ -376,24 +350,23 @@ within-perform-requires g t c κs within = (
 pub within-in_scope-requires : goal.within-in_scope-requires
 within-in_scope-requires g t c κs within = (
   omega arith,
-  (within.0, (within.1, (c.requires.0, steps.moved (λ f h. IsActable f.types (inner h (view c.in-Ok.row)) c.args.formula.now c.requires.0) _ _ _ _ c.perform.ensures.passed.fixed c.perform.ensures.scope (subst (λ z. IsActable (g.W.Env.fixed c.args.world.now).types (inner c.args.scope.now z) c.args.formula.now c.requires.0) (sym c.in-Ok.ensures.0) (formula_actable (g.W.Env.fixed c.args.world.now).types c.args.scope.now c.args.part.now c.args.formula.now c.requires.0 c.requires.1 (view c.in_ok-value.value) c.in_ok-value.ensures.fits))))),
+  (within.0, (within.1, (c.requires.0, steps.moved (λ f h. IsActable f.types (inner h (view c.in-Ok.row)) c.args.formula.now c.requires.0) _ _ _ _ c.perform.ensures.attempt.passed.fixed c.perform.ensures.scope (subst (λ z. IsActable (g.W.Env.fixed c.args.world.now).types (inner c.args.scope.now z) c.args.formula.now c.requires.0) (sym c.in-Ok.ensures.0) (formula_actable (g.W.Env.fixed c.args.world.now).types c.args.scope.now c.args.part.now c.args.formula.now c.requires.0 c.requires.1 (view c.in_ok-value.value) c.in_ok-value.ensures.fits))))),
 )
 
-pub within-returns-in-Ok-clause-passed : goal.within-returns-in-Ok-clause-passed
-within-returns-in-Ok-clause-passed g t c =
-    passed_on _ _ _ c.perform.ensures.passed c.in_scope.ensures.passed
+pub within-returns-in-Ok-clause-attempt : goal.within-returns-in-Ok-clause-attempt
+within-returns-in-Ok-clause-attempt g t c = attempt_over _ _ _ (MayWrite c.args.part.now) (MayWrite c.args.formula.now) (AnyMayWrite (cons c.args.part.now (cons c.args.formula.now nil))) (λ x m. inl m) (λ x m. inr (inl m)) c.perform.ensures.attempt c.in_scope.ensures.attempt
 
 pub within-returns-in-Ok-clause-done : goal.within-returns-in-Ok-clause-done
 within-returns-in-Ok-clause-done g t c =
     IfOk-weaker c.in_scope.result _ _
-    (λ v k. steps.within_goes (ground g.W.World.gives (g.W.Env.fixed c.args.world.now)) c.args.scope.now _ _ _ _ _ _ c.args.part.now (view c.in_ok-value.value) c.perform.ensures.passed.later c.in_scope.ensures.passed.later c.in-Ok.ensures.1 c.args.formula.now (view v) c.in_ok-value.ensures.done
+    (λ v k. steps.within_goes (ground g.W.World.gives (g.W.Env.fixed c.args.world.now)) c.args.scope.now _ _ _ _ _ _ c.args.part.now (view c.in_ok-value.value) c.perform.ensures.attempt.passed.later c.in_scope.ensures.attempt.passed.later c.in-Ok.ensures.1 c.args.formula.now (view v) c.in_ok-value.ensures.done
     (subst (λ z. MayFallSilent (SilenceCause (g.W.Env.marks c.perform.new.world) (g.W.Env.marks c.in_scope.new.world)) (λ s u. Performs (ground g.W.World.gives (g.W.Env.fixed c.args.world.now)) c.args.formula.now (inner c.args.scope.now z) (view v) s u) (g.W.World.state c.perform.new.world) (g.W.World.state c.in_scope.new.world)) c.in-Ok.ensures.0
-    (steps.back (λ f h. MayFallSilent (SilenceCause (g.W.Env.marks c.perform.new.world) (g.W.Env.marks c.in_scope.new.world)) (λ s u. Performs (ground g.W.World.gives f) c.args.formula.now (inner h (view c.in-Ok.row)) (view v) s u) (g.W.World.state c.perform.new.world) (g.W.World.state c.in_scope.new.world)) _ _ _ _ c.perform.ensures.passed.fixed c.perform.ensures.scope k)))
+    (steps.back (λ f h. MayFallSilent (SilenceCause (g.W.Env.marks c.perform.new.world) (g.W.Env.marks c.in_scope.new.world)) (λ s u. Performs (ground g.W.World.gives f) c.args.formula.now (inner h (view c.in-Ok.row)) (view v) s u) (g.W.World.state c.perform.new.world) (g.W.World.state c.in_scope.new.world)) _ _ _ _ c.perform.ensures.attempt.passed.fixed c.perform.ensures.scope k)))
     c.in_scope.ensures.done
 
 pub within-returns-in-Ok-clause-fits : goal.within-returns-in-Ok-clause-fits
 within-returns-in-Ok-clause-fits g t c =
-    λ u r. c.in_scope.ensures.fits u (steps.moved (λ f h. IsActable f.types (inner h (view c.in-Ok.row)) c.args.formula.now u) _ _ _ _ c.perform.ensures.passed.fixed c.perform.ensures.scope (subst (λ z. IsActable (g.W.Env.fixed c.args.world.now).types (inner c.args.scope.now z) c.args.formula.now u) (sym c.in-Ok.ensures.0) (formula_actable (g.W.Env.fixed c.args.world.now).types c.args.scope.now c.args.part.now c.args.formula.now u r (view c.in_ok-value.value) c.in_ok-value.ensures.fits)))
+    λ u r. c.in_scope.ensures.fits u (steps.moved (λ f h. IsActable f.types (inner h (view c.in-Ok.row)) c.args.formula.now u) _ _ _ _ c.perform.ensures.attempt.passed.fixed c.perform.ensures.scope (subst (λ z. IsActable (g.W.Env.fixed c.args.world.now).types (inner c.args.scope.now z) c.args.formula.now u) (sym c.in-Ok.ensures.0) (formula_actable (g.W.Env.fixed c.args.world.now).types c.args.scope.now c.args.part.now c.args.formula.now u r (view c.in_ok-value.value) c.in_ok-value.ensures.fits)))
 
 pub within-returns-in-Err-clause-done : goal.within-returns-in-Err-clause-done
 within-returns-in-Err-clause-done g t c =
@@ -422,25 +395,24 @@ pub switch-matches-requires : goal.switch-matches-requires
 switch-matches-requires g t c κs within =
     let j = steps.first_is_smaller c.args.parts.now c.in-Some.part.now c.in-Some.others.now (terms_size (all c.args.parts.now)) c.in-Some.ensures.cases.0 (refl_le (terms_size (all c.args.parts.now))) in (
       omega (arith, j),
-      (within.0, (within.1, (c.requires.0, steps.moved (λ f h. IsMatchedBy f.types h (view c.in-Ok.wanted) c.requires.0 c.in-Some.others.now) _ _ _ _ c.perform.ensures.passed.fixed c.perform.ensures.scope (left.switch_matched (g.W.Env.fixed c.args.world.now).types c.args.scope.now c.requires.0 c.in-Some.part.now c.in-Some.others.now c.args.parts.now (view c.in_ok-value.value) (view c.in-Ok.wanted) c.in-Some.ensures.cases.0 c.requires.1 c.in-Ok.ensures.0 c.in-Ok.ensures.1 c.in_ok-value.ensures.fits)))),
+      (within.0, (within.1, (c.requires.0, steps.moved (λ f h. IsMatchedBy f.types h (view c.in-Ok.wanted) c.requires.0 c.in-Some.others.now) _ _ _ _ c.perform.ensures.attempt.passed.fixed c.perform.ensures.scope (left.switch_matched (g.W.Env.fixed c.args.world.now).types c.args.scope.now c.requires.0 c.in-Some.part.now c.in-Some.others.now c.args.parts.now (view c.in_ok-value.value) (view c.in-Ok.wanted) c.in-Some.ensures.cases.0 c.requires.1 c.in-Ok.ensures.0 c.in-Ok.ensures.1 c.in_ok-value.ensures.fits)))),
     )
 
-pub switch-returns-in-Ok-clause-passed : goal.switch-returns-in-Ok-clause-passed
-switch-returns-in-Ok-clause-passed g t c =
-    passed_on _ _ _ c.perform.ensures.passed c.matches.ensures.passed
+pub switch-returns-in-Ok-clause-attempt : goal.switch-returns-in-Ok-clause-attempt
+switch-returns-in-Ok-clause-attempt g t c = attempt_over _ _ _ (MayWrite c.in-Some.part.now) (AnyMayWrite (all c.in-Some.others.now)) (AnyMayWrite (all c.args.parts.now)) (first_may c.args.parts.now c.in-Some.part.now c.in-Some.others.now (AnyMayWrite (all c.args.parts.now)) c.in-Some.ensures.cases.0 (λ x m. m)) (others_may c.args.parts.now c.in-Some.part.now c.in-Some.others.now (AnyMayWrite (all c.args.parts.now)) c.in-Some.ensures.cases.0 (λ x m. m)) c.perform.ensures.attempt c.matches.ensures.attempt
 
 pub switch-returns-in-Ok-clause-done : goal.switch-returns-in-Ok-clause-done
 switch-returns-in-Ok-clause-done g t c =
     IfOk-weaker c.matches.result _ _
     (λ v k. subst (λ (ts : List Term). MayFallSilent (SilenceCause (g.W.Env.marks c.args.world.now) (g.W.Env.marks c.matches.new.world)) (λ s u. PerformsSwitch (performings (ground g.W.World.gives (g.W.Env.fixed c.args.world.now)) (all ts)) c.args.scope.now s (view v) u) (g.W.World.state c.args.world.now) (g.W.World.state c.matches.new.world)) (sym c.in-Some.ensures.cases.0)
-    (steps.switch_goes (ground g.W.World.gives (g.W.Env.fixed c.args.world.now)) c.args.scope.now _ _ _ _ _ _ c.in-Some.part.now (view c.in_ok-value.value) c.perform.ensures.passed.later c.matches.ensures.passed.later c.in-Ok.ensures.1 c.in-Some.others.now (view v) c.in_ok-value.ensures.done
+    (steps.switch_goes (ground g.W.World.gives (g.W.Env.fixed c.args.world.now)) c.args.scope.now _ _ _ _ _ _ c.in-Some.part.now (view c.in_ok-value.value) c.perform.ensures.attempt.passed.later c.matches.ensures.attempt.passed.later c.in-Ok.ensures.1 c.in-Some.others.now (view v) c.in_ok-value.ensures.done
     (subst (λ z. MayFallSilent (SilenceCause (g.W.Env.marks c.perform.new.world) (g.W.Env.marks c.matches.new.world)) (λ s u. IsBranched (switch_decision z) (performings (ground g.W.World.gives (g.W.Env.fixed c.args.world.now)) (all c.in-Some.others.now)) c.args.scope.now s (view v) u) (g.W.World.state c.perform.new.world) (g.W.World.state c.matches.new.world)) c.in-Ok.ensures.0
-    (steps.back (λ f h. MayFallSilent (SilenceCause (g.W.Env.marks c.perform.new.world) (g.W.Env.marks c.matches.new.world)) (λ s u. IsBranched (switch_decision (view c.in-Ok.wanted)) (performings (ground g.W.World.gives f) (all c.in-Some.others.now)) h s (view v) u) (g.W.World.state c.perform.new.world) (g.W.World.state c.matches.new.world)) _ _ _ _ c.perform.ensures.passed.fixed c.perform.ensures.scope k))))
+    (steps.back (λ f h. MayFallSilent (SilenceCause (g.W.Env.marks c.perform.new.world) (g.W.Env.marks c.matches.new.world)) (λ s u. IsBranched (switch_decision (view c.in-Ok.wanted)) (performings (ground g.W.World.gives f) (all c.in-Some.others.now)) h s (view v) u) (g.W.World.state c.perform.new.world) (g.W.World.state c.matches.new.world)) _ _ _ _ c.perform.ensures.attempt.passed.fixed c.perform.ensures.scope k))))
     c.matches.ensures.done
 
 pub switch-returns-in-Ok-clause-fits : goal.switch-returns-in-Ok-clause-fits
 switch-returns-in-Ok-clause-fits g t c =
-    λ u r. c.matches.ensures.fits u (steps.moved (λ f h. IsMatchedBy f.types h (view c.in-Ok.wanted) u c.in-Some.others.now) _ _ _ _ c.perform.ensures.passed.fixed c.perform.ensures.scope (left.switch_matched (g.W.Env.fixed c.args.world.now).types c.args.scope.now u c.in-Some.part.now c.in-Some.others.now c.args.parts.now (view c.in_ok-value.value) (view c.in-Ok.wanted) c.in-Some.ensures.cases.0 r c.in-Ok.ensures.0 c.in-Ok.ensures.1 c.in_ok-value.ensures.fits))
+    λ u r. c.matches.ensures.fits u (steps.moved (λ f h. IsMatchedBy f.types h (view c.in-Ok.wanted) u c.in-Some.others.now) _ _ _ _ c.perform.ensures.attempt.passed.fixed c.perform.ensures.scope (left.switch_matched (g.W.Env.fixed c.args.world.now).types c.args.scope.now u c.in-Some.part.now c.in-Some.others.now c.args.parts.now (view c.in_ok-value.value) (view c.in-Ok.wanted) c.in-Some.ensures.cases.0 r c.in-Ok.ensures.0 c.in-Ok.ensures.1 c.in_ok-value.ensures.fits))
 
 pub switch-returns-in-Err-clause-done : goal.switch-returns-in-Err-clause-done
 switch-returns-in-Err-clause-done g t c =
@@ -451,79 +423,74 @@ pub branches-perform-requires : goal.branches-perform-requires
 branches-perform-requires g t c κs within =
     let j = steps.first_is_smaller c.loop-part.rest.now c.in-Some.part.now c.in-Some.others.now (terms_size (all c.args.parts.now)) c.in-Some.ensures.cases.0 c.loop-part.invariant.small in (
       omega (arith, j),
-      (within.0, (within.1, steps.moved (λ f h. CanAct f.types h c.in-Some.part.now) _ _ _ _ c.loop-part.invariant.passed.fixed c.loop-part.invariant.scope (left.branch_first (g.W.Env.fixed c.args.world.now).types c.args.scope.now c.requires.0 c.in-Some.part.now c.in-Some.others.now c.loop-part.rest.now c.in-Some.ensures.cases.0 (c.loop-part.invariant.fits c.requires.0 c.requires.1)))),
+      (within.0, (within.1, steps.moved (λ f h. CanAct f.types h c.in-Some.part.now) _ _ _ _ c.loop-part.invariant.attempt.passed.fixed c.loop-part.invariant.scope (left.branch_first (g.W.Env.fixed c.args.world.now).types c.args.scope.now c.requires.0 c.in-Some.part.now c.in-Some.others.now c.loop-part.rest.now c.in-Some.ensures.cases.0 (c.loop-part.invariant.fits c.requires.0 c.requires.1)))),
     )
 
 pub branches-perform-requires-in-Some : goal.branches-perform-requires-in-Some
 branches-perform-requires-in-Some g t c κs within =
     let j = steps.first_is_smaller c.loop-part.rest.now c.in-Some.part.now c.in-Some.others.now (terms_size (all c.args.parts.now)) c.in-Some.ensures.cases.0 c.loop-part.invariant.small in (
       omega (arith, j),
-      (within.0, (within.1, steps.moved (λ f h. CanAct f.types h c.in-Some.part.now) _ _ _ _ c.loop-part.invariant.passed.fixed c.loop-part.invariant.scope (left.branch_first (g.W.Env.fixed c.args.world.now).types c.args.scope.now c.requires.0 c.in-Some.part.now c.in-Some.others.now c.loop-part.rest.now c.in-Some.ensures.cases.0 (c.loop-part.invariant.fits c.requires.0 c.requires.1)))),
+      (within.0, (within.1, steps.moved (λ f h. CanAct f.types h c.in-Some.part.now) _ _ _ _ c.loop-part.invariant.attempt.passed.fixed c.loop-part.invariant.scope (left.branch_first (g.W.Env.fixed c.args.world.now).types c.args.scope.now c.requires.0 c.in-Some.part.now c.in-Some.others.now c.loop-part.rest.now c.in-Some.ensures.cases.0 (c.loop-part.invariant.fits c.requires.0 c.requires.1)))),
     )
 
-pub branches-returns-in_default-split_first-clause-passed : goal.branches-returns-in_default-split_first-clause-passed
-branches-returns-in_default-split_first-clause-passed g t c =
-    passed_on _ _ _ c.loop-part.invariant.passed c.perform.ensures.passed
+pub branches-returns-in_default-split_first-clause-attempt : goal.branches-returns-in_default-split_first-clause-attempt
+branches-returns-in_default-split_first-clause-attempt g t c = attempt_next _ _ _ (AnyMayWrite (all c.args.parts.now)) (MayWrite c.in-Some.part.now) (first_may c.loop-part.rest.now c.in-Some.part.now c.in-Some.others.now (AnyMayWrite (all c.args.parts.now)) c.in-Some.ensures.cases.0 c.loop-part.invariant.allowed) c.loop-part.invariant.attempt c.perform.ensures.attempt
 
 pub branches-returns-in_default-split_first-clause-done : goal.branches-returns-in_default-split_first-clause-done
 branches-returns-in_default-split_first-clause-done g t c =
     IfOk-weaker c.perform.result _ _
-    (λ v k. steps.branch_ends g.W.World.gives _ _ _ _ _ _ _ _ _ _ (steps.branches_of decision_of (ground g.W.World.gives (g.W.Env.fixed c.args.world.now)) c.args.scope.now c.args.parts.now) c.in-Some.part.now c.in-Some.others.now c.loop-part.rest.now (view v) c.loop-part.invariant.passed.fixed c.loop-part.invariant.scope c.loop-part.invariant.passed.later c.perform.ensures.passed.later c.in-Some.ensures.cases.0 decision_of (nil_from_length _ c.in_default-split_first.ensures.cases) c.loop-part.invariant.done k)
+    (λ v k. steps.branch_ends g.W.World.gives _ _ _ _ _ _ _ _ _ _ (steps.branches_of decision_of (ground g.W.World.gives (g.W.Env.fixed c.args.world.now)) c.args.scope.now c.args.parts.now) c.in-Some.part.now c.in-Some.others.now c.loop-part.rest.now (view v) c.loop-part.invariant.attempt.passed.fixed c.loop-part.invariant.scope c.loop-part.invariant.attempt.passed.later c.perform.ensures.attempt.passed.later c.in-Some.ensures.cases.0 decision_of (nil_from_length _ c.in_default-split_first.ensures.cases) c.loop-part.invariant.done k)
     c.perform.ensures.done
 
 pub branches-returns-in_default-split_first-clause-fits : goal.branches-returns-in_default-split_first-clause-fits
 branches-returns-in_default-split_first-clause-fits g t c =
-    λ u r. c.perform.ensures.fits u (steps.moved (λ f h. IsActable f.types h c.in-Some.part.now u) _ _ _ _ c.loop-part.invariant.passed.fixed c.loop-part.invariant.scope (left.branch_last (g.W.Env.fixed c.args.world.now).types c.args.scope.now u c.in-Some.part.now c.in-Some.others.now c.loop-part.rest.now c.in-Some.ensures.cases.0 (nil_from_length _ c.in_default-split_first.ensures.cases) (c.loop-part.invariant.fits u r)))
+    λ u r. c.perform.ensures.fits u (steps.moved (λ f h. IsActable f.types h c.in-Some.part.now u) _ _ _ _ c.loop-part.invariant.attempt.passed.fixed c.loop-part.invariant.scope (left.branch_last (g.W.Env.fixed c.args.world.now).types c.args.scope.now u c.in-Some.part.now c.in-Some.others.now c.loop-part.rest.now c.in-Some.ensures.cases.0 (nil_from_length _ c.in_default-split_first.ensures.cases) (c.loop-part.invariant.fits u r)))
 
-pub branches-returns-in_err-value-clause-passed : goal.branches-returns-in_err-value-clause-passed
-branches-returns-in_err-value-clause-passed g t c =
-    passed_on _ _ _ c.loop-part.invariant.passed c.perform-in-Some.ensures.passed
+pub branches-returns-in_err-value-clause-attempt : goal.branches-returns-in_err-value-clause-attempt
+branches-returns-in_err-value-clause-attempt g t c = attempt_next _ _ _ (AnyMayWrite (all c.args.parts.now)) (MayWrite c.in-Some.part.now) (first_may c.loop-part.rest.now c.in-Some.part.now c.in-Some.others.now (AnyMayWrite (all c.args.parts.now)) c.in-Some.ensures.cases.0 c.loop-part.invariant.allowed) c.loop-part.invariant.attempt c.perform-in-Some.ensures.attempt
 
 pub branches-perform-requires-in-Met : goal.branches-perform-requires-in-Met
 branches-perform-requires-in-Met g t c κs within =
     let j = steps.first_is_smaller c.loop-part.rest.now c.in-Some.part.now c.in-Some.others.now (terms_size (all c.args.parts.now)) c.in-Some.ensures.cases.0 c.loop-part.invariant.small in
     let i = steps.first_is_smaller c.in-Some.others.now c.in-Some-split_first.branch.now c.in-Some-split_first.beyond.now (terms_size (all c.in-Some.others.now)) c.in-Some-split_first.ensures.cases.0 (refl_le (terms_size (all c.in-Some.others.now))) in (
       omega (arith, i, j),
-      (within.0, (within.1, (c.requires.0, steps.moved (λ f h. IsActable f.types h c.in-Some-split_first.branch.now c.requires.0) _ _ _ _ (c.perform-in-Some.ensures.passed.fixed ∙ c.loop-part.invariant.passed.fixed) (c.perform-in-Some.ensures.scope ∙ c.loop-part.invariant.scope) (left.branch_chosen (g.W.Env.fixed c.args.world.now).types c.args.scope.now c.requires.0 c.in-Some.part.now c.in-Some-split_first.branch.now c.in-Some.others.now c.in-Some-split_first.beyond.now c.loop-part.rest.now c.in-Some.ensures.cases.0 c.in-Some-split_first.ensures.cases.0 (c.loop-part.invariant.fits c.requires.0 c.requires.1))))),
+      (within.0, (within.1, (c.requires.0, steps.moved (λ f h. IsActable f.types h c.in-Some-split_first.branch.now c.requires.0) _ _ _ _ (c.perform-in-Some.ensures.attempt.passed.fixed ∙ c.loop-part.invariant.attempt.passed.fixed) (c.perform-in-Some.ensures.scope ∙ c.loop-part.invariant.scope) (left.branch_chosen (g.W.Env.fixed c.args.world.now).types c.args.scope.now c.requires.0 c.in-Some.part.now c.in-Some-split_first.branch.now c.in-Some.others.now c.in-Some-split_first.beyond.now c.loop-part.rest.now c.in-Some.ensures.cases.0 c.in-Some-split_first.ensures.cases.0 (c.loop-part.invariant.fits c.requires.0 c.requires.1))))),
     )
 
-pub branches-returns-in-Met-clause-passed : goal.branches-returns-in-Met-clause-passed
-branches-returns-in-Met-clause-passed g t c =
-    passed_on _ _ _ (passed_on _ _ _ c.loop-part.invariant.passed c.perform-in-Some.ensures.passed) c.perform-in-Met.ensures.passed
+pub branches-returns-in-Met-clause-attempt : goal.branches-returns-in-Met-clause-attempt
+branches-returns-in-Met-clause-attempt g t c = attempt_next _ _ _ (AnyMayWrite (all c.args.parts.now)) (MayWrite c.in-Some-split_first.branch.now) (first_may c.in-Some.others.now c.in-Some-split_first.branch.now c.in-Some-split_first.beyond.now (AnyMayWrite (all c.args.parts.now)) c.in-Some-split_first.ensures.cases.0 (others_may c.loop-part.rest.now c.in-Some.part.now c.in-Some.others.now (AnyMayWrite (all c.args.parts.now)) c.in-Some.ensures.cases.0 c.loop-part.invariant.allowed)) (attempt_next _ _ _ (AnyMayWrite (all c.args.parts.now)) (MayWrite c.in-Some.part.now) (first_may c.loop-part.rest.now c.in-Some.part.now c.in-Some.others.now (AnyMayWrite (all c.args.parts.now)) c.in-Some.ensures.cases.0 c.loop-part.invariant.allowed) c.loop-part.invariant.attempt c.perform-in-Some.ensures.attempt) c.perform-in-Met.ensures.attempt
 
 pub branches-returns-in-Met-clause-done : goal.branches-returns-in-Met-clause-done
 branches-returns-in-Met-clause-done g t c =
     IfOk-weaker c.perform-in-Met.result _ _
-    (λ v k. steps.branch_done g.W.World.gives _ _ _ _ _ _ _ _ _ _ (steps.branches_of decision_of (ground g.W.World.gives (g.W.Env.fixed c.args.world.now)) c.args.scope.now c.args.parts.now) c.in-Some-split_first.branch.now (view v) (c.perform-in-Some.ensures.passed.fixed ∙ c.loop-part.invariant.passed.fixed) (c.perform-in-Some.ensures.scope ∙ c.loop-part.invariant.scope) (passed_on _ _ _ c.loop-part.invariant.passed c.perform-in-Some.ensures.passed).later c.perform-in-Met.ensures.passed.later
-    (steps.branch_met g.W.World.gives _ _ _ _ _ _ _ _ _ _ (steps.branches_of decision_of (ground g.W.World.gives (g.W.Env.fixed c.args.world.now)) c.args.scope.now c.args.parts.now) c.in-Some.part.now c.in-Some.others.now c.loop-part.rest.now (view c.in_ok-value.value) c.loop-part.invariant.passed.fixed c.loop-part.invariant.scope c.loop-part.invariant.passed.later c.perform-in-Some.ensures.passed.later c.in-Some.ensures.cases.0 decision_of c.in-Some-split_first.branch.now c.in-Some-split_first.beyond.now c.in-Some-split_first.ensures.cases.0 (sym c.decide.ensures ∙ c.in-Met.is) c.loop-part.invariant.done c.in_ok-value.ensures.done) k)
+    (λ v k. steps.branch_done g.W.World.gives _ _ _ _ _ _ _ _ _ _ (steps.branches_of decision_of (ground g.W.World.gives (g.W.Env.fixed c.args.world.now)) c.args.scope.now c.args.parts.now) c.in-Some-split_first.branch.now (view v) (c.perform-in-Some.ensures.attempt.passed.fixed ∙ c.loop-part.invariant.attempt.passed.fixed) (c.perform-in-Some.ensures.scope ∙ c.loop-part.invariant.scope) (passed_on _ _ _ c.loop-part.invariant.attempt.passed c.perform-in-Some.ensures.attempt.passed).later c.perform-in-Met.ensures.attempt.passed.later
+    (steps.branch_met g.W.World.gives _ _ _ _ _ _ _ _ _ _ (steps.branches_of decision_of (ground g.W.World.gives (g.W.Env.fixed c.args.world.now)) c.args.scope.now c.args.parts.now) c.in-Some.part.now c.in-Some.others.now c.loop-part.rest.now (view c.in_ok-value.value) c.loop-part.invariant.attempt.passed.fixed c.loop-part.invariant.scope c.loop-part.invariant.attempt.passed.later c.perform-in-Some.ensures.attempt.passed.later c.in-Some.ensures.cases.0 decision_of c.in-Some-split_first.branch.now c.in-Some-split_first.beyond.now c.in-Some-split_first.ensures.cases.0 (sym c.decide.ensures ∙ c.in-Met.is) c.loop-part.invariant.done c.in_ok-value.ensures.done) k)
     c.perform-in-Met.ensures.done
 
 pub branches-returns-in-Met-clause-fits : goal.branches-returns-in-Met-clause-fits
 branches-returns-in-Met-clause-fits g t c =
-    λ u r. c.perform-in-Met.ensures.fits u (steps.moved (λ f h. IsActable f.types h c.in-Some-split_first.branch.now u) _ _ _ _ (c.perform-in-Some.ensures.passed.fixed ∙ c.loop-part.invariant.passed.fixed) (c.perform-in-Some.ensures.scope ∙ c.loop-part.invariant.scope) (left.branch_chosen (g.W.Env.fixed c.args.world.now).types c.args.scope.now u c.in-Some.part.now c.in-Some-split_first.branch.now c.in-Some.others.now c.in-Some-split_first.beyond.now c.loop-part.rest.now c.in-Some.ensures.cases.0 c.in-Some-split_first.ensures.cases.0 (c.loop-part.invariant.fits u r)))
+    λ u r. c.perform-in-Met.ensures.fits u (steps.moved (λ f h. IsActable f.types h c.in-Some-split_first.branch.now u) _ _ _ _ (c.perform-in-Some.ensures.attempt.passed.fixed ∙ c.loop-part.invariant.attempt.passed.fixed) (c.perform-in-Some.ensures.scope ∙ c.loop-part.invariant.scope) (left.branch_chosen (g.W.Env.fixed c.args.world.now).types c.args.scope.now u c.in-Some.part.now c.in-Some-split_first.branch.now c.in-Some.others.now c.in-Some-split_first.beyond.now c.loop-part.rest.now c.in-Some.ensures.cases.0 c.in-Some-split_first.ensures.cases.0 (c.loop-part.invariant.fits u r)))
 
 pub branches-loop-part-preserved : goal.branches-loop-part-preserved
 branches-loop-part-preserved g t c =
     record {
-      passed = passed_on _ _ _ c.loop-part.invariant.passed c.perform-in-Some.ensures.passed;
+      attempt = attempt_next _ _ _ (AnyMayWrite (all c.args.parts.now)) (MayWrite c.in-Some.part.now) (first_may c.loop-part.rest.now c.in-Some.part.now c.in-Some.others.now (AnyMayWrite (all c.args.parts.now)) c.in-Some.ensures.cases.0 c.loop-part.invariant.allowed) c.loop-part.invariant.attempt c.perform-in-Some.ensures.attempt;
       allowed = others_may c.in-Some.others.now c.in-Some-split_first.branch.now c.in-Some-split_first.beyond.now (AnyMayWrite (all c.args.parts.now)) c.in-Some-split_first.ensures.cases.0 (others_may c.loop-part.rest.now c.in-Some.part.now c.in-Some.others.now (AnyMayWrite (all c.args.parts.now)) c.in-Some.ensures.cases.0 c.loop-part.invariant.allowed);
-      only = only_next _ _ c.loop-part.invariant.passed _ (AnyMayWrite (all c.args.parts.now)) c.in-Some.part.now c.perform-in-Some.ensures.passed (first_may c.loop-part.rest.now c.in-Some.part.now c.in-Some.others.now (AnyMayWrite (all c.args.parts.now)) c.in-Some.ensures.cases.0 c.loop-part.invariant.allowed) c.loop-part.invariant.only c.perform-in-Some.ensures.only;
       scope = c.perform-in-Some.ensures.scope ∙ c.loop-part.invariant.scope;
       fits = λ u r. left.branch_beyond (g.W.Env.fixed c.args.world.now).types c.args.scope.now u c.in-Some.part.now c.in-Some-split_first.branch.now c.in-Some.others.now c.in-Some-split_first.beyond.now c.loop-part.rest.now c.in-Some.ensures.cases.0 c.in-Some-split_first.ensures.cases.0 (c.loop-part.invariant.fits u r);
-      done = steps.branch_unmet g.W.World.gives _ _ _ _ _ _ _ _ _ _ (steps.branches_of decision_of (ground g.W.World.gives (g.W.Env.fixed c.args.world.now)) c.args.scope.now c.args.parts.now) c.in-Some.part.now c.in-Some.others.now c.loop-part.rest.now (view c.in_ok-value.value) c.loop-part.invariant.passed.fixed c.loop-part.invariant.scope c.loop-part.invariant.passed.later c.perform-in-Some.ensures.passed.later c.in-Some.ensures.cases.0 decision_of c.in-Some-split_first.branch.now c.in-Some-split_first.beyond.now c.in-Some-split_first.ensures.cases.0 (sym c.decide.ensures ∙ c.in-Unmet.is) c.loop-part.invariant.done c.in_ok-value.ensures.done;
+      done = steps.branch_unmet g.W.World.gives _ _ _ _ _ _ _ _ _ _ (steps.branches_of decision_of (ground g.W.World.gives (g.W.Env.fixed c.args.world.now)) c.args.scope.now c.args.parts.now) c.in-Some.part.now c.in-Some.others.now c.loop-part.rest.now (view c.in_ok-value.value) c.loop-part.invariant.attempt.passed.fixed c.loop-part.invariant.scope c.loop-part.invariant.attempt.passed.later c.perform-in-Some.ensures.attempt.passed.later c.in-Some.ensures.cases.0 decision_of c.in-Some-split_first.branch.now c.in-Some-split_first.beyond.now c.in-Some-split_first.ensures.cases.0 (sym c.decide.ensures ∙ c.in-Unmet.is) c.loop-part.invariant.done c.in_ok-value.ensures.done;
       small = let j = steps.first_is_smaller c.loop-part.rest.now c.in-Some.part.now c.in-Some.others.now (terms_size (all c.args.parts.now)) c.in-Some.ensures.cases.0 c.loop-part.invariant.small in
           let i = steps.first_is_smaller c.in-Some.others.now c.in-Some-split_first.branch.now c.in-Some-split_first.beyond.now (terms_size (all c.in-Some.others.now)) c.in-Some-split_first.ensures.cases.0 (refl_le (terms_size (all c.in-Some.others.now))) in
           omega (arith, i, j);
-      cut = cutting.branch_unmet g.W.World.gives _ _ _ _ _ _ _ _ _ _ (cutting.branches_left decision_of (ground g.W.World.gives (g.W.Env.fixed c.args.world.now)) c.args.scope.now c.args.parts.now) c.in-Some.part.now c.in-Some.others.now c.loop-part.rest.now c.loop-part.invariant.passed.fixed c.loop-part.invariant.scope c.loop-part.invariant.passed.later c.perform-in-Some.ensures.passed.later c.in-Some.ensures.cases.0 (view c.in_ok-value.value) decision_of c.in-Some-split_first.branch.now c.in-Some-split_first.beyond.now c.in-Some-split_first.ensures.cases.0 (sym c.decide.ensures ∙ c.in-Unmet.is) c.loop-part.invariant.cut c.in_ok-value.ensures.done;
+      cut = cutting.branch_unmet g.W.World.gives _ _ _ _ _ _ _ _ _ _ (cutting.branches_left decision_of (ground g.W.World.gives (g.W.Env.fixed c.args.world.now)) c.args.scope.now c.args.parts.now) c.in-Some.part.now c.in-Some.others.now c.loop-part.rest.now c.loop-part.invariant.attempt.passed.fixed c.loop-part.invariant.scope c.loop-part.invariant.attempt.passed.later c.perform-in-Some.ensures.attempt.passed.later c.in-Some.ensures.cases.0 (view c.in_ok-value.value) decision_of c.in-Some-split_first.branch.now c.in-Some-split_first.beyond.now c.in-Some-split_first.ensures.cases.0 (sym c.decide.ensures ∙ c.in-Unmet.is) c.loop-part.invariant.cut c.in_ok-value.ensures.done;
     }
 
-pub branches-returns-in-Error-clause-passed : goal.branches-returns-in-Error-clause-passed
-branches-returns-in-Error-clause-passed g t c =
-    passed_on _ _ _ c.loop-part.invariant.passed c.perform-in-Some.ensures.passed
+pub branches-returns-in-Error-clause-attempt : goal.branches-returns-in-Error-clause-attempt
+branches-returns-in-Error-clause-attempt g t c = attempt_next _ _ _ (AnyMayWrite (all c.args.parts.now)) (MayWrite c.in-Some.part.now) (first_may c.loop-part.rest.now c.in-Some.part.now c.in-Some.others.now (AnyMayWrite (all c.args.parts.now)) c.in-Some.ensures.cases.0 c.loop-part.invariant.allowed) c.loop-part.invariant.attempt c.perform-in-Some.ensures.attempt
 
 pub branches-returns-in-Error-clause-done : goal.branches-returns-in-Error-clause-done
 branches-returns-in-Error-clause-done g t c =
-    steps.branch_fails g.W.World.gives _ _ _ _ _ _ _ _ _ _ (steps.branches_of decision_of (ground g.W.World.gives (g.W.Env.fixed c.args.world.now)) c.args.scope.now c.args.parts.now) c.in-Some.part.now c.in-Some.others.now c.loop-part.rest.now (view c.in_ok-value.value) c.loop-part.invariant.passed.fixed c.loop-part.invariant.scope c.loop-part.invariant.passed.later c.perform-in-Some.ensures.passed.later c.in-Some.ensures.cases.0 decision_of c.in-Some-split_first.branch.now c.in-Some-split_first.beyond.now c.in-Some-split_first.ensures.cases.0 c.in-Error.fault (sym c.decide.ensures ∙ c.in-Error.is) c.loop-part.invariant.done c.in_ok-value.ensures.done
+    steps.branch_fails g.W.World.gives _ _ _ _ _ _ _ _ _ _ (steps.branches_of decision_of (ground g.W.World.gives (g.W.Env.fixed c.args.world.now)) c.args.scope.now c.args.parts.now) c.in-Some.part.now c.in-Some.others.now c.loop-part.rest.now (view c.in_ok-value.value) c.loop-part.invariant.attempt.passed.fixed c.loop-part.invariant.scope c.loop-part.invariant.attempt.passed.later c.perform-in-Some.ensures.attempt.passed.later c.in-Some.ensures.cases.0 decision_of c.in-Some-split_first.branch.now c.in-Some-split_first.beyond.now c.in-Some-split_first.ensures.cases.0 c.in-Error.fault (sym c.decide.ensures ∙ c.in-Error.is) c.loop-part.invariant.done c.in_ok-value.ensures.done
 
 pub branches-returns-clause-done : goal.branches-returns-clause-done
 branches-returns-clause-done g t c =
@@ -533,80 +500,75 @@ pub matches-perform-requires : goal.matches-perform-requires
 matches-perform-requires g t c κs within =
     let j = steps.first_is_smaller c.loop-part.rest.now c.in-Some.part.now c.in-Some.others.now (terms_size (all c.args.parts.now)) c.in-Some.ensures.cases.0 c.loop-part.invariant.small in (
       omega (arith, j),
-      (within.0, (within.1, steps.moved (λ f h. CanAct f.types h c.in-Some.part.now) _ _ _ _ c.loop-part.invariant.passed.fixed c.loop-part.invariant.scope (left.match_first (g.W.Env.fixed c.args.world.now).types c.args.scope.now (view c.args.wanted) c.requires.0 c.in-Some.part.now c.in-Some.others.now c.loop-part.rest.now c.in-Some.ensures.cases.0 (c.loop-part.invariant.fits c.requires.0 c.requires.1)))),
+      (within.0, (within.1, steps.moved (λ f h. CanAct f.types h c.in-Some.part.now) _ _ _ _ c.loop-part.invariant.attempt.passed.fixed c.loop-part.invariant.scope (left.match_first (g.W.Env.fixed c.args.world.now).types c.args.scope.now (view c.args.wanted) c.requires.0 c.in-Some.part.now c.in-Some.others.now c.loop-part.rest.now c.in-Some.ensures.cases.0 (c.loop-part.invariant.fits c.requires.0 c.requires.1)))),
     )
 
 pub matches-perform-requires-in-Some : goal.matches-perform-requires-in-Some
 matches-perform-requires-in-Some g t c κs within =
     let j = steps.first_is_smaller c.loop-part.rest.now c.in-Some.part.now c.in-Some.others.now (terms_size (all c.args.parts.now)) c.in-Some.ensures.cases.0 c.loop-part.invariant.small in (
       omega (arith, j),
-      (within.0, (within.1, steps.moved (λ f h. CanAct f.types h c.in-Some.part.now) _ _ _ _ c.loop-part.invariant.passed.fixed c.loop-part.invariant.scope (left.match_first (g.W.Env.fixed c.args.world.now).types c.args.scope.now (view c.args.wanted) c.requires.0 c.in-Some.part.now c.in-Some.others.now c.loop-part.rest.now c.in-Some.ensures.cases.0 (c.loop-part.invariant.fits c.requires.0 c.requires.1)))),
+      (within.0, (within.1, steps.moved (λ f h. CanAct f.types h c.in-Some.part.now) _ _ _ _ c.loop-part.invariant.attempt.passed.fixed c.loop-part.invariant.scope (left.match_first (g.W.Env.fixed c.args.world.now).types c.args.scope.now (view c.args.wanted) c.requires.0 c.in-Some.part.now c.in-Some.others.now c.loop-part.rest.now c.in-Some.ensures.cases.0 (c.loop-part.invariant.fits c.requires.0 c.requires.1)))),
     )
 
-pub matches-returns-in_default-split_first-clause-passed : goal.matches-returns-in_default-split_first-clause-passed
-matches-returns-in_default-split_first-clause-passed g t c =
-    passed_on _ _ _ c.loop-part.invariant.passed c.perform.ensures.passed
+pub matches-returns-in_default-split_first-clause-attempt : goal.matches-returns-in_default-split_first-clause-attempt
+matches-returns-in_default-split_first-clause-attempt g t c = attempt_next _ _ _ (AnyMayWrite (all c.args.parts.now)) (MayWrite c.in-Some.part.now) (first_may c.loop-part.rest.now c.in-Some.part.now c.in-Some.others.now (AnyMayWrite (all c.args.parts.now)) c.in-Some.ensures.cases.0 c.loop-part.invariant.allowed) c.loop-part.invariant.attempt c.perform.ensures.attempt
 
 pub matches-returns-in_default-split_first-clause-done : goal.matches-returns-in_default-split_first-clause-done
 matches-returns-in_default-split_first-clause-done g t c =
     IfOk-weaker c.perform.result _ _
-    (λ v k. steps.branch_ends g.W.World.gives _ _ _ _ _ _ _ _ _ _ (steps.branches_of (switch_decision (view c.args.wanted)) (ground g.W.World.gives (g.W.Env.fixed c.args.world.now)) c.args.scope.now c.args.parts.now) c.in-Some.part.now c.in-Some.others.now c.loop-part.rest.now (view v) c.loop-part.invariant.passed.fixed c.loop-part.invariant.scope c.loop-part.invariant.passed.later c.perform.ensures.passed.later c.in-Some.ensures.cases.0 (switch_decision (view c.args.wanted)) (nil_from_length _ c.in_default-split_first.ensures.cases) c.loop-part.invariant.done k)
+    (λ v k. steps.branch_ends g.W.World.gives _ _ _ _ _ _ _ _ _ _ (steps.branches_of (switch_decision (view c.args.wanted)) (ground g.W.World.gives (g.W.Env.fixed c.args.world.now)) c.args.scope.now c.args.parts.now) c.in-Some.part.now c.in-Some.others.now c.loop-part.rest.now (view v) c.loop-part.invariant.attempt.passed.fixed c.loop-part.invariant.scope c.loop-part.invariant.attempt.passed.later c.perform.ensures.attempt.passed.later c.in-Some.ensures.cases.0 (switch_decision (view c.args.wanted)) (nil_from_length _ c.in_default-split_first.ensures.cases) c.loop-part.invariant.done k)
     c.perform.ensures.done
 
 pub matches-returns-in_default-split_first-clause-fits : goal.matches-returns-in_default-split_first-clause-fits
 matches-returns-in_default-split_first-clause-fits g t c =
-    λ u r. c.perform.ensures.fits u (steps.moved (λ f h. IsActable f.types h c.in-Some.part.now u) _ _ _ _ c.loop-part.invariant.passed.fixed c.loop-part.invariant.scope (left.match_last (g.W.Env.fixed c.args.world.now).types c.args.scope.now (view c.args.wanted) u c.in-Some.part.now c.in-Some.others.now c.loop-part.rest.now c.in-Some.ensures.cases.0 (nil_from_length _ c.in_default-split_first.ensures.cases) (c.loop-part.invariant.fits u r)))
+    λ u r. c.perform.ensures.fits u (steps.moved (λ f h. IsActable f.types h c.in-Some.part.now u) _ _ _ _ c.loop-part.invariant.attempt.passed.fixed c.loop-part.invariant.scope (left.match_last (g.W.Env.fixed c.args.world.now).types c.args.scope.now (view c.args.wanted) u c.in-Some.part.now c.in-Some.others.now c.loop-part.rest.now c.in-Some.ensures.cases.0 (nil_from_length _ c.in_default-split_first.ensures.cases) (c.loop-part.invariant.fits u r)))
 
-pub matches-returns-in_err-value-clause-passed : goal.matches-returns-in_err-value-clause-passed
-matches-returns-in_err-value-clause-passed g t c =
-    passed_on _ _ _ c.loop-part.invariant.passed c.perform-in-Some.ensures.passed
+pub matches-returns-in_err-value-clause-attempt : goal.matches-returns-in_err-value-clause-attempt
+matches-returns-in_err-value-clause-attempt g t c = attempt_next _ _ _ (AnyMayWrite (all c.args.parts.now)) (MayWrite c.in-Some.part.now) (first_may c.loop-part.rest.now c.in-Some.part.now c.in-Some.others.now (AnyMayWrite (all c.args.parts.now)) c.in-Some.ensures.cases.0 c.loop-part.invariant.allowed) c.loop-part.invariant.attempt c.perform-in-Some.ensures.attempt
 
 pub matches-perform-requires-in-Met : goal.matches-perform-requires-in-Met
 matches-perform-requires-in-Met g t c κs within =
     let j = steps.first_is_smaller c.loop-part.rest.now c.in-Some.part.now c.in-Some.others.now (terms_size (all c.args.parts.now)) c.in-Some.ensures.cases.0 c.loop-part.invariant.small in
     let i = steps.first_is_smaller c.in-Some.others.now c.in-Some-split_first.branch.now c.in-Some-split_first.beyond.now (terms_size (all c.in-Some.others.now)) c.in-Some-split_first.ensures.cases.0 (refl_le (terms_size (all c.in-Some.others.now))) in (
       omega (arith, i, j),
-      (within.0, (within.1, (c.requires.0, steps.moved (λ f h. IsActable f.types h c.in-Some-split_first.branch.now c.requires.0) _ _ _ _ (c.perform-in-Some.ensures.passed.fixed ∙ c.loop-part.invariant.passed.fixed) (c.perform-in-Some.ensures.scope ∙ c.loop-part.invariant.scope) (left.match_chosen (g.W.Env.fixed c.args.world.now).types c.args.scope.now (view c.args.wanted) c.requires.0 c.in-Some.part.now c.in-Some-split_first.branch.now c.in-Some.others.now c.in-Some-split_first.beyond.now c.loop-part.rest.now c.in-Some.ensures.cases.0 c.in-Some-split_first.ensures.cases.0 (c.loop-part.invariant.fits c.requires.0 c.requires.1))))),
+      (within.0, (within.1, (c.requires.0, steps.moved (λ f h. IsActable f.types h c.in-Some-split_first.branch.now c.requires.0) _ _ _ _ (c.perform-in-Some.ensures.attempt.passed.fixed ∙ c.loop-part.invariant.attempt.passed.fixed) (c.perform-in-Some.ensures.scope ∙ c.loop-part.invariant.scope) (left.match_chosen (g.W.Env.fixed c.args.world.now).types c.args.scope.now (view c.args.wanted) c.requires.0 c.in-Some.part.now c.in-Some-split_first.branch.now c.in-Some.others.now c.in-Some-split_first.beyond.now c.loop-part.rest.now c.in-Some.ensures.cases.0 c.in-Some-split_first.ensures.cases.0 (c.loop-part.invariant.fits c.requires.0 c.requires.1))))),
     )
 
-pub matches-returns-in-Met-clause-passed : goal.matches-returns-in-Met-clause-passed
-matches-returns-in-Met-clause-passed g t c =
-    passed_on _ _ _ (passed_on _ _ _ c.loop-part.invariant.passed c.perform-in-Some.ensures.passed) c.perform-in-Met.ensures.passed
+pub matches-returns-in-Met-clause-attempt : goal.matches-returns-in-Met-clause-attempt
+matches-returns-in-Met-clause-attempt g t c = attempt_next _ _ _ (AnyMayWrite (all c.args.parts.now)) (MayWrite c.in-Some-split_first.branch.now) (first_may c.in-Some.others.now c.in-Some-split_first.branch.now c.in-Some-split_first.beyond.now (AnyMayWrite (all c.args.parts.now)) c.in-Some-split_first.ensures.cases.0 (others_may c.loop-part.rest.now c.in-Some.part.now c.in-Some.others.now (AnyMayWrite (all c.args.parts.now)) c.in-Some.ensures.cases.0 c.loop-part.invariant.allowed)) (attempt_next _ _ _ (AnyMayWrite (all c.args.parts.now)) (MayWrite c.in-Some.part.now) (first_may c.loop-part.rest.now c.in-Some.part.now c.in-Some.others.now (AnyMayWrite (all c.args.parts.now)) c.in-Some.ensures.cases.0 c.loop-part.invariant.allowed) c.loop-part.invariant.attempt c.perform-in-Some.ensures.attempt) c.perform-in-Met.ensures.attempt
 
 pub matches-returns-in-Met-clause-done : goal.matches-returns-in-Met-clause-done
 matches-returns-in-Met-clause-done g t c =
     IfOk-weaker c.perform-in-Met.result _ _
-    (λ v k. steps.branch_done g.W.World.gives _ _ _ _ _ _ _ _ _ _ (steps.branches_of (switch_decision (view c.args.wanted)) (ground g.W.World.gives (g.W.Env.fixed c.args.world.now)) c.args.scope.now c.args.parts.now) c.in-Some-split_first.branch.now (view v) (c.perform-in-Some.ensures.passed.fixed ∙ c.loop-part.invariant.passed.fixed) (c.perform-in-Some.ensures.scope ∙ c.loop-part.invariant.scope) (passed_on _ _ _ c.loop-part.invariant.passed c.perform-in-Some.ensures.passed).later c.perform-in-Met.ensures.passed.later
-    (steps.branch_met g.W.World.gives _ _ _ _ _ _ _ _ _ _ (steps.branches_of (switch_decision (view c.args.wanted)) (ground g.W.World.gives (g.W.Env.fixed c.args.world.now)) c.args.scope.now c.args.parts.now) c.in-Some.part.now c.in-Some.others.now c.loop-part.rest.now (view c.in_ok-value.value) c.loop-part.invariant.passed.fixed c.loop-part.invariant.scope c.loop-part.invariant.passed.later c.perform-in-Some.ensures.passed.later c.in-Some.ensures.cases.0 (switch_decision (view c.args.wanted)) c.in-Some-split_first.branch.now c.in-Some-split_first.beyond.now c.in-Some-split_first.ensures.cases.0 (sym (ap (λ w. switch_decision (view w) (view c.in_ok-value.value)) c.loop-part.invariant.wanted) ∙ sym c.decide_match.ensures ∙ c.in-Met.is) c.loop-part.invariant.done c.in_ok-value.ensures.done) k)
+    (λ v k. steps.branch_done g.W.World.gives _ _ _ _ _ _ _ _ _ _ (steps.branches_of (switch_decision (view c.args.wanted)) (ground g.W.World.gives (g.W.Env.fixed c.args.world.now)) c.args.scope.now c.args.parts.now) c.in-Some-split_first.branch.now (view v) (c.perform-in-Some.ensures.attempt.passed.fixed ∙ c.loop-part.invariant.attempt.passed.fixed) (c.perform-in-Some.ensures.scope ∙ c.loop-part.invariant.scope) (passed_on _ _ _ c.loop-part.invariant.attempt.passed c.perform-in-Some.ensures.attempt.passed).later c.perform-in-Met.ensures.attempt.passed.later
+    (steps.branch_met g.W.World.gives _ _ _ _ _ _ _ _ _ _ (steps.branches_of (switch_decision (view c.args.wanted)) (ground g.W.World.gives (g.W.Env.fixed c.args.world.now)) c.args.scope.now c.args.parts.now) c.in-Some.part.now c.in-Some.others.now c.loop-part.rest.now (view c.in_ok-value.value) c.loop-part.invariant.attempt.passed.fixed c.loop-part.invariant.scope c.loop-part.invariant.attempt.passed.later c.perform-in-Some.ensures.attempt.passed.later c.in-Some.ensures.cases.0 (switch_decision (view c.args.wanted)) c.in-Some-split_first.branch.now c.in-Some-split_first.beyond.now c.in-Some-split_first.ensures.cases.0 (sym (ap (λ w. switch_decision (view w) (view c.in_ok-value.value)) c.loop-part.invariant.wanted) ∙ sym c.decide_match.ensures ∙ c.in-Met.is) c.loop-part.invariant.done c.in_ok-value.ensures.done) k)
     c.perform-in-Met.ensures.done
 
 pub matches-returns-in-Met-clause-fits : goal.matches-returns-in-Met-clause-fits
 matches-returns-in-Met-clause-fits g t c =
-    λ u r. c.perform-in-Met.ensures.fits u (steps.moved (λ f h. IsActable f.types h c.in-Some-split_first.branch.now u) _ _ _ _ (c.perform-in-Some.ensures.passed.fixed ∙ c.loop-part.invariant.passed.fixed) (c.perform-in-Some.ensures.scope ∙ c.loop-part.invariant.scope) (left.match_chosen (g.W.Env.fixed c.args.world.now).types c.args.scope.now (view c.args.wanted) u c.in-Some.part.now c.in-Some-split_first.branch.now c.in-Some.others.now c.in-Some-split_first.beyond.now c.loop-part.rest.now c.in-Some.ensures.cases.0 c.in-Some-split_first.ensures.cases.0 (c.loop-part.invariant.fits u r)))
+    λ u r. c.perform-in-Met.ensures.fits u (steps.moved (λ f h. IsActable f.types h c.in-Some-split_first.branch.now u) _ _ _ _ (c.perform-in-Some.ensures.attempt.passed.fixed ∙ c.loop-part.invariant.attempt.passed.fixed) (c.perform-in-Some.ensures.scope ∙ c.loop-part.invariant.scope) (left.match_chosen (g.W.Env.fixed c.args.world.now).types c.args.scope.now (view c.args.wanted) u c.in-Some.part.now c.in-Some-split_first.branch.now c.in-Some.others.now c.in-Some-split_first.beyond.now c.loop-part.rest.now c.in-Some.ensures.cases.0 c.in-Some-split_first.ensures.cases.0 (c.loop-part.invariant.fits u r)))
 
 pub matches-loop-part-preserved : goal.matches-loop-part-preserved
 matches-loop-part-preserved g t c =
     record {
-      passed = passed_on _ _ _ c.loop-part.invariant.passed c.perform-in-Some.ensures.passed;
+      attempt = attempt_next _ _ _ (AnyMayWrite (all c.args.parts.now)) (MayWrite c.in-Some.part.now) (first_may c.loop-part.rest.now c.in-Some.part.now c.in-Some.others.now (AnyMayWrite (all c.args.parts.now)) c.in-Some.ensures.cases.0 c.loop-part.invariant.allowed) c.loop-part.invariant.attempt c.perform-in-Some.ensures.attempt;
       allowed = others_may c.in-Some.others.now c.in-Some-split_first.branch.now c.in-Some-split_first.beyond.now (AnyMayWrite (all c.args.parts.now)) c.in-Some-split_first.ensures.cases.0 (others_may c.loop-part.rest.now c.in-Some.part.now c.in-Some.others.now (AnyMayWrite (all c.args.parts.now)) c.in-Some.ensures.cases.0 c.loop-part.invariant.allowed);
-      only = only_next _ _ c.loop-part.invariant.passed _ (AnyMayWrite (all c.args.parts.now)) c.in-Some.part.now c.perform-in-Some.ensures.passed (first_may c.loop-part.rest.now c.in-Some.part.now c.in-Some.others.now (AnyMayWrite (all c.args.parts.now)) c.in-Some.ensures.cases.0 c.loop-part.invariant.allowed) c.loop-part.invariant.only c.perform-in-Some.ensures.only;
       scope = c.perform-in-Some.ensures.scope ∙ c.loop-part.invariant.scope;
       wanted = c.loop-part.invariant.wanted;
       fits = λ u r. left.match_beyond (g.W.Env.fixed c.args.world.now).types c.args.scope.now (view c.args.wanted) u c.in-Some.part.now c.in-Some-split_first.branch.now c.in-Some.others.now c.in-Some-split_first.beyond.now c.loop-part.rest.now c.in-Some.ensures.cases.0 c.in-Some-split_first.ensures.cases.0 (c.loop-part.invariant.fits u r);
-      done = steps.branch_unmet g.W.World.gives _ _ _ _ _ _ _ _ _ _ (steps.branches_of (switch_decision (view c.args.wanted)) (ground g.W.World.gives (g.W.Env.fixed c.args.world.now)) c.args.scope.now c.args.parts.now) c.in-Some.part.now c.in-Some.others.now c.loop-part.rest.now (view c.in_ok-value.value) c.loop-part.invariant.passed.fixed c.loop-part.invariant.scope c.loop-part.invariant.passed.later c.perform-in-Some.ensures.passed.later c.in-Some.ensures.cases.0 (switch_decision (view c.args.wanted)) c.in-Some-split_first.branch.now c.in-Some-split_first.beyond.now c.in-Some-split_first.ensures.cases.0 (sym (ap (λ w. switch_decision (view w) (view c.in_ok-value.value)) c.loop-part.invariant.wanted) ∙ sym c.decide_match.ensures ∙ c.in-Unmet.is) c.loop-part.invariant.done c.in_ok-value.ensures.done;
+      done = steps.branch_unmet g.W.World.gives _ _ _ _ _ _ _ _ _ _ (steps.branches_of (switch_decision (view c.args.wanted)) (ground g.W.World.gives (g.W.Env.fixed c.args.world.now)) c.args.scope.now c.args.parts.now) c.in-Some.part.now c.in-Some.others.now c.loop-part.rest.now (view c.in_ok-value.value) c.loop-part.invariant.attempt.passed.fixed c.loop-part.invariant.scope c.loop-part.invariant.attempt.passed.later c.perform-in-Some.ensures.attempt.passed.later c.in-Some.ensures.cases.0 (switch_decision (view c.args.wanted)) c.in-Some-split_first.branch.now c.in-Some-split_first.beyond.now c.in-Some-split_first.ensures.cases.0 (sym (ap (λ w. switch_decision (view w) (view c.in_ok-value.value)) c.loop-part.invariant.wanted) ∙ sym c.decide_match.ensures ∙ c.in-Unmet.is) c.loop-part.invariant.done c.in_ok-value.ensures.done;
       small = let j = steps.first_is_smaller c.loop-part.rest.now c.in-Some.part.now c.in-Some.others.now (terms_size (all c.args.parts.now)) c.in-Some.ensures.cases.0 c.loop-part.invariant.small in
           let i = steps.first_is_smaller c.in-Some.others.now c.in-Some-split_first.branch.now c.in-Some-split_first.beyond.now (terms_size (all c.in-Some.others.now)) c.in-Some-split_first.ensures.cases.0 (refl_le (terms_size (all c.in-Some.others.now))) in
           omega (arith, i, j);
-      cut = cutting.branch_unmet g.W.World.gives _ _ _ _ _ _ _ _ _ _ (cutting.branches_left (switch_decision (view c.args.wanted)) (ground g.W.World.gives (g.W.Env.fixed c.args.world.now)) c.args.scope.now c.args.parts.now) c.in-Some.part.now c.in-Some.others.now c.loop-part.rest.now c.loop-part.invariant.passed.fixed c.loop-part.invariant.scope c.loop-part.invariant.passed.later c.perform-in-Some.ensures.passed.later c.in-Some.ensures.cases.0 (view c.in_ok-value.value) (switch_decision (view c.args.wanted)) c.in-Some-split_first.branch.now c.in-Some-split_first.beyond.now c.in-Some-split_first.ensures.cases.0 (sym (ap (λ w. switch_decision (view w) (view c.in_ok-value.value)) c.loop-part.invariant.wanted) ∙ sym c.decide_match.ensures ∙ c.in-Unmet.is) c.loop-part.invariant.cut c.in_ok-value.ensures.done;
+      cut = cutting.branch_unmet g.W.World.gives _ _ _ _ _ _ _ _ _ _ (cutting.branches_left (switch_decision (view c.args.wanted)) (ground g.W.World.gives (g.W.Env.fixed c.args.world.now)) c.args.scope.now c.args.parts.now) c.in-Some.part.now c.in-Some.others.now c.loop-part.rest.now c.loop-part.invariant.attempt.passed.fixed c.loop-part.invariant.scope c.loop-part.invariant.attempt.passed.later c.perform-in-Some.ensures.attempt.passed.later c.in-Some.ensures.cases.0 (view c.in_ok-value.value) (switch_decision (view c.args.wanted)) c.in-Some-split_first.branch.now c.in-Some-split_first.beyond.now c.in-Some-split_first.ensures.cases.0 (sym (ap (λ w. switch_decision (view w) (view c.in_ok-value.value)) c.loop-part.invariant.wanted) ∙ sym c.decide_match.ensures ∙ c.in-Unmet.is) c.loop-part.invariant.cut c.in_ok-value.ensures.done;
     }
 
-pub matches-returns-in-Error-clause-passed : goal.matches-returns-in-Error-clause-passed
-matches-returns-in-Error-clause-passed g t c =
-    passed_on _ _ _ c.loop-part.invariant.passed c.perform-in-Some.ensures.passed
+pub matches-returns-in-Error-clause-attempt : goal.matches-returns-in-Error-clause-attempt
+matches-returns-in-Error-clause-attempt g t c = attempt_next _ _ _ (AnyMayWrite (all c.args.parts.now)) (MayWrite c.in-Some.part.now) (first_may c.loop-part.rest.now c.in-Some.part.now c.in-Some.others.now (AnyMayWrite (all c.args.parts.now)) c.in-Some.ensures.cases.0 c.loop-part.invariant.allowed) c.loop-part.invariant.attempt c.perform-in-Some.ensures.attempt
 
 pub matches-returns-in-Error-clause-done : goal.matches-returns-in-Error-clause-done
 matches-returns-in-Error-clause-done g t c =
-    steps.branch_fails g.W.World.gives _ _ _ _ _ _ _ _ _ _ (steps.branches_of (switch_decision (view c.args.wanted)) (ground g.W.World.gives (g.W.Env.fixed c.args.world.now)) c.args.scope.now c.args.parts.now) c.in-Some.part.now c.in-Some.others.now c.loop-part.rest.now (view c.in_ok-value.value) c.loop-part.invariant.passed.fixed c.loop-part.invariant.scope c.loop-part.invariant.passed.later c.perform-in-Some.ensures.passed.later c.in-Some.ensures.cases.0 (switch_decision (view c.args.wanted)) c.in-Some-split_first.branch.now c.in-Some-split_first.beyond.now c.in-Some-split_first.ensures.cases.0 c.in-Error.fault (sym (ap (λ w. switch_decision (view w) (view c.in_ok-value.value)) c.loop-part.invariant.wanted) ∙ sym c.decide_match.ensures ∙ c.in-Error.is) c.loop-part.invariant.done c.in_ok-value.ensures.done
+    steps.branch_fails g.W.World.gives _ _ _ _ _ _ _ _ _ _ (steps.branches_of (switch_decision (view c.args.wanted)) (ground g.W.World.gives (g.W.Env.fixed c.args.world.now)) c.args.scope.now c.args.parts.now) c.in-Some.part.now c.in-Some.others.now c.loop-part.rest.now (view c.in_ok-value.value) c.loop-part.invariant.attempt.passed.fixed c.loop-part.invariant.scope c.loop-part.invariant.attempt.passed.later c.perform-in-Some.ensures.attempt.passed.later c.in-Some.ensures.cases.0 (switch_decision (view c.args.wanted)) c.in-Some-split_first.branch.now c.in-Some-split_first.beyond.now c.in-Some-split_first.ensures.cases.0 c.in-Error.fault (sym (ap (λ w. switch_decision (view w) (view c.in_ok-value.value)) c.loop-part.invariant.wanted) ∙ sym c.decide_match.ensures ∙ c.in-Error.is) c.loop-part.invariant.done c.in_ok-value.ensures.done
 
 pub matches-returns-clause-done : goal.matches-returns-clause-done
 matches-returns-clause-done g t c =
@@ -616,77 +578,73 @@ pub matches-decide_match-requires : goal.matches-decide_match-requires
 matches-decide_match-requires g t c =
     subst (λ w. CanMatch (view w) (view c.in_ok-value.value)) (sym c.loop-part.invariant.wanted)
     (left.match_can (g.W.Env.fixed c.args.world.now).types c.args.scope.now (view c.args.wanted) (view c.in_ok-value.value) c.requires.0 c.in-Some.part.now c.in-Some-split_first.branch.now c.in-Some.others.now c.in-Some-split_first.beyond.now c.loop-part.rest.now c.in-Some.ensures.cases.0 c.in-Some-split_first.ensures.cases.0 (c.loop-part.invariant.fits c.requires.0 c.requires.1)
-    (λ q r. c.in_ok-value.ensures.fits q (steps.moved (λ f h. IsActable f.types h c.in-Some.part.now q) _ _ _ _ c.loop-part.invariant.passed.fixed c.loop-part.invariant.scope (r))))
+    (λ q r. c.in_ok-value.ensures.fits q (steps.moved (λ f h. IsActable f.types h c.in-Some.part.now q) _ _ _ _ c.loop-part.invariant.attempt.passed.fixed c.loop-part.invariant.scope (r))))
 
 pub recover-perform-requires : goal.recover-perform-requires
 recover-perform-requires g t c κs within =
     let j = steps.first_is_smaller c.loop-part.rest.now c.in-Some.part.now c.in-Some.others.now (terms_size (all c.args.parts.now)) c.in-Some.ensures.cases.0 c.loop-part.invariant.small in (
       omega (arith, j),
-      (within.0, (within.1, (c.requires.0, steps.moved (λ f h. IsActable f.types h c.in-Some.part.now c.requires.0) _ _ _ _ c.loop-part.invariant.passed.fixed c.loop-part.invariant.scope (left.recovery_first (g.W.Env.fixed c.args.world.now).types c.args.scope.now c.requires.0 c.in-Some.part.now c.in-Some.others.now c.loop-part.rest.now c.in-Some.ensures.cases.0 (c.loop-part.invariant.fits c.requires.0 c.requires.1).0)))),
+      (within.0, (within.1, (c.requires.0, steps.moved (λ f h. IsActable f.types h c.in-Some.part.now c.requires.0) _ _ _ _ c.loop-part.invariant.attempt.passed.fixed c.loop-part.invariant.scope (left.recovery_first (g.W.Env.fixed c.args.world.now).types c.args.scope.now c.requires.0 c.in-Some.part.now c.in-Some.others.now c.loop-part.rest.now c.in-Some.ensures.cases.0 (c.loop-part.invariant.fits c.requires.0 c.requires.1).0)))),
     )
 
 pub recover-perform-requires-in-Some : goal.recover-perform-requires-in-Some
 recover-perform-requires-in-Some g t c κs within =
     let j = steps.first_is_smaller c.loop-part.rest.now c.in-Some.part.now c.in-Some.others.now (terms_size (all c.args.parts.now)) c.in-Some.ensures.cases.0 c.loop-part.invariant.small in (
       omega (arith, j),
-      (within.0, (within.1, (c.requires.0, steps.moved (λ f h. IsActable f.types h c.in-Some.part.now c.requires.0) _ _ _ _ c.loop-part.invariant.passed.fixed c.loop-part.invariant.scope (left.recovery_first (g.W.Env.fixed c.args.world.now).types c.args.scope.now c.requires.0 c.in-Some.part.now c.in-Some.others.now c.loop-part.rest.now c.in-Some.ensures.cases.0 (c.loop-part.invariant.fits c.requires.0 c.requires.1).0)))),
+      (within.0, (within.1, (c.requires.0, steps.moved (λ f h. IsActable f.types h c.in-Some.part.now c.requires.0) _ _ _ _ c.loop-part.invariant.attempt.passed.fixed c.loop-part.invariant.scope (left.recovery_first (g.W.Env.fixed c.args.world.now).types c.args.scope.now c.requires.0 c.in-Some.part.now c.in-Some.others.now c.loop-part.rest.now c.in-Some.ensures.cases.0 (c.loop-part.invariant.fits c.requires.0 c.requires.1).0)))),
     )
 
-pub recover-returns-in_default-split_first-clause-passed : goal.recover-returns-in_default-split_first-clause-passed
-recover-returns-in_default-split_first-clause-passed g t c =
-    passed_on _ _ _ c.loop-part.invariant.passed c.perform.ensures.passed
+pub recover-returns-in_default-split_first-clause-attempt : goal.recover-returns-in_default-split_first-clause-attempt
+recover-returns-in_default-split_first-clause-attempt g t c = attempt_next _ _ _ (AnyMayWrite (all c.args.parts.now)) (MayWrite c.in-Some.part.now) (first_may c.loop-part.rest.now c.in-Some.part.now c.in-Some.others.now (AnyMayWrite (all c.args.parts.now)) c.in-Some.ensures.cases.0 c.loop-part.invariant.allowed) c.loop-part.invariant.attempt c.perform.ensures.attempt
 
 pub recover-returns-in_default-split_first-clause-done : goal.recover-returns-in_default-split_first-clause-done
 recover-returns-in_default-split_first-clause-done g t c =
     IfOk-weaker c.perform.result _ _
-    (λ v k. steps.recovery_ends g.W.World.gives _ _ _ _ _ _ _ _ _ _ (steps.recovery_of (ground g.W.World.gives (g.W.Env.fixed c.args.world.now)) c.args.scope.now (none_left_of form.IfError) c.args.parts.now) c.in-Some.part.now c.in-Some.others.now c.loop-part.rest.now (view v) c.loop-part.invariant.passed.fixed c.loop-part.invariant.scope c.loop-part.invariant.passed.later c.perform.ensures.passed.later c.in-Some.ensures.cases.0 (view c.loop-part.last) (nil_from_length _ c.in_default-split_first.ensures.cases) c.loop-part.invariant.done k)
+    (λ v k. steps.recovery_ends g.W.World.gives _ _ _ _ _ _ _ _ _ _ (steps.recovery_of (ground g.W.World.gives (g.W.Env.fixed c.args.world.now)) c.args.scope.now (none_left_of form.IfError) c.args.parts.now) c.in-Some.part.now c.in-Some.others.now c.loop-part.rest.now (view v) c.loop-part.invariant.attempt.passed.fixed c.loop-part.invariant.scope c.loop-part.invariant.attempt.passed.later c.perform.ensures.attempt.passed.later c.in-Some.ensures.cases.0 (view c.loop-part.last) (nil_from_length _ c.in_default-split_first.ensures.cases) c.loop-part.invariant.done k)
     c.perform.ensures.done
 
 pub recover-returns-in_default-split_first-clause-fits : goal.recover-returns-in_default-split_first-clause-fits
 recover-returns-in_default-split_first-clause-fits g t c =
-    λ u r. c.perform.ensures.fits u (steps.moved (λ f h. IsActable f.types h c.in-Some.part.now u) _ _ _ _ c.loop-part.invariant.passed.fixed c.loop-part.invariant.scope (left.recovery_first (g.W.Env.fixed c.args.world.now).types c.args.scope.now u c.in-Some.part.now c.in-Some.others.now c.loop-part.rest.now c.in-Some.ensures.cases.0 (c.loop-part.invariant.fits u r).0))
+    λ u r. c.perform.ensures.fits u (steps.moved (λ f h. IsActable f.types h c.in-Some.part.now u) _ _ _ _ c.loop-part.invariant.attempt.passed.fixed c.loop-part.invariant.scope (left.recovery_first (g.W.Env.fixed c.args.world.now).types c.args.scope.now u c.in-Some.part.now c.in-Some.others.now c.loop-part.rest.now c.in-Some.ensures.cases.0 (c.loop-part.invariant.fits u r).0))
 
-pub recover-returns-in_err-value-clause-passed : goal.recover-returns-in_err-value-clause-passed
-recover-returns-in_err-value-clause-passed g t c =
-    passed_on _ _ _ c.loop-part.invariant.passed c.perform-in-Some.ensures.passed
+pub recover-returns-in_err-value-clause-attempt : goal.recover-returns-in_err-value-clause-attempt
+recover-returns-in_err-value-clause-attempt g t c = attempt_next _ _ _ (AnyMayWrite (all c.args.parts.now)) (MayWrite c.in-Some.part.now) (first_may c.loop-part.rest.now c.in-Some.part.now c.in-Some.others.now (AnyMayWrite (all c.args.parts.now)) c.in-Some.ensures.cases.0 c.loop-part.invariant.allowed) c.loop-part.invariant.attempt c.perform-in-Some.ensures.attempt
 
 pub recover-catch_error-requires : goal.recover-catch_error-requires
 recover-catch_error-requires g t c κs within =
     let j = steps.first_is_smaller c.loop-part.rest.now c.in-Some.part.now c.in-Some.others.now (terms_size (all c.args.parts.now)) c.in-Some.ensures.cases.0 c.loop-part.invariant.small in
     let i = steps.first_is_smaller c.in-Some.others.now c.in-Some-split_first.fallback.now c.in-Some-split_first.beyond.now (terms_size (all c.in-Some.others.now)) c.in-Some-split_first.ensures.cases.0 (refl_le (terms_size (all c.in-Some.others.now))) in (
       omega (arith, i, j),
-      (within.0, (within.1, (c.requires.0, steps.moved (λ f h. IsActable f.types (caught_in h c.in-Err.fault.kind c.in-Err.fault.message) c.in-Some-split_first.fallback.now c.requires.0) _ _ _ _ (c.perform-in-Some.ensures.passed.fixed ∙ c.loop-part.invariant.passed.fixed) (c.perform-in-Some.ensures.scope ∙ c.loop-part.invariant.scope) (left.recovery_caught (g.W.Env.fixed c.args.world.now).types c.args.scope.now c.requires.0 c.in-Some.part.now c.in-Some-split_first.fallback.now c.in-Some.others.now c.in-Some-split_first.beyond.now c.loop-part.rest.now c.in-Some.ensures.cases.0 c.in-Some-split_first.ensures.cases.0 (c.loop-part.invariant.fits c.requires.0 c.requires.1).0 c.in-Err.fault.kind c.in-Err.fault.message)))),
+      (within.0, (within.1, (c.requires.0, steps.moved (λ f h. IsActable f.types (caught_in h c.in-Err.fault.kind c.in-Err.fault.message) c.in-Some-split_first.fallback.now c.requires.0) _ _ _ _ (c.perform-in-Some.ensures.attempt.passed.fixed ∙ c.loop-part.invariant.attempt.passed.fixed) (c.perform-in-Some.ensures.scope ∙ c.loop-part.invariant.scope) (left.recovery_caught (g.W.Env.fixed c.args.world.now).types c.args.scope.now c.requires.0 c.in-Some.part.now c.in-Some-split_first.fallback.now c.in-Some.others.now c.in-Some-split_first.beyond.now c.loop-part.rest.now c.in-Some.ensures.cases.0 c.in-Some-split_first.ensures.cases.0 (c.loop-part.invariant.fits c.requires.0 c.requires.1).0 c.in-Err.fault.kind c.in-Err.fault.message)))),
     )
 
-pub recover-returns-in-Err-clause-passed : goal.recover-returns-in-Err-clause-passed
-recover-returns-in-Err-clause-passed g t c =
-    passed_on _ _ _ (passed_on _ _ _ c.loop-part.invariant.passed c.perform-in-Some.ensures.passed) c.catch_error.ensures.passed
+pub recover-returns-in-Err-clause-attempt : goal.recover-returns-in-Err-clause-attempt
+recover-returns-in-Err-clause-attempt g t c = attempt_next _ _ _ (AnyMayWrite (all c.args.parts.now)) (MayWrite c.in-Some-split_first.fallback.now) (first_may c.in-Some.others.now c.in-Some-split_first.fallback.now c.in-Some-split_first.beyond.now (AnyMayWrite (all c.args.parts.now)) c.in-Some-split_first.ensures.cases.0 (others_may c.loop-part.rest.now c.in-Some.part.now c.in-Some.others.now (AnyMayWrite (all c.args.parts.now)) c.in-Some.ensures.cases.0 c.loop-part.invariant.allowed)) (attempt_next _ _ _ (AnyMayWrite (all c.args.parts.now)) (MayWrite c.in-Some.part.now) (first_may c.loop-part.rest.now c.in-Some.part.now c.in-Some.others.now (AnyMayWrite (all c.args.parts.now)) c.in-Some.ensures.cases.0 c.loop-part.invariant.allowed) c.loop-part.invariant.attempt c.perform-in-Some.ensures.attempt) c.catch_error.ensures.attempt
 
 pub recover-returns-in-Err-clause-done : goal.recover-returns-in-Err-clause-done
 recover-returns-in-Err-clause-done g t c =
     IfOk-weaker c.catch_error.result _ _
-    (λ v k. steps.branch_done g.W.World.gives _ _ _ _ _ _ _ _ _ _ (steps.recovery_of (ground g.W.World.gives (g.W.Env.fixed c.args.world.now)) c.args.scope.now (none_left_of form.IfError) c.args.parts.now) c.in-Some-split_first.fallback.now (view v) (c.perform-in-Some.ensures.passed.fixed ∙ c.loop-part.invariant.passed.fixed) (ap (λ h. caught_in h c.in-Err.fault.kind c.in-Err.fault.message) (c.perform-in-Some.ensures.scope ∙ c.loop-part.invariant.scope)) (passed_on _ _ _ c.loop-part.invariant.passed c.perform-in-Some.ensures.passed).later c.catch_error.ensures.passed.later
-    (steps.recovery_falls g.W.World.gives _ _ _ _ _ _ _ _ _ _ (steps.recovery_of (ground g.W.World.gives (g.W.Env.fixed c.args.world.now)) c.args.scope.now (none_left_of form.IfError) c.args.parts.now) c.in-Some.part.now c.in-Some.others.now c.loop-part.rest.now (view c.in_ok-value.value) c.loop-part.invariant.passed.fixed c.loop-part.invariant.scope c.loop-part.invariant.passed.later c.perform-in-Some.ensures.passed.later c.in-Some.ensures.cases.0 (view c.loop-part.last) c.in-Some-split_first.fallback.now c.in-Some-split_first.beyond.now c.in-Some-split_first.ensures.cases.0 c.in-Err.fault.kind c.in-Err.fault.message c.in-Err.ensures c.loop-part.invariant.done c.in_ok-value.ensures.done) k)
+    (λ v k. steps.branch_done g.W.World.gives _ _ _ _ _ _ _ _ _ _ (steps.recovery_of (ground g.W.World.gives (g.W.Env.fixed c.args.world.now)) c.args.scope.now (none_left_of form.IfError) c.args.parts.now) c.in-Some-split_first.fallback.now (view v) (c.perform-in-Some.ensures.attempt.passed.fixed ∙ c.loop-part.invariant.attempt.passed.fixed) (ap (λ h. caught_in h c.in-Err.fault.kind c.in-Err.fault.message) (c.perform-in-Some.ensures.scope ∙ c.loop-part.invariant.scope)) (passed_on _ _ _ c.loop-part.invariant.attempt.passed c.perform-in-Some.ensures.attempt.passed).later c.catch_error.ensures.attempt.passed.later
+    (steps.recovery_falls g.W.World.gives _ _ _ _ _ _ _ _ _ _ (steps.recovery_of (ground g.W.World.gives (g.W.Env.fixed c.args.world.now)) c.args.scope.now (none_left_of form.IfError) c.args.parts.now) c.in-Some.part.now c.in-Some.others.now c.loop-part.rest.now (view c.in_ok-value.value) c.loop-part.invariant.attempt.passed.fixed c.loop-part.invariant.scope c.loop-part.invariant.attempt.passed.later c.perform-in-Some.ensures.attempt.passed.later c.in-Some.ensures.cases.0 (view c.loop-part.last) c.in-Some-split_first.fallback.now c.in-Some-split_first.beyond.now c.in-Some-split_first.ensures.cases.0 c.in-Err.fault.kind c.in-Err.fault.message c.in-Err.ensures c.loop-part.invariant.done c.in_ok-value.ensures.done) k)
     c.catch_error.ensures.done
 
 pub recover-returns-in-Err-clause-fits : goal.recover-returns-in-Err-clause-fits
 recover-returns-in-Err-clause-fits g t c =
-    λ u r. c.catch_error.ensures.fits u (steps.moved (λ f h. IsActable f.types (caught_in h c.in-Err.fault.kind c.in-Err.fault.message) c.in-Some-split_first.fallback.now u) _ _ _ _ (c.perform-in-Some.ensures.passed.fixed ∙ c.loop-part.invariant.passed.fixed) (c.perform-in-Some.ensures.scope ∙ c.loop-part.invariant.scope) (left.recovery_caught (g.W.Env.fixed c.args.world.now).types c.args.scope.now u c.in-Some.part.now c.in-Some-split_first.fallback.now c.in-Some.others.now c.in-Some-split_first.beyond.now c.loop-part.rest.now c.in-Some.ensures.cases.0 c.in-Some-split_first.ensures.cases.0 (c.loop-part.invariant.fits u r).0 c.in-Err.fault.kind c.in-Err.fault.message))
+    λ u r. c.catch_error.ensures.fits u (steps.moved (λ f h. IsActable f.types (caught_in h c.in-Err.fault.kind c.in-Err.fault.message) c.in-Some-split_first.fallback.now u) _ _ _ _ (c.perform-in-Some.ensures.attempt.passed.fixed ∙ c.loop-part.invariant.attempt.passed.fixed) (c.perform-in-Some.ensures.scope ∙ c.loop-part.invariant.scope) (left.recovery_caught (g.W.Env.fixed c.args.world.now).types c.args.scope.now u c.in-Some.part.now c.in-Some-split_first.fallback.now c.in-Some.others.now c.in-Some-split_first.beyond.now c.loop-part.rest.now c.in-Some.ensures.cases.0 c.in-Some-split_first.ensures.cases.0 (c.loop-part.invariant.fits u r).0 c.in-Err.fault.kind c.in-Err.fault.message))
 
 pub recover-loop-part-preserved : goal.recover-loop-part-preserved
 recover-loop-part-preserved g t c =
     record {
-      passed = passed_on _ _ _ c.loop-part.invariant.passed c.perform-in-Some.ensures.passed;
+      attempt = attempt_next _ _ _ (AnyMayWrite (all c.args.parts.now)) (MayWrite c.in-Some.part.now) (first_may c.loop-part.rest.now c.in-Some.part.now c.in-Some.others.now (AnyMayWrite (all c.args.parts.now)) c.in-Some.ensures.cases.0 c.loop-part.invariant.allowed) c.loop-part.invariant.attempt c.perform-in-Some.ensures.attempt;
       allowed = others_may c.in-Some.others.now c.in-Some-split_first.fallback.now c.in-Some-split_first.beyond.now (AnyMayWrite (all c.args.parts.now)) c.in-Some-split_first.ensures.cases.0 (others_may c.loop-part.rest.now c.in-Some.part.now c.in-Some.others.now (AnyMayWrite (all c.args.parts.now)) c.in-Some.ensures.cases.0 c.loop-part.invariant.allowed);
-      only = only_next _ _ c.loop-part.invariant.passed _ (AnyMayWrite (all c.args.parts.now)) c.in-Some.part.now c.perform-in-Some.ensures.passed (first_may c.loop-part.rest.now c.in-Some.part.now c.in-Some.others.now (AnyMayWrite (all c.args.parts.now)) c.in-Some.ensures.cases.0 c.loop-part.invariant.allowed) c.loop-part.invariant.only c.perform-in-Some.ensures.only;
       scope = c.perform-in-Some.ensures.scope ∙ c.loop-part.invariant.scope;
-      fits = λ u r. (left.recovery_beyond (g.W.Env.fixed c.args.world.now).types c.args.scope.now u c.in-Some.part.now c.in-Some-split_first.fallback.now c.in-Some.others.now c.in-Some-split_first.beyond.now c.loop-part.rest.now c.in-Some.ensures.cases.0 c.in-Some-split_first.ensures.cases.0 (c.loop-part.invariant.fits u r).0, subst (λ z. fits_in z u ≡ true) (sym (ap view c.keep.ensures ∙ c.in-Ok.ensures.0)) (c.in_ok-value.ensures.fits u (steps.moved (λ f h. IsActable f.types h c.in-Some.part.now u) _ _ _ _ c.loop-part.invariant.passed.fixed c.loop-part.invariant.scope (left.recovery_first (g.W.Env.fixed c.args.world.now).types c.args.scope.now u c.in-Some.part.now c.in-Some.others.now c.loop-part.rest.now c.in-Some.ensures.cases.0 (c.loop-part.invariant.fits u r).0))));
+      fits = λ u r. (left.recovery_beyond (g.W.Env.fixed c.args.world.now).types c.args.scope.now u c.in-Some.part.now c.in-Some-split_first.fallback.now c.in-Some.others.now c.in-Some-split_first.beyond.now c.loop-part.rest.now c.in-Some.ensures.cases.0 c.in-Some-split_first.ensures.cases.0 (c.loop-part.invariant.fits u r).0, subst (λ z. fits_in z u ≡ true) (sym (ap view c.keep.ensures ∙ c.in-Ok.ensures.0)) (c.in_ok-value.ensures.fits u (steps.moved (λ f h. IsActable f.types h c.in-Some.part.now u) _ _ _ _ c.loop-part.invariant.attempt.passed.fixed c.loop-part.invariant.scope (left.recovery_first (g.W.Env.fixed c.args.world.now).types c.args.scope.now u c.in-Some.part.now c.in-Some.others.now c.loop-part.rest.now c.in-Some.ensures.cases.0 (c.loop-part.invariant.fits u r).0))));
       done = subst (λ z. MayFallSilent (SilenceCause (g.W.Env.marks c.args.world.now) (g.W.Env.marks c.perform-in-Some.new.world)) (RestDecides (steps.recovery_of (ground g.W.World.gives (g.W.Env.fixed c.args.world.now)) c.args.scope.now z c.in-Some-split_first.beyond.now) (steps.recovery_of (ground g.W.World.gives (g.W.Env.fixed c.args.world.now)) c.args.scope.now (none_left_of form.IfError) c.args.parts.now)) (g.W.World.state c.args.world.now) (g.W.World.state c.perform-in-Some.new.world)) (sym (ap view c.keep.ensures ∙ c.in-Ok.ensures.0))
-          (steps.recovery_goes g.W.World.gives _ _ _ _ _ _ _ _ _ _ (steps.recovery_of (ground g.W.World.gives (g.W.Env.fixed c.args.world.now)) c.args.scope.now (none_left_of form.IfError) c.args.parts.now) c.in-Some.part.now c.in-Some.others.now c.loop-part.rest.now (view c.in_ok-value.value) c.loop-part.invariant.passed.fixed c.loop-part.invariant.scope c.loop-part.invariant.passed.later c.perform-in-Some.ensures.passed.later c.in-Some.ensures.cases.0 (view c.loop-part.last) c.in-Some-split_first.fallback.now c.in-Some-split_first.beyond.now c.in-Some-split_first.ensures.cases.0 c.in-Ok.ensures.1 c.loop-part.invariant.done c.in_ok-value.ensures.done);
+          (steps.recovery_goes g.W.World.gives _ _ _ _ _ _ _ _ _ _ (steps.recovery_of (ground g.W.World.gives (g.W.Env.fixed c.args.world.now)) c.args.scope.now (none_left_of form.IfError) c.args.parts.now) c.in-Some.part.now c.in-Some.others.now c.loop-part.rest.now (view c.in_ok-value.value) c.loop-part.invariant.attempt.passed.fixed c.loop-part.invariant.scope c.loop-part.invariant.attempt.passed.later c.perform-in-Some.ensures.attempt.passed.later c.in-Some.ensures.cases.0 (view c.loop-part.last) c.in-Some-split_first.fallback.now c.in-Some-split_first.beyond.now c.in-Some-split_first.ensures.cases.0 c.in-Ok.ensures.1 c.loop-part.invariant.done c.in_ok-value.ensures.done);
       small = let j = steps.first_is_smaller c.loop-part.rest.now c.in-Some.part.now c.in-Some.others.now (terms_size (all c.args.parts.now)) c.in-Some.ensures.cases.0 c.loop-part.invariant.small in
           let i = steps.first_is_smaller c.in-Some.others.now c.in-Some-split_first.fallback.now c.in-Some-split_first.beyond.now (terms_size (all c.in-Some.others.now)) c.in-Some-split_first.ensures.cases.0 (refl_le (terms_size (all c.in-Some.others.now))) in
           omega (arith, i, j);
-      cut = cutting.recovery_goes g.W.World.gives _ _ _ _ _ _ _ _ _ _ (cutting.recovery_left (ground g.W.World.gives (g.W.Env.fixed c.args.world.now)) c.args.scope.now c.args.parts.now) c.in-Some.part.now c.in-Some.others.now c.loop-part.rest.now c.loop-part.invariant.passed.fixed c.loop-part.invariant.scope c.loop-part.invariant.passed.later c.perform-in-Some.ensures.passed.later c.in-Some.ensures.cases.0 (view c.in_ok-value.value) c.in-Some-split_first.fallback.now c.in-Some-split_first.beyond.now c.in-Some-split_first.ensures.cases.0 c.in-Ok.ensures.1 c.loop-part.invariant.cut c.in_ok-value.ensures.done;
+      cut = cutting.recovery_goes g.W.World.gives _ _ _ _ _ _ _ _ _ _ (cutting.recovery_left (ground g.W.World.gives (g.W.Env.fixed c.args.world.now)) c.args.scope.now c.args.parts.now) c.in-Some.part.now c.in-Some.others.now c.loop-part.rest.now c.loop-part.invariant.attempt.passed.fixed c.loop-part.invariant.scope c.loop-part.invariant.attempt.passed.later c.perform-in-Some.ensures.attempt.passed.later c.in-Some.ensures.cases.0 (view c.in_ok-value.value) c.in-Some-split_first.fallback.now c.in-Some-split_first.beyond.now c.in-Some-split_first.ensures.cases.0 c.in-Ok.ensures.1 c.loop-part.invariant.cut c.in_ok-value.ensures.done;
     }
 
 pub recover-returns-clause-done : goal.recover-returns-clause-done
@@ -696,26 +654,23 @@ recover-returns-clause-done g t c =
 pub each-in_scope-requires : goal.each-in_scope-requires
 each-in_scope-requires g t c κs within = (
   omega arith,
-  (within.0, (within.1, (c.requires.0, steps.moved (λ f h. IsActable f.types (inner h (record_of c.in_ok-copy.field-0)) c.args.formula.now c.requires.0) _ _ _ _ c.loop-row.invariant.passed.fixed c.loop-row.invariant.scope (subst (λ q. IsActable (g.W.Env.fixed c.args.world.now).types (inner c.args.scope.now (record_of q)) c.args.formula.now c.requires.0) (sym c.in_ok-copy.ensures) (left.inside_first (g.W.Env.fixed c.args.world.now).types c.args.scope.now c.requires.0 c.args.formula.now c.in-Some.row.now c.in-Some.others.now c.loop-row.rest.now c.in-Some.ensures.cases.0 (c.loop-row.invariant.fits c.requires.0 c.requires.1).0))))),
+  (within.0, (within.1, (c.requires.0, steps.moved (λ f h. IsActable f.types (inner h (record_of c.in_ok-copy.field-0)) c.args.formula.now c.requires.0) _ _ _ _ c.loop-row.invariant.attempt.passed.fixed c.loop-row.invariant.scope (subst (λ q. IsActable (g.W.Env.fixed c.args.world.now).types (inner c.args.scope.now (record_of q)) c.args.formula.now c.requires.0) (sym c.in_ok-copy.ensures) (left.inside_first (g.W.Env.fixed c.args.world.now).types c.args.scope.now c.requires.0 c.args.formula.now c.in-Some.row.now c.in-Some.others.now c.loop-row.rest.now c.in-Some.ensures.cases.0 (c.loop-row.invariant.fits c.requires.0 c.requires.1).0))))),
 )
 
-pub each-returns-in_err-value-clause-passed : goal.each-returns-in_err-value-clause-passed
-each-returns-in_err-value-clause-passed g t c =
-    passed_on _ _ _ c.loop-row.invariant.passed c.in_scope.ensures.passed
+pub each-returns-in_err-value-clause-attempt : goal.each-returns-in_err-value-clause-attempt
+each-returns-in_err-value-clause-attempt g t c = attempt_on _ _ _ _ c.loop-row.invariant.attempt c.in_scope.ensures.attempt
 
-pub each-returns-in_err-push-clause-passed : goal.each-returns-in_err-push-clause-passed
-each-returns-in_err-push-clause-passed g t c =
-    passed_on _ _ _ c.loop-row.invariant.passed c.in_scope.ensures.passed
+pub each-returns-in_err-push-clause-attempt : goal.each-returns-in_err-push-clause-attempt
+each-returns-in_err-push-clause-attempt g t c = attempt_on _ _ _ _ c.loop-row.invariant.attempt c.in_scope.ensures.attempt
 
 pub each-loop-row-preserved : goal.each-loop-row-preserved
 each-loop-row-preserved g t c =
     record {
-      passed = passed_on _ _ _ c.loop-row.invariant.passed c.in_scope.ensures.passed;
-      only = only_on (MayWrite c.args.formula.now) _ _ _ c.loop-row.invariant.passed c.in_scope.ensures.passed c.loop-row.invariant.only c.in_scope.ensures.only;
+      attempt = attempt_on _ _ _ _ c.loop-row.invariant.attempt c.in_scope.ensures.attempt;
       scope = c.in_scope.ensures.scope ∙ c.loop-row.invariant.scope;
-      fits = λ u r. (left.inside_rest (g.W.Env.fixed c.args.world.now).types c.args.scope.now u c.args.formula.now c.in-Some.row.now c.in-Some.others.now c.loop-row.rest.now c.in-Some.ensures.cases.0 (c.loop-row.invariant.fits u r).0, left.of_more u (map view c.loop-row.values.items) _ (view c.in_ok-value.value) (ap (map view) c.in_ok-push.ensures.items ∙ map-append _ _ _) (c.loop-row.invariant.fits u r).1 (c.in_ok-value.ensures.fits u (steps.moved (λ f h. IsActable f.types (inner h (record_of c.in_ok-copy.field-0)) c.args.formula.now u) _ _ _ _ c.loop-row.invariant.passed.fixed c.loop-row.invariant.scope (subst (λ q. IsActable (g.W.Env.fixed c.args.world.now).types (inner c.args.scope.now (record_of q)) c.args.formula.now u) (sym c.in_ok-copy.ensures) (left.inside_first (g.W.Env.fixed c.args.world.now).types c.args.scope.now u c.args.formula.now c.in-Some.row.now c.in-Some.others.now c.loop-row.rest.now c.in-Some.ensures.cases.0 (c.loop-row.invariant.fits u r).0)))));
-      done = steps.each_goes g.W.World.gives _ _ _ _ _ _ _ _ _ _ (steps.each_of (ground g.W.World.gives (g.W.Env.fixed c.args.world.now)) c.args.scope.now c.args.formula.now c.args.rows.now) (map view c.loop-row.values.items) _ (view c.in_ok-value.value) c.loop-row.invariant.passed.fixed c.loop-row.invariant.scope c.loop-row.invariant.passed.later c.in_scope.ensures.passed.later (ap (map view) c.in_ok-push.ensures.items ∙ map-append _ _ _) c.args.formula.now c.in-Some.row.now (record_of c.in_ok-copy.field-0) c.in-Some.others.now c.loop-row.rest.now c.in-Some.ensures.cases.0 (ap record_of c.in_ok-copy.ensures) c.loop-row.invariant.done c.in_ok-value.ensures.done;
-      cut = cutting.each_go g.W.World.gives _ _ _ _ _ _ _ _ _ _ (cutting.each_left (ground g.W.World.gives (g.W.Env.fixed c.args.world.now)) c.args.scope.now c.args.formula.now c.args.rows.now) c.args.formula.now c.in-Some.row.now (record_of c.in_ok-copy.field-0) c.in-Some.others.now c.loop-row.rest.now c.loop-row.invariant.passed.fixed c.loop-row.invariant.scope c.loop-row.invariant.passed.later c.in_scope.ensures.passed.later c.in-Some.ensures.cases.0 (ap record_of c.in_ok-copy.ensures) (view c.in_ok-value.value) c.loop-row.invariant.cut c.in_ok-value.ensures.done;
+      fits = λ u r. (left.inside_rest (g.W.Env.fixed c.args.world.now).types c.args.scope.now u c.args.formula.now c.in-Some.row.now c.in-Some.others.now c.loop-row.rest.now c.in-Some.ensures.cases.0 (c.loop-row.invariant.fits u r).0, left.of_more u (map view c.loop-row.values.items) _ (view c.in_ok-value.value) (ap (map view) c.in_ok-push.ensures.items ∙ map-append _ _ _) (c.loop-row.invariant.fits u r).1 (c.in_ok-value.ensures.fits u (steps.moved (λ f h. IsActable f.types (inner h (record_of c.in_ok-copy.field-0)) c.args.formula.now u) _ _ _ _ c.loop-row.invariant.attempt.passed.fixed c.loop-row.invariant.scope (subst (λ q. IsActable (g.W.Env.fixed c.args.world.now).types (inner c.args.scope.now (record_of q)) c.args.formula.now u) (sym c.in_ok-copy.ensures) (left.inside_first (g.W.Env.fixed c.args.world.now).types c.args.scope.now u c.args.formula.now c.in-Some.row.now c.in-Some.others.now c.loop-row.rest.now c.in-Some.ensures.cases.0 (c.loop-row.invariant.fits u r).0)))));
+      done = steps.each_goes g.W.World.gives _ _ _ _ _ _ _ _ _ _ (steps.each_of (ground g.W.World.gives (g.W.Env.fixed c.args.world.now)) c.args.scope.now c.args.formula.now c.args.rows.now) (map view c.loop-row.values.items) _ (view c.in_ok-value.value) c.loop-row.invariant.attempt.passed.fixed c.loop-row.invariant.scope c.loop-row.invariant.attempt.passed.later c.in_scope.ensures.attempt.passed.later (ap (map view) c.in_ok-push.ensures.items ∙ map-append _ _ _) c.args.formula.now c.in-Some.row.now (record_of c.in_ok-copy.field-0) c.in-Some.others.now c.loop-row.rest.now c.in-Some.ensures.cases.0 (ap record_of c.in_ok-copy.ensures) c.loop-row.invariant.done c.in_ok-value.ensures.done;
+      cut = cutting.each_go g.W.World.gives _ _ _ _ _ _ _ _ _ _ (cutting.each_left (ground g.W.World.gives (g.W.Env.fixed c.args.world.now)) c.args.scope.now c.args.formula.now c.args.rows.now) c.args.formula.now c.in-Some.row.now (record_of c.in_ok-copy.field-0) c.in-Some.others.now c.loop-row.rest.now c.loop-row.invariant.attempt.passed.fixed c.loop-row.invariant.scope c.loop-row.invariant.attempt.passed.later c.in_scope.ensures.attempt.passed.later c.in-Some.ensures.cases.0 (ap record_of c.in_ok-copy.ensures) (view c.in_ok-value.value) c.loop-row.invariant.cut c.in_ok-value.ensures.done;
     }
 
 pub each-returns-clause-done : goal.each-returns-clause-done
@@ -730,28 +685,25 @@ pub part_values-perform-requires : goal.part_values-perform-requires
 part_values-perform-requires g t c κs within =
     let j = steps.first_is_smaller c.loop-part.rest.now c.in-Some.part.now c.in-Some.others.now (terms_size (all c.args.parts.now)) c.in-Some.ensures.cases.0 c.loop-part.invariant.small in (
       omega (arith, j),
-      (within.0, (within.1, steps.moved (λ f h. CanAct f.types h c.in-Some.part.now) _ _ _ _ c.loop-part.invariant.passed.fixed c.loop-part.invariant.scope (left.left_first (g.W.Env.fixed c.args.world.now).types c.args.scope.now c.requires.0 (map view c.loop-part.values.items) c.in-Some.part.now c.in-Some.others.now c.loop-part.rest.now c.in-Some.ensures.cases.0 (c.loop-part.invariant.fits c.requires.0 c.requires.1)))),
+      (within.0, (within.1, steps.moved (λ f h. CanAct f.types h c.in-Some.part.now) _ _ _ _ c.loop-part.invariant.attempt.passed.fixed c.loop-part.invariant.scope (left.left_first (g.W.Env.fixed c.args.world.now).types c.args.scope.now c.requires.0 (map view c.loop-part.values.items) c.in-Some.part.now c.in-Some.others.now c.loop-part.rest.now c.in-Some.ensures.cases.0 (c.loop-part.invariant.fits c.requires.0 c.requires.1)))),
     )
 
-pub part_values-returns-in_err-value-clause-passed : goal.part_values-returns-in_err-value-clause-passed
-part_values-returns-in_err-value-clause-passed g t c =
-    passed_on _ _ _ c.loop-part.invariant.passed c.perform.ensures.passed
+pub part_values-returns-in_err-value-clause-attempt : goal.part_values-returns-in_err-value-clause-attempt
+part_values-returns-in_err-value-clause-attempt g t c = attempt_next _ _ _ (AnyMayWrite (all c.args.parts.now)) (MayWrite c.in-Some.part.now) (first_may c.loop-part.rest.now c.in-Some.part.now c.in-Some.others.now (AnyMayWrite (all c.args.parts.now)) c.in-Some.ensures.cases.0 c.loop-part.invariant.allowed) c.loop-part.invariant.attempt c.perform.ensures.attempt
 
-pub part_values-returns-in_err-push-clause-passed : goal.part_values-returns-in_err-push-clause-passed
-part_values-returns-in_err-push-clause-passed g t c =
-    passed_on _ _ _ c.loop-part.invariant.passed c.perform.ensures.passed
+pub part_values-returns-in_err-push-clause-attempt : goal.part_values-returns-in_err-push-clause-attempt
+part_values-returns-in_err-push-clause-attempt g t c = attempt_next _ _ _ (AnyMayWrite (all c.args.parts.now)) (MayWrite c.in-Some.part.now) (first_may c.loop-part.rest.now c.in-Some.part.now c.in-Some.others.now (AnyMayWrite (all c.args.parts.now)) c.in-Some.ensures.cases.0 c.loop-part.invariant.allowed) c.loop-part.invariant.attempt c.perform.ensures.attempt
 
 pub part_values-loop-part-preserved : goal.part_values-loop-part-preserved
 part_values-loop-part-preserved g t c =
     record {
-      passed = passed_on _ _ _ c.loop-part.invariant.passed c.perform.ensures.passed;
+      attempt = attempt_next _ _ _ (AnyMayWrite (all c.args.parts.now)) (MayWrite c.in-Some.part.now) (first_may c.loop-part.rest.now c.in-Some.part.now c.in-Some.others.now (AnyMayWrite (all c.args.parts.now)) c.in-Some.ensures.cases.0 c.loop-part.invariant.allowed) c.loop-part.invariant.attempt c.perform.ensures.attempt;
       allowed = others_may c.loop-part.rest.now c.in-Some.part.now c.in-Some.others.now (AnyMayWrite (all c.args.parts.now)) c.in-Some.ensures.cases.0 c.loop-part.invariant.allowed;
-      only = only_next _ _ c.loop-part.invariant.passed _ (AnyMayWrite (all c.args.parts.now)) c.in-Some.part.now c.perform.ensures.passed (first_may c.loop-part.rest.now c.in-Some.part.now c.in-Some.others.now (AnyMayWrite (all c.args.parts.now)) c.in-Some.ensures.cases.0 c.loop-part.invariant.allowed) c.loop-part.invariant.only c.perform.ensures.only;
       scope = c.perform.ensures.scope ∙ c.loop-part.invariant.scope;
-      fits = λ us r. left.left_rest (g.W.Env.fixed c.args.world.now).types c.args.scope.now us (map view c.loop-part.values.items) _ c.in-Some.part.now c.in-Some.others.now c.loop-part.rest.now (view c.in_ok-value.value) c.in-Some.ensures.cases.0 (ap (map view) c.in_ok-push.ensures.items ∙ map-append _ _ _) (λ q i. c.in_ok-value.ensures.fits q (steps.moved (λ f h. IsActable f.types h c.in-Some.part.now q) _ _ _ _ c.loop-part.invariant.passed.fixed c.loop-part.invariant.scope (i))) (c.loop-part.invariant.fits us r);
-      done = steps.performed_goes g.W.World.gives _ _ _ _ _ _ _ _ _ _ (steps.parts_of (ground g.W.World.gives (g.W.Env.fixed c.args.world.now)) c.args.scope.now c.args.parts.now) (map view c.loop-part.values.items) _ (view c.in_ok-value.value) c.loop-part.invariant.passed.fixed c.loop-part.invariant.scope c.loop-part.invariant.passed.later c.perform.ensures.passed.later (ap (map view) c.in_ok-push.ensures.items ∙ map-append _ _ _) c.in-Some.part.now c.in-Some.others.now c.loop-part.rest.now c.in-Some.ensures.cases.0 c.loop-part.invariant.done c.in_ok-value.ensures.done;
+      fits = λ us r. left.left_rest (g.W.Env.fixed c.args.world.now).types c.args.scope.now us (map view c.loop-part.values.items) _ c.in-Some.part.now c.in-Some.others.now c.loop-part.rest.now (view c.in_ok-value.value) c.in-Some.ensures.cases.0 (ap (map view) c.in_ok-push.ensures.items ∙ map-append _ _ _) (λ q i. c.in_ok-value.ensures.fits q (steps.moved (λ f h. IsActable f.types h c.in-Some.part.now q) _ _ _ _ c.loop-part.invariant.attempt.passed.fixed c.loop-part.invariant.scope (i))) (c.loop-part.invariant.fits us r);
+      done = steps.performed_goes g.W.World.gives _ _ _ _ _ _ _ _ _ _ (steps.parts_of (ground g.W.World.gives (g.W.Env.fixed c.args.world.now)) c.args.scope.now c.args.parts.now) (map view c.loop-part.values.items) _ (view c.in_ok-value.value) c.loop-part.invariant.attempt.passed.fixed c.loop-part.invariant.scope c.loop-part.invariant.attempt.passed.later c.perform.ensures.attempt.passed.later (ap (map view) c.in_ok-push.ensures.items ∙ map-append _ _ _) c.in-Some.part.now c.in-Some.others.now c.loop-part.rest.now c.in-Some.ensures.cases.0 c.loop-part.invariant.done c.in_ok-value.ensures.done;
       small = let j = steps.first_is_smaller c.loop-part.rest.now c.in-Some.part.now c.in-Some.others.now (terms_size (all c.args.parts.now)) c.in-Some.ensures.cases.0 c.loop-part.invariant.small in omega (arith, j);
-      cut = cutting.parts_go g.W.World.gives _ _ _ _ _ _ _ _ _ _ (cutting.parts_left (ground g.W.World.gives (g.W.Env.fixed c.args.world.now)) c.args.scope.now c.args.parts.now) c.in-Some.part.now c.in-Some.others.now c.loop-part.rest.now c.loop-part.invariant.passed.fixed c.loop-part.invariant.scope c.loop-part.invariant.passed.later c.perform.ensures.passed.later c.in-Some.ensures.cases.0 (view c.in_ok-value.value) c.loop-part.invariant.cut c.in_ok-value.ensures.done;
+      cut = cutting.parts_go g.W.World.gives _ _ _ _ _ _ _ _ _ _ (cutting.parts_left (ground g.W.World.gives (g.W.Env.fixed c.args.world.now)) c.args.scope.now c.args.parts.now) c.in-Some.part.now c.in-Some.others.now c.loop-part.rest.now c.loop-part.invariant.attempt.passed.fixed c.loop-part.invariant.scope c.loop-part.invariant.attempt.passed.later c.perform.ensures.attempt.passed.later c.in-Some.ensures.cases.0 (view c.in_ok-value.value) c.loop-part.invariant.cut c.in_ok-value.ensures.done;
     }
 
 pub part_values-returns-clause-done : goal.part_values-returns-clause-done
@@ -765,9 +717,8 @@ part_values-returns-clause-fits g t c =
 pub part_values-loop-part-init : goal.part_values-loop-part-init
 part_values-loop-part-init g t c =
     record {
-      passed = passed_nowhere _;
+      attempt = attempt_none _ _;
       allowed = λ x m. m;
-      only = only_nowhere (AnyMayWrite (all c.args.parts.now)) (SilenceCause (g.W.Env.marks c.args.world.now) (g.W.Env.marks c.args.world.now)) (g.W.World.state c.args.world.now);
       scope = refl;
       fits = λ us r. ([], us, refl, subst (λ z. AreFit (map view z) []) (sym c.new-values.ensures.items) tt, r);
       done = steps.performed_begins _ _ (ground g.W.World.gives (g.W.Env.fixed c.args.world.now)) c.args.scope.now c.args.parts.now _ (ap (map view) c.new-values.ensures.items);
@@ -778,149 +729,70 @@ part_values-loop-part-init g t c =
 pub for_all-returns-in_ok-for_all-in-Ok-clause-done : goal.for_all-returns-in_ok-for_all-in-Ok-clause-done
 for_all-returns-in_ok-for_all-in-Ok-clause-done g t c =
     subst (λ (ts : List Term). MayFallSilent (SilenceCause (g.W.Env.marks c.args.world.now) (g.W.Env.marks c.each.new.world)) (λ s u. IsForAll (performing (ground g.W.World.gives (g.W.Env.fixed c.args.world.now)) c.args.table.now ∷ performings (ground g.W.World.gives (g.W.Env.fixed c.args.world.now)) (all ts)) c.args.scope.now s (view c.in_ok-for_all-in-Ok.field-0) u) (g.W.World.state c.args.world.now) (g.W.World.state c.each.new.world)) (sym (formula_is (g.W.Env.fixed c.args.world.now).types c.args.scope.now c.args.table.now c.args.parts.now c.requires.0 c.requires.1 c.in-Some.formula.now _ c.in-Some.ensures.cases.0))
-    (steps.for_all_goes (ground g.W.World.gives (g.W.Env.fixed c.args.world.now)) c.args.scope.now _ _ _ _ _ _ c.args.table.now (view c.in_ok-value.value) c.perform.ensures.passed.later c.each.ensures.passed.later (is_no_error _ c.in-Ok.ensures.1) c.in-Some.formula.now c.in-Ok.rows c.as_slice.result.now (map view c.in_ok-values-in-Ok.values.items) (view c.in_ok-for_all-in-Ok.field-0) c.in-Ok.ensures.0 c.as_slice.ensures c.in_ok-for_all-in-Ok.ensures.value c.in_ok-value.ensures.done
-    (steps.back (λ f h. MayFallSilent (SilenceCause (g.W.Env.marks c.perform.new.world) (g.W.Env.marks c.each.new.world)) (λ s u. PerformsEach (performing (ground g.W.World.gives f) c.in-Some.formula.now) h c.as_slice.result.now s (map view c.in_ok-values-in-Ok.values.items) u) (g.W.World.state c.perform.new.world) (g.W.World.state c.each.new.world)) _ _ _ _ c.perform.ensures.passed.fixed c.perform.ensures.scope c.in_ok-values-in-Ok.ensures.done))
+    (steps.for_all_goes (ground g.W.World.gives (g.W.Env.fixed c.args.world.now)) c.args.scope.now _ _ _ _ _ _ c.args.table.now (view c.in_ok-value.value) c.perform.ensures.attempt.passed.later c.each.ensures.attempt.passed.later (is_no_error _ c.in-Ok.ensures.1) c.in-Some.formula.now c.in-Ok.rows c.as_slice.result.now (map view c.in_ok-values-in-Ok.values.items) (view c.in_ok-for_all-in-Ok.field-0) c.in-Ok.ensures.0 c.as_slice.ensures c.in_ok-for_all-in-Ok.ensures.value c.in_ok-value.ensures.done
+    (steps.back (λ f h. MayFallSilent (SilenceCause (g.W.Env.marks c.perform.new.world) (g.W.Env.marks c.each.new.world)) (λ s u. PerformsEach (performing (ground g.W.World.gives f) c.in-Some.formula.now) h c.as_slice.result.now s (map view c.in_ok-values-in-Ok.values.items) u) (g.W.World.state c.perform.new.world) (g.W.World.state c.each.new.world)) _ _ _ _ c.perform.ensures.attempt.passed.fixed c.perform.ensures.scope c.in_ok-values-in-Ok.ensures.done))
 
 pub for_all-returns-in_ok-for_all-in-Ok-clause-fits : goal.for_all-returns-in_ok-for_all-in-Ok-clause-fits
 for_all-returns-in_ok-for_all-in-Ok-clause-fits g t c =
     λ u r.
     let k = gone (g.W.Env.fixed c.args.world.now).types c.args.scope.now c.args.table.now c.args.parts.now u r c.in-Some.formula.now _ c.in-Some.ensures.cases.0 (view c.in_ok-value.value) c.in_ok-value.ensures.fits c.in-Ok.rows c.as_slice.result.now c.in-Ok.ensures.0 c.as_slice.ensures in
-    k.fits (map view c.in_ok-values-in-Ok.values.items) (view c.in_ok-for_all-in-Ok.field-0) (c.in_ok-values-in-Ok.ensures.fits k.type (steps.moved (λ f h. IsActableInside f.types h k.type c.in-Some.formula.now c.as_slice.result.now) _ _ _ _ c.perform.ensures.passed.fixed c.perform.ensures.scope k.inside)) c.in_ok-for_all-in-Ok.ensures.value
+    k.fits (map view c.in_ok-values-in-Ok.values.items) (view c.in_ok-for_all-in-Ok.field-0) (c.in_ok-values-in-Ok.ensures.fits k.type (steps.moved (λ f h. IsActableInside f.types h k.type c.in-Some.formula.now c.as_slice.result.now) _ _ _ _ c.perform.ensures.attempt.passed.fixed c.perform.ensures.scope k.inside)) c.in_ok-for_all-in-Ok.ensures.value
 
-pub for_all-returns-in_ok-for_all-in-Ok-clause-passed : goal.for_all-returns-in_ok-for_all-in-Ok-clause-passed
-for_all-returns-in_ok-for_all-in-Ok-clause-passed g t c =
-    passed_on _ _ _ c.perform.ensures.passed c.each.ensures.passed
+pub for_all-returns-in_ok-for_all-in-Ok-clause-attempt : goal.for_all-returns-in_ok-for_all-in-Ok-clause-attempt
+for_all-returns-in_ok-for_all-in-Ok-clause-attempt g t c = attempt_over _ _ _ (MayWrite c.args.table.now) (MayWrite c.in-Some.formula.now) (AnyMayWrite (cons c.args.table.now (all c.args.parts.now))) (λ x m. inl m) (first_may c.args.parts.now c.in-Some.formula.now _ (AnyMayWrite (cons c.args.table.now (all c.args.parts.now))) c.in-Some.ensures.cases.0 (λ x m. inr m)) c.perform.ensures.attempt c.each.ensures.attempt
 
-pub for_all-returns-in_err-for_all-in-Ok-clause-passed : goal.for_all-returns-in_err-for_all-in-Ok-clause-passed
-for_all-returns-in_err-for_all-in-Ok-clause-passed g t c =
-    passed_on _ _ _ c.perform.ensures.passed c.each.ensures.passed
+pub for_all-returns-in_err-for_all-in-Ok-clause-attempt : goal.for_all-returns-in_err-for_all-in-Ok-clause-attempt
+for_all-returns-in_err-for_all-in-Ok-clause-attempt g t c = attempt_over _ _ _ (MayWrite c.args.table.now) (MayWrite c.in-Some.formula.now) (AnyMayWrite (cons c.args.table.now (all c.args.parts.now))) (λ x m. inl m) (first_may c.args.parts.now c.in-Some.formula.now _ (AnyMayWrite (cons c.args.table.now (all c.args.parts.now))) c.in-Some.ensures.cases.0 (λ x m. inr m)) c.perform.ensures.attempt c.each.ensures.attempt
 
 pub update_if-each-requires : goal.update_if-each-requires
 update_if-each-requires g t c κs within =
     let k = updated.changing (g.W.Env.fixed c.args.world.now).types c.args.scope.now c.args.target c.args.parts.now c.filter_and_change.result.0.now c.filter_and_change.result.1.now c.requires.0 c.filter_and_change.ensures c.requires.1 (view c.in_ok-value.value) c.in_ok-value.ensures.fits c.in-Ok.rows c.as_slice-kept.result.now c.in-Ok.ensures.0 c.as_slice-kept.ensures in
     let h = updated.two_sizes c.args.parts.now c.filter_and_change.result.0.now c.filter_and_change.result.1.now c.filter_and_change.ensures in (
       omega (arith, h),
-      (within.0, (within.1, (k.type, steps.moved (λ f h. IsActableInside f.types h k.type c.filter_and_change.result.1.now c.as_slice-kept.result.now) _ _ _ _ c.perform.ensures.passed.fixed c.perform.ensures.scope k.inside))),
+      (within.0, (within.1, (k.type, steps.moved (λ f h. IsActableInside f.types h k.type c.filter_and_change.result.1.now c.as_slice-kept.result.now) _ _ _ _ c.perform.ensures.attempt.passed.fixed c.perform.ensures.scope k.inside))),
     )
 
 pub update_if-update-requires : goal.update_if-update-requires
 update_if-update-requires g t c =
     let k = updated.changing (g.W.Env.fixed c.args.world.now).types c.args.scope.now c.args.target c.args.parts.now c.filter_and_change.result.0.now c.filter_and_change.result.1.now c.requires.0 c.filter_and_change.ensures c.requires.1 (view c.in_ok-value.value) c.in_ok-value.ensures.fits c.in-Ok.rows c.as_slice-kept.result.now c.in-Ok.ensures.0 c.as_slice-kept.ensures in
-    subst (λ (f : Fixed). CanUpdate f.types c.args.target c.as_slice-kept.result.now (map view c.as_slice.result.now)) (sym (c.each.ensures.passed.fixed ∙ c.perform.ensures.passed.fixed))
-    (subst (λ vs. CanUpdate (g.W.Env.fixed c.args.world.now).types c.args.target c.as_slice-kept.result.now (map view vs)) (sym c.as_slice.ensures.value) (k.follows (map view c.in_ok-changes-in-Ok.changes.items) (c.in_ok-changes-in-Ok.ensures.fits k.type (steps.moved (λ f h. IsActableInside f.types h k.type c.filter_and_change.result.1.now c.as_slice-kept.result.now) _ _ _ _ c.perform.ensures.passed.fixed c.perform.ensures.scope k.inside))))
+    subst (λ (f : Fixed). CanUpdate f.types c.args.target c.as_slice-kept.result.now (map view c.as_slice.result.now)) (sym (c.each.ensures.attempt.passed.fixed ∙ c.perform.ensures.attempt.passed.fixed))
+    (subst (λ vs. CanUpdate (g.W.Env.fixed c.args.world.now).types c.args.target c.as_slice-kept.result.now (map view vs)) (sym c.as_slice.ensures.value) (k.follows (map view c.in_ok-changes-in-Ok.changes.items) (c.in_ok-changes-in-Ok.ensures.fits k.type (steps.moved (λ f h. IsActableInside f.types h k.type c.filter_and_change.result.1.now c.as_slice-kept.result.now) _ _ _ _ c.perform.ensures.attempt.passed.fixed c.perform.ensures.scope k.inside))))
 
-pub update_if-returns-in_ok-changes-in-Ok-clause-passed : goal.update_if-returns-in_ok-changes-in-Ok-clause-passed
-update_if-returns-in_ok-changes-in-Ok-clause-passed g t c =
-    passed_on _ _ _ (passed_on _ _ _ c.perform.ensures.passed c.each.ensures.passed) c.update.ensures.passed
+pub update_if-returns-in_ok-changes-in-Ok-clause-attempt : goal.update_if-returns-in_ok-changes-in-Ok-clause-attempt
+update_if-returns-in_ok-changes-in-Ok-clause-attempt g t c = attempt_over _ _ _ (MayWrite (of (top.act (deed.UpdateIf c.args.target)) (all c.args.parts.now))) (DeedMayWrite (deed.UpdateIf c.args.target)) (MayWrite (of (top.act (deed.UpdateIf c.args.target)) (all c.args.parts.now))) (λ x m. m) (λ x m. inl m) (attempt_over _ _ _ (MayWrite c.filter_and_change.result.0.now) (MayWrite c.filter_and_change.result.1.now) (MayWrite (of (top.act (deed.UpdateIf c.args.target)) (all c.args.parts.now))) (first_may c.args.parts.now c.filter_and_change.result.0.now (c.filter_and_change.result.1.now ∷ []) (MayWrite (of (top.act (deed.UpdateIf c.args.target)) (all c.args.parts.now))) c.filter_and_change.ensures (λ x m. inr m)) (first_may (c.filter_and_change.result.1.now ∷ []) c.filter_and_change.result.1.now [] (MayWrite (of (top.act (deed.UpdateIf c.args.target)) (all c.args.parts.now))) refl (others_may c.args.parts.now c.filter_and_change.result.0.now (c.filter_and_change.result.1.now ∷ []) (MayWrite (of (top.act (deed.UpdateIf c.args.target)) (all c.args.parts.now))) c.filter_and_change.ensures (λ x m. inr m))) c.perform.ensures.attempt c.each.ensures.attempt) c.update.ensures.attempt
 
 pub update_if-returns-in_ok-changes-in-Ok-clause-done : goal.update_if-returns-in_ok-changes-in-Ok-clause-done
 update_if-returns-in_ok-changes-in-Ok-clause-done g t c =
     IfOk-weaker c.update.result _ _
     (λ v k. subst (λ (ts : List Term). MayFallSilent (SilenceCause (g.W.Env.marks c.args.world.now) (g.W.Env.marks c.update.new.world)) (λ s u. IsUpdateIf (ground g.W.World.gives (g.W.Env.fixed c.args.world.now)) c.args.target (performings (ground g.W.World.gives (g.W.Env.fixed c.args.world.now)) (all ts)) c.args.scope.now s (view v) u) (g.W.World.state c.args.world.now) (g.W.World.state c.update.new.world)) (sym c.filter_and_change.ensures)
-    (acted.update_goes (ground g.W.World.gives (g.W.Env.fixed c.args.world.now)) c.args.scope.now _ _ _ _ _ _ _ _ c.args.target c.filter_and_change.result.0.now c.filter_and_change.result.1.now (view c.in_ok-value.value) c.in-Ok.rows c.as_slice-kept.result.now (map view c.in_ok-changes-in-Ok.changes.items) (view v) c.perform.ensures.passed.later c.each.ensures.passed.later c.update.ensures.passed.later
+    (acted.update_goes (ground g.W.World.gives (g.W.Env.fixed c.args.world.now)) c.args.scope.now _ _ _ _ _ _ _ _ c.args.target c.filter_and_change.result.0.now c.filter_and_change.result.1.now (view c.in_ok-value.value) c.in-Ok.rows c.as_slice-kept.result.now (map view c.in_ok-changes-in-Ok.changes.items) (view v) c.perform.ensures.attempt.passed.later c.each.ensures.attempt.passed.later c.update.ensures.attempt.passed.later
     (is_no_error _ c.in-Ok.ensures.1) c.in-Ok.ensures.0 c.as_slice-kept.ensures c.in_ok-value.ensures.done
-    (steps.back (λ f h. MayFallSilent (SilenceCause (g.W.Env.marks c.perform.new.world) (g.W.Env.marks c.each.new.world)) (λ s u. PerformsEach (performing (ground g.W.World.gives f) c.filter_and_change.result.1.now) h c.as_slice-kept.result.now s (map view c.in_ok-changes-in-Ok.changes.items) u) (g.W.World.state c.perform.new.world) (g.W.World.state c.each.new.world)) _ _ _ _ c.perform.ensures.passed.fixed c.perform.ensures.scope c.in_ok-changes-in-Ok.ensures.done)
-    (subst (λ (f : Fixed). MayFallSilent (SilenceCause (g.W.Env.marks c.each.new.world) (g.W.Env.marks c.update.new.world)) (λ s u. IsUpdate (eval_frame f) c.args.target c.as_slice-kept.result.now (map view c.in_ok-changes-in-Ok.changes.items) s (view v) u) (g.W.World.state c.each.new.world) (g.W.World.state c.update.new.world)) (c.each.ensures.passed.fixed ∙ c.perform.ensures.passed.fixed) (subst (λ vs. MayFallSilent (SilenceCause (g.W.Env.marks c.each.new.world) (g.W.Env.marks c.update.new.world)) (λ s u. IsUpdate (eval_frame (g.W.Env.fixed c.each.new.world)) c.args.target c.as_slice-kept.result.now (map view vs) s (view v) u) (g.W.World.state c.each.new.world) (g.W.World.state c.update.new.world)) c.as_slice.ensures.value k))))
+    (steps.back (λ f h. MayFallSilent (SilenceCause (g.W.Env.marks c.perform.new.world) (g.W.Env.marks c.each.new.world)) (λ s u. PerformsEach (performing (ground g.W.World.gives f) c.filter_and_change.result.1.now) h c.as_slice-kept.result.now s (map view c.in_ok-changes-in-Ok.changes.items) u) (g.W.World.state c.perform.new.world) (g.W.World.state c.each.new.world)) _ _ _ _ c.perform.ensures.attempt.passed.fixed c.perform.ensures.scope c.in_ok-changes-in-Ok.ensures.done)
+    (subst (λ (f : Fixed). MayFallSilent (SilenceCause (g.W.Env.marks c.each.new.world) (g.W.Env.marks c.update.new.world)) (λ s u. IsUpdate (eval_frame f) c.args.target c.as_slice-kept.result.now (map view c.in_ok-changes-in-Ok.changes.items) s (view v) u) (g.W.World.state c.each.new.world) (g.W.World.state c.update.new.world)) (c.each.ensures.attempt.passed.fixed ∙ c.perform.ensures.attempt.passed.fixed) (subst (λ vs. MayFallSilent (SilenceCause (g.W.Env.marks c.each.new.world) (g.W.Env.marks c.update.new.world)) (λ s u. IsUpdate (eval_frame (g.W.Env.fixed c.each.new.world)) c.args.target c.as_slice-kept.result.now (map view vs) s (view v) u) (g.W.World.state c.each.new.world) (g.W.World.state c.update.new.world)) c.as_slice.ensures.value k))))
     c.update.ensures.done
 
 pub act_deed-returns-in_ok-values-in_default : goal.act_deed-returns-in_ok-values-in_default
 act_deed-returns-in_ok-values-in_default g t c =
     record {
-      passed = passed_on _ _ _ c.part_values.ensures.passed c.do_deed.ensures.passed;
-      only = only_over (AnyMayWrite (all c.args.parts.now)) (DeedMayWrite c.args.deed.now) (MayWrite (of (top.act c.args.deed.now) (all c.args.parts.now))) (λ x m. inr m) (λ x m. inl m) _ _ _ c.part_values.ensures.passed c.do_deed.ensures.passed c.part_values.ensures.only c.do_deed.ensures.only;
+      attempt = attempt_over _ _ _ (AnyMayWrite (all c.args.parts.now)) (DeedMayWrite c.args.deed.now) (MayWrite (of (top.act c.args.deed.now) (all c.args.parts.now))) (λ x m. inr m) (λ x m. inl m) c.part_values.ensures.attempt c.do_deed.ensures.attempt;
       scope = c.part_values.ensures.scope;
-      keeper = λ e. rose_before _ _ _ c.part_values.ensures.passed.later.faults (c.do_deed.ensures.keeper e);
+      keeper = λ e. rose_before _ _ _ c.part_values.ensures.attempt.passed.later.faults (c.do_deed.ensures.keeper e);
       done = IfOk-weaker c.do_deed.result _ _
-          (λ v k. acted.deed_goes (ground g.W.World.gives (g.W.Env.fixed c.args.world.now)) c.args.scope.now _ _ _ _ _ _ c.args.deed.now (acted.not_updating c.args.deed.now c.in_default.not-UpdateIf) c.args.parts.now (map view c.in_ok-values-in_default.values.items) (view v) c.part_values.ensures.passed.later c.do_deed.ensures.passed.later c.in_ok-values-in_default.ensures.done
-          (subst (λ (f : Fixed). MayFallSilent (SilenceCause (g.W.Env.marks c.part_values.new.world) (g.W.Env.marks c.do_deed.new.world)) (λ s u. IsDeed (eval_frame f) c.args.deed.now (map view c.in_ok-values-in_default.values.items) s (view v) u) (g.W.World.state c.part_values.new.world) (g.W.World.state c.do_deed.new.world)) c.part_values.ensures.passed.fixed k))
+          (λ v k. acted.deed_goes (ground g.W.World.gives (g.W.Env.fixed c.args.world.now)) c.args.scope.now _ _ _ _ _ _ c.args.deed.now (acted.not_updating c.args.deed.now c.in_default.not-UpdateIf) c.args.parts.now (map view c.in_ok-values-in_default.values.items) (view v) c.part_values.ensures.attempt.passed.later c.do_deed.ensures.attempt.passed.later c.in_ok-values-in_default.ensures.done
+          (subst (λ (f : Fixed). MayFallSilent (SilenceCause (g.W.Env.marks c.part_values.new.world) (g.W.Env.marks c.do_deed.new.world)) (λ s u. IsDeed (eval_frame f) c.args.deed.now (map view c.in_ok-values-in_default.values.items) s (view v) u) (g.W.World.state c.part_values.new.world) (g.W.World.state c.do_deed.new.world)) c.part_values.ensures.attempt.passed.fixed k))
           c.do_deed.ensures.done;
-      fits = λ u r. c.do_deed.ensures.fits u (subst (λ (f : Fixed). AnswersAs f.types c.args.deed.now u) (sym c.part_values.ensures.passed.fixed) (acted.deed_answers (g.W.Env.fixed c.args.world.now).types c.args.scope.now c.args.deed.now c.args.parts.now u (acted.not_updating c.args.deed.now c.in_default.not-UpdateIf) r));
+      fits = λ u r. c.do_deed.ensures.fits u (subst (λ (f : Fixed). AnswersAs f.types c.args.deed.now u) (sym c.part_values.ensures.attempt.passed.fixed) (acted.deed_answers (g.W.Env.fixed c.args.world.now).types c.args.scope.now c.args.deed.now c.args.parts.now u (acted.not_updating c.args.deed.now c.in_default.not-UpdateIf) r));
       cut = on_err_weaker c.do_deed.result
-          (λ k. cutting.deed_then (ground g.W.World.gives (g.W.Env.fixed c.args.world.now)) c.args.scope.now _ _ _ _ _ _ c.args.deed.now (acted.not_updating c.args.deed.now c.in_default.not-UpdateIf) c.args.parts.now (map view c.in_ok-values-in_default.values.items) c.part_values.ensures.passed.later c.do_deed.ensures.passed.later c.in_ok-values-in_default.ensures.done
-          (subst (λ (f : Fixed). MayFallSilent (SilenceCause (g.W.Env.marks c.part_values.new.world) (g.W.Env.marks c.do_deed.new.world)) (CutDeed (eval_frame f) c.args.deed.now (map view c.in_ok-values-in_default.values.items)) (g.W.World.state c.part_values.new.world) (g.W.World.state c.do_deed.new.world)) c.part_values.ensures.passed.fixed k))
+          (λ k. cutting.deed_then (ground g.W.World.gives (g.W.Env.fixed c.args.world.now)) c.args.scope.now _ _ _ _ _ _ c.args.deed.now (acted.not_updating c.args.deed.now c.in_default.not-UpdateIf) c.args.parts.now (map view c.in_ok-values-in_default.values.items) c.part_values.ensures.attempt.passed.later c.do_deed.ensures.attempt.passed.later c.in_ok-values-in_default.ensures.done
+          (subst (λ (f : Fixed). MayFallSilent (SilenceCause (g.W.Env.marks c.part_values.new.world) (g.W.Env.marks c.do_deed.new.world)) (CutDeed (eval_frame f) c.args.deed.now (map view c.in_ok-values-in_default.values.items)) (g.W.World.state c.part_values.new.world) (g.W.World.state c.do_deed.new.world)) c.part_values.ensures.attempt.passed.fixed k))
           c.do_deed.ensures.cut;
     }
-
-pub chain-returns-then-is_empty-clause-only : goal.chain-returns-then-is_empty-clause-only
-chain-returns-then-is_empty-clause-only g t c =
-    only_next _ _ c.loop-part.invariant.passed _ (AnyMayWrite (all c.args.parts.now)) c.in-Some.part.now c.perform.ensures.passed (first_may c.loop-part.rest.now c.in-Some.part.now c.in-Some.others.now (AnyMayWrite (all c.args.parts.now)) c.in-Some.ensures.cases.0 c.loop-part.invariant.allowed) c.loop-part.invariant.only c.perform.ensures.only
-
-pub chain-returns-in_err-perform-clause-only : goal.chain-returns-in_err-perform-clause-only
-chain-returns-in_err-perform-clause-only g t c =
-    only_next _ _ c.loop-part.invariant.passed _ (AnyMayWrite (all c.args.parts.now)) c.in-Some.part.now c.perform-in-Some.ensures.passed (first_may c.loop-part.rest.now c.in-Some.part.now c.in-Some.others.now (AnyMayWrite (all c.args.parts.now)) c.in-Some.ensures.cases.0 c.loop-part.invariant.allowed) c.loop-part.invariant.only c.perform-in-Some.ensures.only
-
-pub branches-returns-in_default-split_first-clause-only : goal.branches-returns-in_default-split_first-clause-only
-branches-returns-in_default-split_first-clause-only g t c =
-    only_next _ _ c.loop-part.invariant.passed _ (AnyMayWrite (all c.args.parts.now)) c.in-Some.part.now c.perform.ensures.passed (first_may c.loop-part.rest.now c.in-Some.part.now c.in-Some.others.now (AnyMayWrite (all c.args.parts.now)) c.in-Some.ensures.cases.0 c.loop-part.invariant.allowed) c.loop-part.invariant.only c.perform.ensures.only
-
-pub branches-returns-in_err-value-clause-only : goal.branches-returns-in_err-value-clause-only
-branches-returns-in_err-value-clause-only g t c =
-    only_next _ _ c.loop-part.invariant.passed _ (AnyMayWrite (all c.args.parts.now)) c.in-Some.part.now c.perform-in-Some.ensures.passed (first_may c.loop-part.rest.now c.in-Some.part.now c.in-Some.others.now (AnyMayWrite (all c.args.parts.now)) c.in-Some.ensures.cases.0 c.loop-part.invariant.allowed) c.loop-part.invariant.only c.perform-in-Some.ensures.only
-
-pub matches-returns-in_default-split_first-clause-only : goal.matches-returns-in_default-split_first-clause-only
-matches-returns-in_default-split_first-clause-only g t c =
-    only_next _ _ c.loop-part.invariant.passed _ (AnyMayWrite (all c.args.parts.now)) c.in-Some.part.now c.perform.ensures.passed (first_may c.loop-part.rest.now c.in-Some.part.now c.in-Some.others.now (AnyMayWrite (all c.args.parts.now)) c.in-Some.ensures.cases.0 c.loop-part.invariant.allowed) c.loop-part.invariant.only c.perform.ensures.only
-
-pub matches-returns-in_err-value-clause-only : goal.matches-returns-in_err-value-clause-only
-matches-returns-in_err-value-clause-only g t c =
-    only_next _ _ c.loop-part.invariant.passed _ (AnyMayWrite (all c.args.parts.now)) c.in-Some.part.now c.perform-in-Some.ensures.passed (first_may c.loop-part.rest.now c.in-Some.part.now c.in-Some.others.now (AnyMayWrite (all c.args.parts.now)) c.in-Some.ensures.cases.0 c.loop-part.invariant.allowed) c.loop-part.invariant.only c.perform-in-Some.ensures.only
-
-pub recover-returns-in_default-split_first-clause-only : goal.recover-returns-in_default-split_first-clause-only
-recover-returns-in_default-split_first-clause-only g t c =
-    only_next _ _ c.loop-part.invariant.passed _ (AnyMayWrite (all c.args.parts.now)) c.in-Some.part.now c.perform.ensures.passed (first_may c.loop-part.rest.now c.in-Some.part.now c.in-Some.others.now (AnyMayWrite (all c.args.parts.now)) c.in-Some.ensures.cases.0 c.loop-part.invariant.allowed) c.loop-part.invariant.only c.perform.ensures.only
-
-pub recover-returns-in_err-value-clause-only : goal.recover-returns-in_err-value-clause-only
-recover-returns-in_err-value-clause-only g t c =
-    only_next _ _ c.loop-part.invariant.passed _ (AnyMayWrite (all c.args.parts.now)) c.in-Some.part.now c.perform-in-Some.ensures.passed (first_may c.loop-part.rest.now c.in-Some.part.now c.in-Some.others.now (AnyMayWrite (all c.args.parts.now)) c.in-Some.ensures.cases.0 c.loop-part.invariant.allowed) c.loop-part.invariant.only c.perform-in-Some.ensures.only
-
-pub branches-returns-in-Met-clause-only : goal.branches-returns-in-Met-clause-only
-branches-returns-in-Met-clause-only g t c =
-    only_next _ _ (passed_on _ _ _ c.loop-part.invariant.passed c.perform-in-Some.ensures.passed) _ (AnyMayWrite (all c.args.parts.now)) c.in-Some-split_first.branch.now c.perform-in-Met.ensures.passed
-    (first_may c.in-Some.others.now c.in-Some-split_first.branch.now c.in-Some-split_first.beyond.now (AnyMayWrite (all c.args.parts.now)) c.in-Some-split_first.ensures.cases.0 (others_may c.loop-part.rest.now c.in-Some.part.now c.in-Some.others.now (AnyMayWrite (all c.args.parts.now)) c.in-Some.ensures.cases.0 c.loop-part.invariant.allowed))
-    (only_next _ _ c.loop-part.invariant.passed _ (AnyMayWrite (all c.args.parts.now)) c.in-Some.part.now c.perform-in-Some.ensures.passed (first_may c.loop-part.rest.now c.in-Some.part.now c.in-Some.others.now (AnyMayWrite (all c.args.parts.now)) c.in-Some.ensures.cases.0 c.loop-part.invariant.allowed) c.loop-part.invariant.only c.perform-in-Some.ensures.only) c.perform-in-Met.ensures.only
-
-pub branches-returns-in-Error-clause-only : goal.branches-returns-in-Error-clause-only
-branches-returns-in-Error-clause-only g t c =
-    only_next _ _ c.loop-part.invariant.passed _ (AnyMayWrite (all c.args.parts.now)) c.in-Some.part.now c.perform-in-Some.ensures.passed (first_may c.loop-part.rest.now c.in-Some.part.now c.in-Some.others.now (AnyMayWrite (all c.args.parts.now)) c.in-Some.ensures.cases.0 c.loop-part.invariant.allowed) c.loop-part.invariant.only c.perform-in-Some.ensures.only
-
-pub matches-returns-in-Met-clause-only : goal.matches-returns-in-Met-clause-only
-matches-returns-in-Met-clause-only g t c =
-    only_next _ _ (passed_on _ _ _ c.loop-part.invariant.passed c.perform-in-Some.ensures.passed) _ (AnyMayWrite (all c.args.parts.now)) c.in-Some-split_first.branch.now c.perform-in-Met.ensures.passed
-    (first_may c.in-Some.others.now c.in-Some-split_first.branch.now c.in-Some-split_first.beyond.now (AnyMayWrite (all c.args.parts.now)) c.in-Some-split_first.ensures.cases.0 (others_may c.loop-part.rest.now c.in-Some.part.now c.in-Some.others.now (AnyMayWrite (all c.args.parts.now)) c.in-Some.ensures.cases.0 c.loop-part.invariant.allowed))
-    (only_next _ _ c.loop-part.invariant.passed _ (AnyMayWrite (all c.args.parts.now)) c.in-Some.part.now c.perform-in-Some.ensures.passed (first_may c.loop-part.rest.now c.in-Some.part.now c.in-Some.others.now (AnyMayWrite (all c.args.parts.now)) c.in-Some.ensures.cases.0 c.loop-part.invariant.allowed) c.loop-part.invariant.only c.perform-in-Some.ensures.only) c.perform-in-Met.ensures.only
-
-pub matches-returns-in-Error-clause-only : goal.matches-returns-in-Error-clause-only
-matches-returns-in-Error-clause-only g t c =
-    only_next _ _ c.loop-part.invariant.passed _ (AnyMayWrite (all c.args.parts.now)) c.in-Some.part.now c.perform-in-Some.ensures.passed (first_may c.loop-part.rest.now c.in-Some.part.now c.in-Some.others.now (AnyMayWrite (all c.args.parts.now)) c.in-Some.ensures.cases.0 c.loop-part.invariant.allowed) c.loop-part.invariant.only c.perform-in-Some.ensures.only
-
-pub recover-returns-in-Err-clause-only : goal.recover-returns-in-Err-clause-only
-recover-returns-in-Err-clause-only g t c =
-    only_next _ _ (passed_on _ _ _ c.loop-part.invariant.passed c.perform-in-Some.ensures.passed) _ (AnyMayWrite (all c.args.parts.now)) c.in-Some-split_first.fallback.now c.catch_error.ensures.passed
-    (first_may c.in-Some.others.now c.in-Some-split_first.fallback.now c.in-Some-split_first.beyond.now (AnyMayWrite (all c.args.parts.now)) c.in-Some-split_first.ensures.cases.0 (others_may c.loop-part.rest.now c.in-Some.part.now c.in-Some.others.now (AnyMayWrite (all c.args.parts.now)) c.in-Some.ensures.cases.0 c.loop-part.invariant.allowed))
-    (only_next _ _ c.loop-part.invariant.passed _ (AnyMayWrite (all c.args.parts.now)) c.in-Some.part.now c.perform-in-Some.ensures.passed (first_may c.loop-part.rest.now c.in-Some.part.now c.in-Some.others.now (AnyMayWrite (all c.args.parts.now)) c.in-Some.ensures.cases.0 c.loop-part.invariant.allowed) c.loop-part.invariant.only c.perform-in-Some.ensures.only) c.catch_error.ensures.only
-
-pub part_values-returns-in_err-value-clause-only : goal.part_values-returns-in_err-value-clause-only
-part_values-returns-in_err-value-clause-only g t c =
-    only_next _ _ c.loop-part.invariant.passed _ (AnyMayWrite (all c.args.parts.now)) c.in-Some.part.now c.perform.ensures.passed (first_may c.loop-part.rest.now c.in-Some.part.now c.in-Some.others.now (AnyMayWrite (all c.args.parts.now)) c.in-Some.ensures.cases.0 c.loop-part.invariant.allowed) c.loop-part.invariant.only c.perform.ensures.only
-
-pub part_values-returns-in_err-push-clause-only : goal.part_values-returns-in_err-push-clause-only
-part_values-returns-in_err-push-clause-only g t c =
-    only_next _ _ c.loop-part.invariant.passed _ (AnyMayWrite (all c.args.parts.now)) c.in-Some.part.now c.perform.ensures.passed (first_may c.loop-part.rest.now c.in-Some.part.now c.in-Some.others.now (AnyMayWrite (all c.args.parts.now)) c.in-Some.ensures.cases.0 c.loop-part.invariant.allowed) c.loop-part.invariant.only c.perform.ensures.only
-
-pub each-returns-in_err-value-clause-only : goal.each-returns-in_err-value-clause-only
-each-returns-in_err-value-clause-only g t c =
-    only_on (MayWrite c.args.formula.now) _ _ _ c.loop-row.invariant.passed c.in_scope.ensures.passed c.loop-row.invariant.only c.in_scope.ensures.only
-
-pub each-returns-in_err-push-clause-only : goal.each-returns-in_err-push-clause-only
-each-returns-in_err-push-clause-only g t c =
-    only_on (MayWrite c.args.formula.now) _ _ _ c.loop-row.invariant.passed c.in_scope.ensures.passed c.loop-row.invariant.only c.in_scope.ensures.only
 
 pub branches-loop-part-init : goal.branches-loop-part-init
 branches-loop-part-init g t c =
     record {
-      passed = passed_nowhere _;
+      attempt = attempt_none _ _;
       allowed = λ x m. m;
-      only = only_nowhere (AnyMayWrite (all c.args.parts.now)) (SilenceCause (g.W.Env.marks c.args.world.now) (g.W.Env.marks c.args.world.now)) (g.W.World.state c.args.world.now);
       scope = refl;
       fits = λ u r. r;
       done = begins _ _ (steps.branches_of decision_of (ground g.W.World.gives (g.W.Env.fixed c.args.world.now)) c.args.scope.now c.args.parts.now);
@@ -931,9 +803,8 @@ branches-loop-part-init g t c =
 pub matches-loop-part-init : goal.matches-loop-part-init
 matches-loop-part-init g t c =
     record {
-      passed = passed_nowhere _;
+      attempt = attempt_none _ _;
       allowed = λ x m. m;
-      only = only_nowhere (AnyMayWrite (all c.args.parts.now)) (SilenceCause (g.W.Env.marks c.args.world.now) (g.W.Env.marks c.args.world.now)) (g.W.World.state c.args.world.now);
       scope = refl;
       wanted = refl;
       fits = λ u r. r;
@@ -945,9 +816,8 @@ matches-loop-part-init g t c =
 pub recover-loop-part-init : goal.recover-loop-part-init
 recover-loop-part-init g t c =
     record {
-      passed = passed_nowhere _;
+      attempt = attempt_none _ _;
       allowed = λ x m. m;
-      only = only_nowhere (AnyMayWrite (all c.args.parts.now)) (SilenceCause (g.W.Env.marks c.args.world.now) (g.W.Env.marks c.args.world.now)) (g.W.World.state c.args.world.now);
       scope = refl;
       fits = λ u r. (r, refl);
       done = begins _ _ (steps.recovery_of (ground g.W.World.gives (g.W.Env.fixed c.args.world.now)) c.args.scope.now (none_left_of form.IfError) c.args.parts.now);
@@ -955,269 +825,157 @@ recover-loop-part-init g t c =
       cut = cutting.cut_begins _ _ (cutting.recovery_left (ground g.W.World.gives (g.W.Env.fixed c.args.world.now)) c.args.scope.now c.args.parts.now);
     }
 
-pub node-returns-in-Chain-clause-only : goal.node-returns-in-Chain-clause-only
-node-returns-in-Chain-clause-only g t c =
-    only_parts _ _ c.chain.ensures.passed top.chain (all c.as_slice.result.now) c.args.core.now (heads.parts_are top.chain _ c.as_slice.result.now c.args.core.now (sym (ap core_branch c.in-Chain.is) ∙ c.core.view_is) c.as_slice.ensures) c.chain.ensures.only
+pub node-returns-in_err-value-in-Dot-clause-attempt : goal.node-returns-in_err-value-in-Dot-clause-attempt
+node-returns-in_err-value-in-Dot-clause-attempt g t c = attempt_one _ _ _ _ c.deref-in-Dot.result.now c.args.core.now (sym (ap core_branch c.in-Dot.is) ∙ c.core.view_is) c.deref-in-Dot.ensures c.perform.ensures.attempt
 
-pub node-returns-in-If-clause-only : goal.node-returns-in-If-clause-only
-node-returns-in-If-clause-only g t c =
-    only_parts _ _ c.branches.ensures.passed (top.form form.If) (all c.as_slice-in-If.result.now) c.args.core.now (heads.parts_are (top.form form.If) _ c.as_slice-in-If.result.now c.args.core.now (sym (ap core_branch c.in-If.is) ∙ c.core.view_is) c.as_slice-in-If.ensures) c.branches.ensures.only
+pub node-returns-in_ok-field_of-in-Dot-clause-attempt : goal.node-returns-in_ok-field_of-in-Dot-clause-attempt
+node-returns-in_ok-field_of-in-Dot-clause-attempt g t c = attempt_one _ _ _ _ c.deref-in-Dot.result.now c.args.core.now (sym (ap core_branch c.in-Dot.is) ∙ c.core.view_is) c.deref-in-Dot.ensures c.perform.ensures.attempt
 
-pub node-returns-in-Switch-clause-only : goal.node-returns-in-Switch-clause-only
-node-returns-in-Switch-clause-only g t c =
-    only_parts _ _ c.switch.ensures.passed (top.form form.Switch) (all c.as_slice-in-Switch.result.now) c.args.core.now (heads.parts_are (top.form form.Switch) _ c.as_slice-in-Switch.result.now c.args.core.now (sym (ap core_branch c.in-Switch.is) ∙ c.core.view_is) c.as_slice-in-Switch.ensures) c.switch.ensures.only
+pub node-returns-in_err-field_of-in-Dot-clause-attempt : goal.node-returns-in_err-field_of-in-Dot-clause-attempt
+node-returns-in_err-field_of-in-Dot-clause-attempt g t c = attempt_one _ _ _ _ c.deref-in-Dot.result.now c.args.core.now (sym (ap core_branch c.in-Dot.is) ∙ c.core.view_is) c.deref-in-Dot.ensures c.perform.ensures.attempt
 
-pub node-returns-in-IfError-clause-only : goal.node-returns-in-IfError-clause-only
-node-returns-in-IfError-clause-only g t c =
-    only_parts _ _ c.recover.ensures.passed (top.form form.IfError) (all c.as_slice-in-IfError.result.now) c.args.core.now (heads.parts_are (top.form form.IfError) _ c.as_slice-in-IfError.result.now c.args.core.now (sym (ap core_branch c.in-IfError.is) ∙ c.core.view_is) c.as_slice-in-IfError.ensures) c.recover.ensures.only
+pub node-returns-in_err-value-in-Coerce-clause-attempt : goal.node-returns-in_err-value-in-Coerce-clause-attempt
+node-returns-in_err-value-in-Coerce-clause-attempt g t c = attempt_one _ _ _ _ c.deref-in-Coerce.result.now c.args.core.now (sym (ap core_branch c.in-Coerce.is) ∙ c.core.view_is) c.deref-in-Coerce.ensures c.perform-in-Coerce.ensures.attempt
 
-pub node-returns-in-Act-clause-only : goal.node-returns-in-Act-clause-only
-node-returns-in-Act-clause-only g t c =
-    only_same _ _ c.act_deed.ensures.passed (of (top.act c.in-Act.deed) (all c.as_slice-in-Act.result.now)) c.args.core.now (heads.parts_are (top.act c.in-Act.deed) _ c.as_slice-in-Act.result.now c.args.core.now (sym (ap core_branch c.in-Act.is) ∙ c.core.view_is) c.as_slice-in-Act.ensures) c.act_deed.ensures.only
+pub node-returns-in_ok-coerce-in-Coerce-clause-attempt : goal.node-returns-in_ok-coerce-in-Coerce-clause-attempt
+node-returns-in_ok-coerce-in-Coerce-clause-attempt g t c = attempt_one _ _ _ _ c.deref-in-Coerce.result.now c.args.core.now (sym (ap core_branch c.in-Coerce.is) ∙ c.core.view_is) c.deref-in-Coerce.ensures c.perform-in-Coerce.ensures.attempt
 
-pub node-returns-in-With-clause-only : goal.node-returns-in-With-clause-only
-node-returns-in-With-clause-only g t c =
-    only_parts _ _ c.within.ensures.passed top.within (cons c.deref.result.now (cons c.deref-in-With.result.now nil)) c.args.core.now (nodes.two_are top.within _ _ _ _ _ (sym (ap core_branch c.in-With.is) ∙ c.core.view_is) c.deref.ensures c.deref-in-With.ensures) c.within.ensures.only
+pub node-returns-in_err-coerce-in-Coerce-clause-attempt : goal.node-returns-in_err-coerce-in-Coerce-clause-attempt
+node-returns-in_err-coerce-in-Coerce-clause-attempt g t c = attempt_one _ _ _ _ c.deref-in-Coerce.result.now c.args.core.now (sym (ap core_branch c.in-Coerce.is) ∙ c.core.view_is) c.deref-in-Coerce.ensures c.perform-in-Coerce.ensures.attempt
 
-pub node-returns-in-Over-clause-only : goal.node-returns-in-Over-clause-only
-node-returns-in-Over-clause-only g t c =
-    only_parts _ _ c.for_all.ensures.passed (top.over fun.ForAll) (cons c.deref-in-Over.result.now (all c.as_slice-in-Over.result.now)) c.args.core.now (nodes.over_is (g.W.Env.fixed c.args.world.now).types c.args.scope.now _ _ c.deref-in-Over.result.now _ c.as_slice-in-Over.result.now _ (sym (ap core_branch c.in-Over.is) ∙ c.core.view_is) c.deref-in-Over.ensures c.as_slice-in-Over.ensures c.requires.can c.requires.acts) c.for_all.ensures.only
+pub node-returns-in_err-values-in-List-clause-attempt : goal.node-returns-in_err-values-in-List-clause-attempt
+node-returns-in_err-values-in-List-clause-attempt g t c = attempt_parts _ _ _ (all c.as_slice-in-List.result.now) c.args.core.now (heads.parts_are _ _ c.as_slice-in-List.result.now c.args.core.now (sym (ap core_branch c.in-List.is) ∙ c.core.view_is) c.as_slice-in-List.ensures) c.part_values.ensures.attempt
 
-pub node-returns-in_err-value-in-Dot-clause-only : goal.node-returns-in_err-value-in-Dot-clause-only
-node-returns-in_err-value-in-Dot-clause-only g t c =
-    only_one _ _ c.perform.ensures.passed _ _ c.deref-in-Dot.result.now c.args.core.now (sym (ap core_branch c.in-Dot.is) ∙ c.core.view_is) c.deref-in-Dot.ensures c.perform.ensures.only
+pub node-returns-in_ok-list-in-List-clause-attempt : goal.node-returns-in_ok-list-in-List-clause-attempt
+node-returns-in_ok-list-in-List-clause-attempt g t c = attempt_parts _ _ _ (all c.as_slice-in-List.result.now) c.args.core.now (heads.parts_are _ _ c.as_slice-in-List.result.now c.args.core.now (sym (ap core_branch c.in-List.is) ∙ c.core.view_is) c.as_slice-in-List.ensures) c.part_values.ensures.attempt
 
-pub node-returns-in_ok-field_of-in-Dot-clause-only : goal.node-returns-in_ok-field_of-in-Dot-clause-only
-node-returns-in_ok-field_of-in-Dot-clause-only g t c =
-    only_one _ _ c.perform.ensures.passed _ _ c.deref-in-Dot.result.now c.args.core.now (sym (ap core_branch c.in-Dot.is) ∙ c.core.view_is) c.deref-in-Dot.ensures c.perform.ensures.only
+pub node-returns-in_err-list-in-List-clause-attempt : goal.node-returns-in_err-list-in-List-clause-attempt
+node-returns-in_err-list-in-List-clause-attempt g t c = attempt_parts _ _ _ (all c.as_slice-in-List.result.now) c.args.core.now (heads.parts_are _ _ c.as_slice-in-List.result.now c.args.core.now (sym (ap core_branch c.in-List.is) ∙ c.core.view_is) c.as_slice-in-List.ensures) c.part_values.ensures.attempt
 
-pub node-returns-in_err-field_of-in-Dot-clause-only : goal.node-returns-in_err-field_of-in-Dot-clause-only
-node-returns-in_err-field_of-in-Dot-clause-only g t c =
-    only_one _ _ c.perform.ensures.passed _ _ c.deref-in-Dot.result.now c.args.core.now (sym (ap core_branch c.in-Dot.is) ∙ c.core.view_is) c.deref-in-Dot.ensures c.perform.ensures.only
+pub perform-returns-else-acts-clause-attempt : goal.perform-returns-else-acts-clause-attempt
+perform-returns-else-acts-clause-attempt g t c = look_attempts _ _ _ c.evaluate.ensures.look
 
-pub node-returns-in_err-value-in-Coerce-clause-only : goal.node-returns-in_err-value-in-Coerce-clause-only
-node-returns-in_err-value-in-Coerce-clause-only g t c =
-    only_one _ _ c.perform-in-Coerce.ensures.passed _ _ c.deref-in-Coerce.result.now c.args.core.now (sym (ap core_branch c.in-Coerce.is) ∙ c.core.view_is) c.deref-in-Coerce.ensures c.perform-in-Coerce.ensures.only
+pub within-returns-in_err-value-clause-attempt : goal.within-returns-in_err-value-clause-attempt
+within-returns-in_err-value-clause-attempt g t c = attempt_wider _ _ (MayWrite c.args.part.now) (AnyMayWrite (cons c.args.part.now (cons c.args.formula.now nil))) (λ x m. inl m) c.perform.ensures.attempt
 
-pub node-returns-in_ok-coerce-in-Coerce-clause-only : goal.node-returns-in_ok-coerce-in-Coerce-clause-only
-node-returns-in_ok-coerce-in-Coerce-clause-only g t c =
-    only_one _ _ c.perform-in-Coerce.ensures.passed _ _ c.deref-in-Coerce.result.now c.args.core.now (sym (ap core_branch c.in-Coerce.is) ∙ c.core.view_is) c.deref-in-Coerce.ensures c.perform-in-Coerce.ensures.only
+pub within-returns-in-Err-clause-attempt : goal.within-returns-in-Err-clause-attempt
+within-returns-in-Err-clause-attempt g t c = attempt_wider _ _ (MayWrite c.args.part.now) (AnyMayWrite (cons c.args.part.now (cons c.args.formula.now nil))) (λ x m. inl m) c.perform.ensures.attempt
 
-pub node-returns-in_err-coerce-in-Coerce-clause-only : goal.node-returns-in_err-coerce-in-Coerce-clause-only
-node-returns-in_err-coerce-in-Coerce-clause-only g t c =
-    only_one _ _ c.perform-in-Coerce.ensures.passed _ _ c.deref-in-Coerce.result.now c.args.core.now (sym (ap core_branch c.in-Coerce.is) ∙ c.core.view_is) c.deref-in-Coerce.ensures c.perform-in-Coerce.ensures.only
+pub switch-returns-in_err-value-clause-attempt : goal.switch-returns-in_err-value-clause-attempt
+switch-returns-in_err-value-clause-attempt g t c = attempt_wider _ _ (MayWrite c.in-Some.part.now) (AnyMayWrite (all c.args.parts.now)) (first_may c.args.parts.now c.in-Some.part.now c.in-Some.others.now (AnyMayWrite (all c.args.parts.now)) c.in-Some.ensures.cases.0 (λ x m. m)) c.perform.ensures.attempt
 
-pub node-returns-in_err-values-in-List-clause-only : goal.node-returns-in_err-values-in-List-clause-only
-node-returns-in_err-values-in-List-clause-only g t c =
-    only_parts _ _ c.part_values.ensures.passed _ (all c.as_slice-in-List.result.now) c.args.core.now (heads.parts_are _ _ c.as_slice-in-List.result.now c.args.core.now (sym (ap core_branch c.in-List.is) ∙ c.core.view_is) c.as_slice-in-List.ensures) c.part_values.ensures.only
+pub switch-returns-in-Err-clause-attempt : goal.switch-returns-in-Err-clause-attempt
+switch-returns-in-Err-clause-attempt g t c = attempt_wider _ _ (MayWrite c.in-Some.part.now) (AnyMayWrite (all c.args.parts.now)) (first_may c.args.parts.now c.in-Some.part.now c.in-Some.others.now (AnyMayWrite (all c.args.parts.now)) c.in-Some.ensures.cases.0 (λ x m. m)) c.perform.ensures.attempt
 
-pub node-returns-in_ok-list-in-List-clause-only : goal.node-returns-in_ok-list-in-List-clause-only
-node-returns-in_ok-list-in-List-clause-only g t c =
-    only_parts _ _ c.part_values.ensures.passed _ (all c.as_slice-in-List.result.now) c.args.core.now (heads.parts_are _ _ c.as_slice-in-List.result.now c.args.core.now (sym (ap core_branch c.in-List.is) ∙ c.core.view_is) c.as_slice-in-List.ensures) c.part_values.ensures.only
+pub for_all-returns-in_err-value-clause-attempt : goal.for_all-returns-in_err-value-clause-attempt
+for_all-returns-in_err-value-clause-attempt g t c = attempt_wider _ _ (MayWrite c.args.table.now) (AnyMayWrite (cons c.args.table.now (all c.args.parts.now))) (λ x m. inl m) c.perform.ensures.attempt
 
-pub node-returns-in_err-list-in-List-clause-only : goal.node-returns-in_err-list-in-List-clause-only
-node-returns-in_err-list-in-List-clause-only g t c =
-    only_parts _ _ c.part_values.ensures.passed _ (all c.as_slice-in-List.result.now) c.args.core.now (heads.parts_are _ _ c.as_slice-in-List.result.now c.args.core.now (sym (ap core_branch c.in-List.is) ∙ c.core.view_is) c.as_slice-in-List.ensures) c.part_values.ensures.only
+pub for_all-returns-in-Err-clause-attempt : goal.for_all-returns-in-Err-clause-attempt
+for_all-returns-in-Err-clause-attempt g t c = attempt_wider _ _ (MayWrite c.args.table.now) (AnyMayWrite (cons c.args.table.now (all c.args.parts.now))) (λ x m. inl m) c.perform.ensures.attempt
 
-pub perform-returns-else-acts-clause-only : goal.perform-returns-else-acts-clause-only
-perform-returns-else-acts-clause-only g t c =
-    only_staying (MayWrite c.args.core.now) _ _ c.evaluate.ensures.passed c.evaluate.ensures.stays
+pub update_if-returns-in_err-value-clause-attempt : goal.update_if-returns-in_err-value-clause-attempt
+update_if-returns-in_err-value-clause-attempt g t c = attempt_wider _ _ (MayWrite c.filter_and_change.result.0.now) (MayWrite (of (top.act (deed.UpdateIf c.args.target)) (all c.args.parts.now))) (first_may c.args.parts.now c.filter_and_change.result.0.now (c.filter_and_change.result.1.now ∷ []) (MayWrite (of (top.act (deed.UpdateIf c.args.target)) (all c.args.parts.now))) c.filter_and_change.ensures (λ x m. inr m)) c.perform.ensures.attempt
 
-pub within-returns-in_err-value-clause-only : goal.within-returns-in_err-value-clause-only
-within-returns-in_err-value-clause-only g t c =
-    only_wider (MayWrite c.args.part.now) (AnyMayWrite (cons c.args.part.now (cons c.args.formula.now nil))) (λ x m. inl m) _ _ c.perform.ensures.passed c.perform.ensures.only
+pub update_if-returns-in-Err-clause-attempt : goal.update_if-returns-in-Err-clause-attempt
+update_if-returns-in-Err-clause-attempt g t c = attempt_wider _ _ (MayWrite c.filter_and_change.result.0.now) (MayWrite (of (top.act (deed.UpdateIf c.args.target)) (all c.args.parts.now))) (first_may c.args.parts.now c.filter_and_change.result.0.now (c.filter_and_change.result.1.now ∷ []) (MayWrite (of (top.act (deed.UpdateIf c.args.target)) (all c.args.parts.now))) c.filter_and_change.ensures (λ x m. inr m)) c.perform.ensures.attempt
 
-pub within-returns-in-Err-clause-only : goal.within-returns-in-Err-clause-only
-within-returns-in-Err-clause-only g t c =
-    only_wider (MayWrite c.args.part.now) (AnyMayWrite (cons c.args.part.now (cons c.args.formula.now nil))) (λ x m. inl m) _ _ c.perform.ensures.passed c.perform.ensures.only
+pub act_deed-returns-in-UpdateIf-clause-attempt : goal.act_deed-returns-in-UpdateIf-clause-attempt
+act_deed-returns-in-UpdateIf-clause-attempt g t c = attempt_same _ _ _ (of (top.act c.args.deed.now) (all c.args.parts.now)) (ap (λ d. of (top.act d) (all c.args.parts.now)) (sym c.in-UpdateIf.is)) c.update_if.ensures.attempt
 
-pub within-returns-in-Ok-clause-only : goal.within-returns-in-Ok-clause-only
-within-returns-in-Ok-clause-only g t c =
-    only_over (MayWrite c.args.part.now) (MayWrite c.args.formula.now) (AnyMayWrite (cons c.args.part.now (cons c.args.formula.now nil))) (λ x m. inl m) (λ x m. inr (inl m)) _ _ _ c.perform.ensures.passed c.in_scope.ensures.passed c.perform.ensures.only c.in_scope.ensures.only
-
-pub switch-returns-in_err-value-clause-only : goal.switch-returns-in_err-value-clause-only
-switch-returns-in_err-value-clause-only g t c =
-    only_wider (MayWrite c.in-Some.part.now) (AnyMayWrite (all c.args.parts.now)) (first_may c.args.parts.now c.in-Some.part.now c.in-Some.others.now (AnyMayWrite (all c.args.parts.now)) c.in-Some.ensures.cases.0 (λ x m. m)) _ _ c.perform.ensures.passed c.perform.ensures.only
-
-pub switch-returns-in-Err-clause-only : goal.switch-returns-in-Err-clause-only
-switch-returns-in-Err-clause-only g t c =
-    only_wider (MayWrite c.in-Some.part.now) (AnyMayWrite (all c.args.parts.now)) (first_may c.args.parts.now c.in-Some.part.now c.in-Some.others.now (AnyMayWrite (all c.args.parts.now)) c.in-Some.ensures.cases.0 (λ x m. m)) _ _ c.perform.ensures.passed c.perform.ensures.only
-
-pub switch-returns-in-Ok-clause-only : goal.switch-returns-in-Ok-clause-only
-switch-returns-in-Ok-clause-only g t c =
-    only_over (MayWrite c.in-Some.part.now) (AnyMayWrite (all c.in-Some.others.now)) (AnyMayWrite (all c.args.parts.now)) (first_may c.args.parts.now c.in-Some.part.now c.in-Some.others.now (AnyMayWrite (all c.args.parts.now)) c.in-Some.ensures.cases.0 (λ x m. m))
-    (others_may c.args.parts.now c.in-Some.part.now c.in-Some.others.now (AnyMayWrite (all c.args.parts.now)) c.in-Some.ensures.cases.0 (λ x m. m)) _ _ _ c.perform.ensures.passed c.matches.ensures.passed c.perform.ensures.only c.matches.ensures.only
-
-pub for_all-returns-in_err-value-clause-only : goal.for_all-returns-in_err-value-clause-only
-for_all-returns-in_err-value-clause-only g t c =
-    only_wider (MayWrite c.args.table.now) (AnyMayWrite (cons c.args.table.now (all c.args.parts.now))) (λ x m. inl m) _ _ c.perform.ensures.passed c.perform.ensures.only
-
-pub for_all-returns-in-Err-clause-only : goal.for_all-returns-in-Err-clause-only
-for_all-returns-in-Err-clause-only g t c =
-    only_wider (MayWrite c.args.table.now) (AnyMayWrite (cons c.args.table.now (all c.args.parts.now))) (λ x m. inl m) _ _ c.perform.ensures.passed c.perform.ensures.only
-
-pub for_all-returns-in_err-values-in-Ok-clause-only : goal.for_all-returns-in_err-values-in-Ok-clause-only
-for_all-returns-in_err-values-in-Ok-clause-only g t c =
-    only_over (MayWrite c.args.table.now) (MayWrite c.in-Some.formula.now) (AnyMayWrite (cons c.args.table.now (all c.args.parts.now))) (λ x m. inl m)
-    (first_may c.args.parts.now c.in-Some.formula.now _ (AnyMayWrite (cons c.args.table.now (all c.args.parts.now))) c.in-Some.ensures.cases.0 (λ x m. inr m)) _ _ _ c.perform.ensures.passed c.each.ensures.passed c.perform.ensures.only c.each.ensures.only
-
-pub for_all-returns-in_ok-for_all-in-Ok-clause-only : goal.for_all-returns-in_ok-for_all-in-Ok-clause-only
-for_all-returns-in_ok-for_all-in-Ok-clause-only g t c =
-    only_over (MayWrite c.args.table.now) (MayWrite c.in-Some.formula.now) (AnyMayWrite (cons c.args.table.now (all c.args.parts.now))) (λ x m. inl m)
-    (first_may c.args.parts.now c.in-Some.formula.now _ (AnyMayWrite (cons c.args.table.now (all c.args.parts.now))) c.in-Some.ensures.cases.0 (λ x m. inr m)) _ _ _ c.perform.ensures.passed c.each.ensures.passed c.perform.ensures.only c.each.ensures.only
-
-pub for_all-returns-in_err-for_all-in-Ok-clause-only : goal.for_all-returns-in_err-for_all-in-Ok-clause-only
-for_all-returns-in_err-for_all-in-Ok-clause-only g t c =
-    only_over (MayWrite c.args.table.now) (MayWrite c.in-Some.formula.now) (AnyMayWrite (cons c.args.table.now (all c.args.parts.now))) (λ x m. inl m)
-    (first_may c.args.parts.now c.in-Some.formula.now _ (AnyMayWrite (cons c.args.table.now (all c.args.parts.now))) c.in-Some.ensures.cases.0 (λ x m. inr m)) _ _ _ c.perform.ensures.passed c.each.ensures.passed c.perform.ensures.only c.each.ensures.only
-
-pub update_if-returns-in_err-value-clause-only : goal.update_if-returns-in_err-value-clause-only
-update_if-returns-in_err-value-clause-only g t c =
-    only_wider (MayWrite c.filter_and_change.result.0.now) (MayWrite (of (top.act (deed.UpdateIf c.args.target)) (all c.args.parts.now))) (first_may c.args.parts.now c.filter_and_change.result.0.now (c.filter_and_change.result.1.now ∷ []) (MayWrite (of (top.act (deed.UpdateIf c.args.target)) (all c.args.parts.now))) c.filter_and_change.ensures (λ x m. inr m)) _ _ c.perform.ensures.passed c.perform.ensures.only
-
-pub update_if-returns-in-Err-clause-only : goal.update_if-returns-in-Err-clause-only
-update_if-returns-in-Err-clause-only g t c =
-    only_wider (MayWrite c.filter_and_change.result.0.now) (MayWrite (of (top.act (deed.UpdateIf c.args.target)) (all c.args.parts.now))) (first_may c.args.parts.now c.filter_and_change.result.0.now (c.filter_and_change.result.1.now ∷ []) (MayWrite (of (top.act (deed.UpdateIf c.args.target)) (all c.args.parts.now))) c.filter_and_change.ensures (λ x m. inr m)) _ _ c.perform.ensures.passed c.perform.ensures.only
-
-pub update_if-returns-in_err-changes-in-Ok-clause-only : goal.update_if-returns-in_err-changes-in-Ok-clause-only
-update_if-returns-in_err-changes-in-Ok-clause-only g t c =
-    only_over (MayWrite c.filter_and_change.result.0.now) (MayWrite c.filter_and_change.result.1.now) (MayWrite (of (top.act (deed.UpdateIf c.args.target)) (all c.args.parts.now))) (first_may c.args.parts.now c.filter_and_change.result.0.now (c.filter_and_change.result.1.now ∷ []) (MayWrite (of (top.act (deed.UpdateIf c.args.target)) (all c.args.parts.now))) c.filter_and_change.ensures (λ x m. inr m))
-    (first_may (c.filter_and_change.result.1.now ∷ []) c.filter_and_change.result.1.now [] (MayWrite (of (top.act (deed.UpdateIf c.args.target)) (all c.args.parts.now))) refl (others_may c.args.parts.now c.filter_and_change.result.0.now (c.filter_and_change.result.1.now ∷ []) (MayWrite (of (top.act (deed.UpdateIf c.args.target)) (all c.args.parts.now))) c.filter_and_change.ensures (λ x m. inr m))) _ _ _ c.perform.ensures.passed c.each.ensures.passed c.perform.ensures.only c.each.ensures.only
-
-pub update_if-returns-in_ok-changes-in-Ok-clause-only : goal.update_if-returns-in_ok-changes-in-Ok-clause-only
-update_if-returns-in_ok-changes-in-Ok-clause-only g t c =
-    only_over (MayWrite (of (top.act (deed.UpdateIf c.args.target)) (all c.args.parts.now))) (DeedMayWrite (deed.UpdateIf c.args.target)) (MayWrite (of (top.act (deed.UpdateIf c.args.target)) (all c.args.parts.now))) (λ x m. m) (λ x m. inl m) _ _ _ (passed_on _ _ _ c.perform.ensures.passed c.each.ensures.passed) c.update.ensures.passed
-    (only_over (MayWrite c.filter_and_change.result.0.now) (MayWrite c.filter_and_change.result.1.now) (MayWrite (of (top.act (deed.UpdateIf c.args.target)) (all c.args.parts.now))) (first_may c.args.parts.now c.filter_and_change.result.0.now (c.filter_and_change.result.1.now ∷ []) (MayWrite (of (top.act (deed.UpdateIf c.args.target)) (all c.args.parts.now))) c.filter_and_change.ensures (λ x m. inr m))
-    (first_may (c.filter_and_change.result.1.now ∷ []) c.filter_and_change.result.1.now [] (MayWrite (of (top.act (deed.UpdateIf c.args.target)) (all c.args.parts.now))) refl (others_may c.args.parts.now c.filter_and_change.result.0.now (c.filter_and_change.result.1.now ∷ []) (MayWrite (of (top.act (deed.UpdateIf c.args.target)) (all c.args.parts.now))) c.filter_and_change.ensures (λ x m. inr m))) _ _ _ c.perform.ensures.passed c.each.ensures.passed c.perform.ensures.only c.each.ensures.only)
-    c.update.ensures.only
-
-pub act_deed-returns-in-UpdateIf-clause-only : goal.act_deed-returns-in-UpdateIf-clause-only
-act_deed-returns-in-UpdateIf-clause-only g t c =
-    only_same _ _ c.update_if.ensures.passed _ (of (top.act c.args.deed.now) (all c.args.parts.now)) (ap (λ d. of (top.act d) (all c.args.parts.now)) (sym c.in-UpdateIf.is)) c.update_if.ensures.only
-
-pub act_deed-returns-in_err-values-in_default-clause-only : goal.act_deed-returns-in_err-values-in_default-clause-only
-act_deed-returns-in_err-values-in_default-clause-only g t c =
-    only_wider (AnyMayWrite (all c.args.parts.now)) (MayWrite (of (top.act c.args.deed.now) (all c.args.parts.now))) (λ x m. inr m) _ _ c.part_values.ensures.passed c.part_values.ensures.only
+pub act_deed-returns-in_err-values-in_default-clause-attempt : goal.act_deed-returns-in_err-values-in_default-clause-attempt
+act_deed-returns-in_err-values-in_default-clause-attempt g t c = attempt_wider _ _ (AnyMayWrite (all c.args.parts.now)) (MayWrite (of (top.act c.args.deed.now) (all c.args.parts.now))) (λ x m. inr m) c.part_values.ensures.attempt
 
 pub chain-returns-then-is_empty-clause-cut : goal.chain-returns-then-is_empty-clause-cut
 chain-returns-then-is_empty-clause-cut g t c =
     on_err_weaker c.perform.result
-    (λ k. cutting.parts_cut g.W.World.gives _ _ _ _ _ _ _ _ _ _ (cutting.parts_left (ground g.W.World.gives (g.W.Env.fixed c.args.world.now)) c.args.scope.now c.args.parts.now) c.in-Some.part.now c.in-Some.others.now c.loop-part.rest.now c.loop-part.invariant.passed.fixed c.loop-part.invariant.scope c.loop-part.invariant.passed.later c.perform.ensures.passed.later c.in-Some.ensures.cases.0 c.loop-part.invariant.cut k)
+    (λ k. cutting.parts_cut g.W.World.gives _ _ _ _ _ _ _ _ _ _ (cutting.parts_left (ground g.W.World.gives (g.W.Env.fixed c.args.world.now)) c.args.scope.now c.args.parts.now) c.in-Some.part.now c.in-Some.others.now c.loop-part.rest.now c.loop-part.invariant.attempt.passed.fixed c.loop-part.invariant.scope c.loop-part.invariant.attempt.passed.later c.perform.ensures.attempt.passed.later c.in-Some.ensures.cases.0 c.loop-part.invariant.cut k)
     c.perform.ensures.cut
 
 pub chain-returns-in_err-perform-clause-cut : goal.chain-returns-in_err-perform-clause-cut
 chain-returns-in_err-perform-clause-cut g t c =
     cutting.on_any c.from_residual.result
-    (cutting.parts_cut g.W.World.gives _ _ _ _ _ _ _ _ _ _ (cutting.parts_left (ground g.W.World.gives (g.W.Env.fixed c.args.world.now)) c.args.scope.now c.args.parts.now) c.in-Some.part.now c.in-Some.others.now c.loop-part.rest.now c.loop-part.invariant.passed.fixed c.loop-part.invariant.scope c.loop-part.invariant.passed.later c.perform-in-Some.ensures.passed.later c.in-Some.ensures.cases.0 c.loop-part.invariant.cut c.in_err-perform.ensures.cut)
+    (cutting.parts_cut g.W.World.gives _ _ _ _ _ _ _ _ _ _ (cutting.parts_left (ground g.W.World.gives (g.W.Env.fixed c.args.world.now)) c.args.scope.now c.args.parts.now) c.in-Some.part.now c.in-Some.others.now c.loop-part.rest.now c.loop-part.invariant.attempt.passed.fixed c.loop-part.invariant.scope c.loop-part.invariant.attempt.passed.later c.perform-in-Some.ensures.attempt.passed.later c.in-Some.ensures.cases.0 c.loop-part.invariant.cut c.in_err-perform.ensures.cut)
 
 pub branches-returns-in_default-split_first-clause-cut : goal.branches-returns-in_default-split_first-clause-cut
 branches-returns-in_default-split_first-clause-cut g t c =
     on_err_weaker c.perform.result
-    (λ k. cutting.branches_cut g.W.World.gives _ _ _ _ _ _ _ _ _ _ (cutting.branches_left decision_of (ground g.W.World.gives (g.W.Env.fixed c.args.world.now)) c.args.scope.now c.args.parts.now) c.in-Some.part.now c.in-Some.others.now c.loop-part.rest.now c.loop-part.invariant.passed.fixed c.loop-part.invariant.scope c.loop-part.invariant.passed.later c.perform.ensures.passed.later c.in-Some.ensures.cases.0 decision_of c.loop-part.invariant.cut k)
+    (λ k. cutting.branches_cut g.W.World.gives _ _ _ _ _ _ _ _ _ _ (cutting.branches_left decision_of (ground g.W.World.gives (g.W.Env.fixed c.args.world.now)) c.args.scope.now c.args.parts.now) c.in-Some.part.now c.in-Some.others.now c.loop-part.rest.now c.loop-part.invariant.attempt.passed.fixed c.loop-part.invariant.scope c.loop-part.invariant.attempt.passed.later c.perform.ensures.attempt.passed.later c.in-Some.ensures.cases.0 decision_of c.loop-part.invariant.cut k)
     c.perform.ensures.cut
 
 pub branches-returns-in_err-value-clause-cut : goal.branches-returns-in_err-value-clause-cut
 branches-returns-in_err-value-clause-cut g t c =
     cutting.on_any c.from_residual.result
-    (cutting.branches_cut g.W.World.gives _ _ _ _ _ _ _ _ _ _ (cutting.branches_left decision_of (ground g.W.World.gives (g.W.Env.fixed c.args.world.now)) c.args.scope.now c.args.parts.now) c.in-Some.part.now c.in-Some.others.now c.loop-part.rest.now c.loop-part.invariant.passed.fixed c.loop-part.invariant.scope c.loop-part.invariant.passed.later c.perform-in-Some.ensures.passed.later c.in-Some.ensures.cases.0 decision_of c.loop-part.invariant.cut c.in_err-value.ensures.cut)
+    (cutting.branches_cut g.W.World.gives _ _ _ _ _ _ _ _ _ _ (cutting.branches_left decision_of (ground g.W.World.gives (g.W.Env.fixed c.args.world.now)) c.args.scope.now c.args.parts.now) c.in-Some.part.now c.in-Some.others.now c.loop-part.rest.now c.loop-part.invariant.attempt.passed.fixed c.loop-part.invariant.scope c.loop-part.invariant.attempt.passed.later c.perform-in-Some.ensures.attempt.passed.later c.in-Some.ensures.cases.0 decision_of c.loop-part.invariant.cut c.in_err-value.ensures.cut)
 
 pub branches-returns-in-Met-clause-cut : goal.branches-returns-in-Met-clause-cut
 branches-returns-in-Met-clause-cut g t c =
     on_err_weaker c.perform-in-Met.result
-    (λ k. cutting.branch_cut g.W.World.gives _ _ _ _ _ _ _ _ _ _ (cutting.branches_left decision_of (ground g.W.World.gives (g.W.Env.fixed c.args.world.now)) c.args.scope.now c.args.parts.now) c.in-Some-split_first.branch.now (c.perform-in-Some.ensures.passed.fixed ∙ c.loop-part.invariant.passed.fixed) (c.perform-in-Some.ensures.scope ∙ c.loop-part.invariant.scope) (passed_on _ _ _ c.loop-part.invariant.passed c.perform-in-Some.ensures.passed).later c.perform-in-Met.ensures.passed.later
-    (cutting.branch_met g.W.World.gives _ _ _ _ _ _ _ _ _ _ (cutting.branches_left decision_of (ground g.W.World.gives (g.W.Env.fixed c.args.world.now)) c.args.scope.now c.args.parts.now) c.in-Some.part.now c.in-Some.others.now c.loop-part.rest.now c.loop-part.invariant.passed.fixed c.loop-part.invariant.scope c.loop-part.invariant.passed.later c.perform-in-Some.ensures.passed.later c.in-Some.ensures.cases.0 (view c.in_ok-value.value) decision_of c.in-Some-split_first.branch.now c.in-Some-split_first.beyond.now c.in-Some-split_first.ensures.cases.0 (sym c.decide.ensures ∙ c.in-Met.is) c.loop-part.invariant.cut c.in_ok-value.ensures.done) k)
+    (λ k. cutting.branch_cut g.W.World.gives _ _ _ _ _ _ _ _ _ _ (cutting.branches_left decision_of (ground g.W.World.gives (g.W.Env.fixed c.args.world.now)) c.args.scope.now c.args.parts.now) c.in-Some-split_first.branch.now (c.perform-in-Some.ensures.attempt.passed.fixed ∙ c.loop-part.invariant.attempt.passed.fixed) (c.perform-in-Some.ensures.scope ∙ c.loop-part.invariant.scope) (passed_on _ _ _ c.loop-part.invariant.attempt.passed c.perform-in-Some.ensures.attempt.passed).later c.perform-in-Met.ensures.attempt.passed.later
+    (cutting.branch_met g.W.World.gives _ _ _ _ _ _ _ _ _ _ (cutting.branches_left decision_of (ground g.W.World.gives (g.W.Env.fixed c.args.world.now)) c.args.scope.now c.args.parts.now) c.in-Some.part.now c.in-Some.others.now c.loop-part.rest.now c.loop-part.invariant.attempt.passed.fixed c.loop-part.invariant.scope c.loop-part.invariant.attempt.passed.later c.perform-in-Some.ensures.attempt.passed.later c.in-Some.ensures.cases.0 (view c.in_ok-value.value) decision_of c.in-Some-split_first.branch.now c.in-Some-split_first.beyond.now c.in-Some-split_first.ensures.cases.0 (sym c.decide.ensures ∙ c.in-Met.is) c.loop-part.invariant.cut c.in_ok-value.ensures.done) k)
     c.perform-in-Met.ensures.cut
 
 pub matches-returns-in_default-split_first-clause-cut : goal.matches-returns-in_default-split_first-clause-cut
 matches-returns-in_default-split_first-clause-cut g t c =
     on_err_weaker c.perform.result
-    (λ k. cutting.branches_cut g.W.World.gives _ _ _ _ _ _ _ _ _ _ (cutting.branches_left (switch_decision (view c.args.wanted)) (ground g.W.World.gives (g.W.Env.fixed c.args.world.now)) c.args.scope.now c.args.parts.now) c.in-Some.part.now c.in-Some.others.now c.loop-part.rest.now c.loop-part.invariant.passed.fixed c.loop-part.invariant.scope c.loop-part.invariant.passed.later c.perform.ensures.passed.later c.in-Some.ensures.cases.0 (switch_decision (view c.args.wanted)) c.loop-part.invariant.cut k)
+    (λ k. cutting.branches_cut g.W.World.gives _ _ _ _ _ _ _ _ _ _ (cutting.branches_left (switch_decision (view c.args.wanted)) (ground g.W.World.gives (g.W.Env.fixed c.args.world.now)) c.args.scope.now c.args.parts.now) c.in-Some.part.now c.in-Some.others.now c.loop-part.rest.now c.loop-part.invariant.attempt.passed.fixed c.loop-part.invariant.scope c.loop-part.invariant.attempt.passed.later c.perform.ensures.attempt.passed.later c.in-Some.ensures.cases.0 (switch_decision (view c.args.wanted)) c.loop-part.invariant.cut k)
     c.perform.ensures.cut
 
 pub matches-returns-in_err-value-clause-cut : goal.matches-returns-in_err-value-clause-cut
 matches-returns-in_err-value-clause-cut g t c =
     cutting.on_any c.from_residual.result
-    (cutting.branches_cut g.W.World.gives _ _ _ _ _ _ _ _ _ _ (cutting.branches_left (switch_decision (view c.args.wanted)) (ground g.W.World.gives (g.W.Env.fixed c.args.world.now)) c.args.scope.now c.args.parts.now) c.in-Some.part.now c.in-Some.others.now c.loop-part.rest.now c.loop-part.invariant.passed.fixed c.loop-part.invariant.scope c.loop-part.invariant.passed.later c.perform-in-Some.ensures.passed.later c.in-Some.ensures.cases.0 (switch_decision (view c.args.wanted)) c.loop-part.invariant.cut c.in_err-value.ensures.cut)
+    (cutting.branches_cut g.W.World.gives _ _ _ _ _ _ _ _ _ _ (cutting.branches_left (switch_decision (view c.args.wanted)) (ground g.W.World.gives (g.W.Env.fixed c.args.world.now)) c.args.scope.now c.args.parts.now) c.in-Some.part.now c.in-Some.others.now c.loop-part.rest.now c.loop-part.invariant.attempt.passed.fixed c.loop-part.invariant.scope c.loop-part.invariant.attempt.passed.later c.perform-in-Some.ensures.attempt.passed.later c.in-Some.ensures.cases.0 (switch_decision (view c.args.wanted)) c.loop-part.invariant.cut c.in_err-value.ensures.cut)
 
 pub matches-returns-in-Met-clause-cut : goal.matches-returns-in-Met-clause-cut
 matches-returns-in-Met-clause-cut g t c =
     on_err_weaker c.perform-in-Met.result
-    (λ k. cutting.branch_cut g.W.World.gives _ _ _ _ _ _ _ _ _ _ (cutting.branches_left (switch_decision (view c.args.wanted)) (ground g.W.World.gives (g.W.Env.fixed c.args.world.now)) c.args.scope.now c.args.parts.now) c.in-Some-split_first.branch.now (c.perform-in-Some.ensures.passed.fixed ∙ c.loop-part.invariant.passed.fixed) (c.perform-in-Some.ensures.scope ∙ c.loop-part.invariant.scope) (passed_on _ _ _ c.loop-part.invariant.passed c.perform-in-Some.ensures.passed).later c.perform-in-Met.ensures.passed.later
-    (cutting.branch_met g.W.World.gives _ _ _ _ _ _ _ _ _ _ (cutting.branches_left (switch_decision (view c.args.wanted)) (ground g.W.World.gives (g.W.Env.fixed c.args.world.now)) c.args.scope.now c.args.parts.now) c.in-Some.part.now c.in-Some.others.now c.loop-part.rest.now c.loop-part.invariant.passed.fixed c.loop-part.invariant.scope c.loop-part.invariant.passed.later c.perform-in-Some.ensures.passed.later c.in-Some.ensures.cases.0 (view c.in_ok-value.value) (switch_decision (view c.args.wanted)) c.in-Some-split_first.branch.now c.in-Some-split_first.beyond.now c.in-Some-split_first.ensures.cases.0 (sym (ap (λ w. switch_decision (view w) (view c.in_ok-value.value)) c.loop-part.invariant.wanted) ∙ sym c.decide_match.ensures ∙ c.in-Met.is) c.loop-part.invariant.cut c.in_ok-value.ensures.done) k)
+    (λ k. cutting.branch_cut g.W.World.gives _ _ _ _ _ _ _ _ _ _ (cutting.branches_left (switch_decision (view c.args.wanted)) (ground g.W.World.gives (g.W.Env.fixed c.args.world.now)) c.args.scope.now c.args.parts.now) c.in-Some-split_first.branch.now (c.perform-in-Some.ensures.attempt.passed.fixed ∙ c.loop-part.invariant.attempt.passed.fixed) (c.perform-in-Some.ensures.scope ∙ c.loop-part.invariant.scope) (passed_on _ _ _ c.loop-part.invariant.attempt.passed c.perform-in-Some.ensures.attempt.passed).later c.perform-in-Met.ensures.attempt.passed.later
+    (cutting.branch_met g.W.World.gives _ _ _ _ _ _ _ _ _ _ (cutting.branches_left (switch_decision (view c.args.wanted)) (ground g.W.World.gives (g.W.Env.fixed c.args.world.now)) c.args.scope.now c.args.parts.now) c.in-Some.part.now c.in-Some.others.now c.loop-part.rest.now c.loop-part.invariant.attempt.passed.fixed c.loop-part.invariant.scope c.loop-part.invariant.attempt.passed.later c.perform-in-Some.ensures.attempt.passed.later c.in-Some.ensures.cases.0 (view c.in_ok-value.value) (switch_decision (view c.args.wanted)) c.in-Some-split_first.branch.now c.in-Some-split_first.beyond.now c.in-Some-split_first.ensures.cases.0 (sym (ap (λ w. switch_decision (view w) (view c.in_ok-value.value)) c.loop-part.invariant.wanted) ∙ sym c.decide_match.ensures ∙ c.in-Met.is) c.loop-part.invariant.cut c.in_ok-value.ensures.done) k)
     c.perform-in-Met.ensures.cut
 
 pub recover-returns-in_default-split_first-clause-cut : goal.recover-returns-in_default-split_first-clause-cut
 recover-returns-in_default-split_first-clause-cut g t c =
     on_err_weaker c.perform.result
-    (λ k. cutting.recovery_cut g.W.World.gives _ _ _ _ _ _ _ _ _ _ (cutting.recovery_left (ground g.W.World.gives (g.W.Env.fixed c.args.world.now)) c.args.scope.now c.args.parts.now) c.in-Some.part.now c.in-Some.others.now c.loop-part.rest.now c.loop-part.invariant.passed.fixed c.loop-part.invariant.scope c.loop-part.invariant.passed.later c.perform.ensures.passed.later c.in-Some.ensures.cases.0 c.loop-part.invariant.cut k)
+    (λ k. cutting.recovery_cut g.W.World.gives _ _ _ _ _ _ _ _ _ _ (cutting.recovery_left (ground g.W.World.gives (g.W.Env.fixed c.args.world.now)) c.args.scope.now c.args.parts.now) c.in-Some.part.now c.in-Some.others.now c.loop-part.rest.now c.loop-part.invariant.attempt.passed.fixed c.loop-part.invariant.scope c.loop-part.invariant.attempt.passed.later c.perform.ensures.attempt.passed.later c.in-Some.ensures.cases.0 c.loop-part.invariant.cut k)
     c.perform.ensures.cut
 
 pub recover-returns-in_err-value-clause-cut : goal.recover-returns-in_err-value-clause-cut
 recover-returns-in_err-value-clause-cut g t c =
     cutting.on_any c.from_residual.result
-    (cutting.recovery_cut g.W.World.gives _ _ _ _ _ _ _ _ _ _ (cutting.recovery_left (ground g.W.World.gives (g.W.Env.fixed c.args.world.now)) c.args.scope.now c.args.parts.now) c.in-Some.part.now c.in-Some.others.now c.loop-part.rest.now c.loop-part.invariant.passed.fixed c.loop-part.invariant.scope c.loop-part.invariant.passed.later c.perform-in-Some.ensures.passed.later c.in-Some.ensures.cases.0 c.loop-part.invariant.cut c.in_err-value.ensures.cut)
+    (cutting.recovery_cut g.W.World.gives _ _ _ _ _ _ _ _ _ _ (cutting.recovery_left (ground g.W.World.gives (g.W.Env.fixed c.args.world.now)) c.args.scope.now c.args.parts.now) c.in-Some.part.now c.in-Some.others.now c.loop-part.rest.now c.loop-part.invariant.attempt.passed.fixed c.loop-part.invariant.scope c.loop-part.invariant.attempt.passed.later c.perform-in-Some.ensures.attempt.passed.later c.in-Some.ensures.cases.0 c.loop-part.invariant.cut c.in_err-value.ensures.cut)
 
 pub recover-returns-in-Err-clause-cut : goal.recover-returns-in-Err-clause-cut
 recover-returns-in-Err-clause-cut g t c =
     on_err_weaker c.catch_error.result
-    (λ k. cutting.branch_cut g.W.World.gives _ _ _ _ _ _ _ _ _ _ (cutting.recovery_left (ground g.W.World.gives (g.W.Env.fixed c.args.world.now)) c.args.scope.now c.args.parts.now) c.in-Some-split_first.fallback.now (c.perform-in-Some.ensures.passed.fixed ∙ c.loop-part.invariant.passed.fixed) (ap (λ h. caught_in h c.in-Err.fault.kind c.in-Err.fault.message) (c.perform-in-Some.ensures.scope ∙ c.loop-part.invariant.scope)) (passed_on _ _ _ c.loop-part.invariant.passed c.perform-in-Some.ensures.passed).later c.catch_error.ensures.passed.later
-    (cutting.recovery_falls g.W.World.gives _ _ _ _ _ _ _ _ _ _ (cutting.recovery_left (ground g.W.World.gives (g.W.Env.fixed c.args.world.now)) c.args.scope.now c.args.parts.now) c.in-Some.part.now c.in-Some.others.now c.loop-part.rest.now c.loop-part.invariant.passed.fixed c.loop-part.invariant.scope c.loop-part.invariant.passed.later c.perform-in-Some.ensures.passed.later c.in-Some.ensures.cases.0 (view c.in_ok-value.value) c.in-Some-split_first.fallback.now c.in-Some-split_first.beyond.now c.in-Some-split_first.ensures.cases.0 c.in-Err.fault.kind c.in-Err.fault.message c.in-Err.ensures c.loop-part.invariant.cut c.in_ok-value.ensures.done) k)
+    (λ k. cutting.branch_cut g.W.World.gives _ _ _ _ _ _ _ _ _ _ (cutting.recovery_left (ground g.W.World.gives (g.W.Env.fixed c.args.world.now)) c.args.scope.now c.args.parts.now) c.in-Some-split_first.fallback.now (c.perform-in-Some.ensures.attempt.passed.fixed ∙ c.loop-part.invariant.attempt.passed.fixed) (ap (λ h. caught_in h c.in-Err.fault.kind c.in-Err.fault.message) (c.perform-in-Some.ensures.scope ∙ c.loop-part.invariant.scope)) (passed_on _ _ _ c.loop-part.invariant.attempt.passed c.perform-in-Some.ensures.attempt.passed).later c.catch_error.ensures.attempt.passed.later
+    (cutting.recovery_falls g.W.World.gives _ _ _ _ _ _ _ _ _ _ (cutting.recovery_left (ground g.W.World.gives (g.W.Env.fixed c.args.world.now)) c.args.scope.now c.args.parts.now) c.in-Some.part.now c.in-Some.others.now c.loop-part.rest.now c.loop-part.invariant.attempt.passed.fixed c.loop-part.invariant.scope c.loop-part.invariant.attempt.passed.later c.perform-in-Some.ensures.attempt.passed.later c.in-Some.ensures.cases.0 (view c.in_ok-value.value) c.in-Some-split_first.fallback.now c.in-Some-split_first.beyond.now c.in-Some-split_first.ensures.cases.0 c.in-Err.fault.kind c.in-Err.fault.message c.in-Err.ensures c.loop-part.invariant.cut c.in_ok-value.ensures.done) k)
     c.catch_error.ensures.cut
 
 pub part_values-returns-in_err-value-clause-cut : goal.part_values-returns-in_err-value-clause-cut
 part_values-returns-in_err-value-clause-cut g t c =
     cutting.on_any c.from_residual.result
-    (cutting.parts_cut g.W.World.gives _ _ _ _ _ _ _ _ _ _ (cutting.parts_left (ground g.W.World.gives (g.W.Env.fixed c.args.world.now)) c.args.scope.now c.args.parts.now) c.in-Some.part.now c.in-Some.others.now c.loop-part.rest.now c.loop-part.invariant.passed.fixed c.loop-part.invariant.scope c.loop-part.invariant.passed.later c.perform.ensures.passed.later c.in-Some.ensures.cases.0 c.loop-part.invariant.cut c.in_err-value.ensures.cut)
+    (cutting.parts_cut g.W.World.gives _ _ _ _ _ _ _ _ _ _ (cutting.parts_left (ground g.W.World.gives (g.W.Env.fixed c.args.world.now)) c.args.scope.now c.args.parts.now) c.in-Some.part.now c.in-Some.others.now c.loop-part.rest.now c.loop-part.invariant.attempt.passed.fixed c.loop-part.invariant.scope c.loop-part.invariant.attempt.passed.later c.perform.ensures.attempt.passed.later c.in-Some.ensures.cases.0 c.loop-part.invariant.cut c.in_err-value.ensures.cut)
 
 pub part_values-returns-in_err-push-clause-cut : goal.part_values-returns-in_err-push-clause-cut
 part_values-returns-in_err-push-clause-cut g t c =
     cutting.on_any c.from_residual-in_err-push.result
     (cutting.cut_here (SilenceCause (g.W.Env.marks c.args.world.now) (g.W.Env.marks c.perform.new.world)) (g.W.World.state c.args.world.now) (g.W.World.state c.perform.new.world) (cutting.parts_left (ground g.W.World.gives (g.W.Env.fixed c.args.world.now)) c.args.scope.now c.in-Some.others.now) (cutting.parts_left (ground g.W.World.gives (g.W.Env.fixed c.args.world.now)) c.args.scope.now c.args.parts.now) (λ s. cutting.parts_unbegun (ground g.W.World.gives (g.W.Env.fixed c.args.world.now)) c.in-Some.others.now c.args.scope.now s)
-    (cutting.parts_go g.W.World.gives _ _ _ _ _ _ _ _ _ _ (cutting.parts_left (ground g.W.World.gives (g.W.Env.fixed c.args.world.now)) c.args.scope.now c.args.parts.now) c.in-Some.part.now c.in-Some.others.now c.loop-part.rest.now c.loop-part.invariant.passed.fixed c.loop-part.invariant.scope c.loop-part.invariant.passed.later c.perform.ensures.passed.later c.in-Some.ensures.cases.0 (view c.in_ok-value.value) c.loop-part.invariant.cut c.in_ok-value.ensures.done))
+    (cutting.parts_go g.W.World.gives _ _ _ _ _ _ _ _ _ _ (cutting.parts_left (ground g.W.World.gives (g.W.Env.fixed c.args.world.now)) c.args.scope.now c.args.parts.now) c.in-Some.part.now c.in-Some.others.now c.loop-part.rest.now c.loop-part.invariant.attempt.passed.fixed c.loop-part.invariant.scope c.loop-part.invariant.attempt.passed.later c.perform.ensures.attempt.passed.later c.in-Some.ensures.cases.0 (view c.in_ok-value.value) c.loop-part.invariant.cut c.in_ok-value.ensures.done))
 
 pub each-returns-in_err-value-clause-cut : goal.each-returns-in_err-value-clause-cut
 each-returns-in_err-value-clause-cut g t c =
     cutting.on_any c.from_residual-in_err-value.result
-    (cutting.each_cut g.W.World.gives _ _ _ _ _ _ _ _ _ _ (cutting.each_left (ground g.W.World.gives (g.W.Env.fixed c.args.world.now)) c.args.scope.now c.args.formula.now c.args.rows.now) c.args.formula.now c.in-Some.row.now (record_of c.in_ok-copy.field-0) c.in-Some.others.now c.loop-row.rest.now c.loop-row.invariant.passed.fixed c.loop-row.invariant.scope c.loop-row.invariant.passed.later c.in_scope.ensures.passed.later c.in-Some.ensures.cases.0 (ap record_of c.in_ok-copy.ensures) c.loop-row.invariant.cut c.in_err-value.ensures.cut)
+    (cutting.each_cut g.W.World.gives _ _ _ _ _ _ _ _ _ _ (cutting.each_left (ground g.W.World.gives (g.W.Env.fixed c.args.world.now)) c.args.scope.now c.args.formula.now c.args.rows.now) c.args.formula.now c.in-Some.row.now (record_of c.in_ok-copy.field-0) c.in-Some.others.now c.loop-row.rest.now c.loop-row.invariant.attempt.passed.fixed c.loop-row.invariant.scope c.loop-row.invariant.attempt.passed.later c.in_scope.ensures.attempt.passed.later c.in-Some.ensures.cases.0 (ap record_of c.in_ok-copy.ensures) c.loop-row.invariant.cut c.in_err-value.ensures.cut)
 
 pub each-returns-in_err-push-clause-cut : goal.each-returns-in_err-push-clause-cut
 each-returns-in_err-push-clause-cut g t c =
     cutting.on_any c.from_residual-in_err-push.result
     (cutting.cut_here (SilenceCause (g.W.Env.marks c.args.world.now) (g.W.Env.marks c.in_scope.new.world)) (g.W.World.state c.args.world.now) (g.W.World.state c.in_scope.new.world) (cutting.each_left (ground g.W.World.gives (g.W.Env.fixed c.args.world.now)) c.args.scope.now c.args.formula.now c.in-Some.others.now) (cutting.each_left (ground g.W.World.gives (g.W.Env.fixed c.args.world.now)) c.args.scope.now c.args.formula.now c.args.rows.now) (λ s. cutting.each_unbegun (ground g.W.World.gives (g.W.Env.fixed c.args.world.now)) c.args.formula.now c.in-Some.others.now c.args.scope.now s)
-    (cutting.each_go g.W.World.gives _ _ _ _ _ _ _ _ _ _ (cutting.each_left (ground g.W.World.gives (g.W.Env.fixed c.args.world.now)) c.args.scope.now c.args.formula.now c.args.rows.now) c.args.formula.now c.in-Some.row.now (record_of c.in_ok-copy.field-0) c.in-Some.others.now c.loop-row.rest.now c.loop-row.invariant.passed.fixed c.loop-row.invariant.scope c.loop-row.invariant.passed.later c.in_scope.ensures.passed.later c.in-Some.ensures.cases.0 (ap record_of c.in_ok-copy.ensures) (view c.in_ok-value.value) c.loop-row.invariant.cut c.in_ok-value.ensures.done))
+    (cutting.each_go g.W.World.gives _ _ _ _ _ _ _ _ _ _ (cutting.each_left (ground g.W.World.gives (g.W.Env.fixed c.args.world.now)) c.args.scope.now c.args.formula.now c.args.rows.now) c.args.formula.now c.in-Some.row.now (record_of c.in_ok-copy.field-0) c.in-Some.others.now c.loop-row.rest.now c.loop-row.invariant.attempt.passed.fixed c.loop-row.invariant.scope c.loop-row.invariant.attempt.passed.later c.in_scope.ensures.attempt.passed.later c.in-Some.ensures.cases.0 (ap record_of c.in_ok-copy.ensures) (view c.in_ok-value.value) c.loop-row.invariant.cut c.in_ok-value.ensures.done))
 
 pub each-returns-in_err-copy-clause-cut : goal.each-returns-in_err-copy-clause-cut
 each-returns-in_err-copy-clause-cut g t c =
     cutting.on_any c.from_residual.result
     (cutting.cut_here (SilenceCause (g.W.Env.marks c.args.world.now) (g.W.Env.marks c.loop-row.world)) (g.W.World.state c.args.world.now) (g.W.World.state c.loop-row.world) (cutting.each_left (ground g.W.World.gives (g.W.Env.fixed c.args.world.now)) c.args.scope.now c.args.formula.now c.loop-row.rest.now) (cutting.each_left (ground g.W.World.gives (g.W.Env.fixed c.args.world.now)) c.args.scope.now c.args.formula.now c.args.rows.now) (λ s. cutting.each_unbegun (ground g.W.World.gives (g.W.Env.fixed c.args.world.now)) c.args.formula.now c.loop-row.rest.now c.args.scope.now s) c.loop-row.invariant.cut)
-
-pub node-returns-in-Chain-clause-cut : goal.node-returns-in-Chain-clause-cut
-node-returns-in-Chain-clause-cut g t c =
-    cutting.cut_as (SilenceCause (g.W.Env.marks c.args.world.now) (g.W.Env.marks c.chain.new.world)) (ground g.W.World.gives (g.W.Env.fixed c.args.world.now)) top.chain _ c.as_slice.result.now _ c.args.scope.now c.chain.result (g.W.World.state c.args.world.now) (g.W.World.state c.chain.new.world) (sym (ap core_branch c.in-Chain.is) ∙ c.core.view_is) c.as_slice.ensures c.requires.acts c.chain.ensures.cut
-
-pub node-returns-in-If-clause-cut : goal.node-returns-in-If-clause-cut
-node-returns-in-If-clause-cut g t c =
-    cutting.cut_as (SilenceCause (g.W.Env.marks c.args.world.now) (g.W.Env.marks c.branches.new.world)) (ground g.W.World.gives (g.W.Env.fixed c.args.world.now)) (top.form form.If) _ c.as_slice-in-If.result.now _ c.args.scope.now c.branches.result (g.W.World.state c.args.world.now) (g.W.World.state c.branches.new.world) (sym (ap core_branch c.in-If.is) ∙ c.core.view_is) c.as_slice-in-If.ensures c.requires.acts c.branches.ensures.cut
-
-pub node-returns-in-Switch-clause-cut : goal.node-returns-in-Switch-clause-cut
-node-returns-in-Switch-clause-cut g t c =
-    cutting.cut_as (SilenceCause (g.W.Env.marks c.args.world.now) (g.W.Env.marks c.switch.new.world)) (ground g.W.World.gives (g.W.Env.fixed c.args.world.now)) (top.form form.Switch) _ c.as_slice-in-Switch.result.now _ c.args.scope.now c.switch.result (g.W.World.state c.args.world.now) (g.W.World.state c.switch.new.world) (sym (ap core_branch c.in-Switch.is) ∙ c.core.view_is) c.as_slice-in-Switch.ensures c.requires.acts c.switch.ensures.cut
-
-pub node-returns-in-IfError-clause-cut : goal.node-returns-in-IfError-clause-cut
-node-returns-in-IfError-clause-cut g t c =
-    cutting.cut_as (SilenceCause (g.W.Env.marks c.args.world.now) (g.W.Env.marks c.recover.new.world)) (ground g.W.World.gives (g.W.Env.fixed c.args.world.now)) (top.form form.IfError) _ c.as_slice-in-IfError.result.now _ c.args.scope.now c.recover.result (g.W.World.state c.args.world.now) (g.W.World.state c.recover.new.world) (sym (ap core_branch c.in-IfError.is) ∙ c.core.view_is) c.as_slice-in-IfError.ensures c.requires.acts c.recover.ensures.cut
-
-pub node-returns-in-Act-clause-cut : goal.node-returns-in-Act-clause-cut
-node-returns-in-Act-clause-cut g t c =
-    cutting.cut_as (SilenceCause (g.W.Env.marks c.args.world.now) (g.W.Env.marks c.act_deed.new.world)) (ground g.W.World.gives (g.W.Env.fixed c.args.world.now)) (top.act c.in-Act.deed) _ c.as_slice-in-Act.result.now _ c.args.scope.now c.act_deed.result (g.W.World.state c.args.world.now) (g.W.World.state c.act_deed.new.world) (sym (ap core_branch c.in-Act.is) ∙ c.core.view_is) c.as_slice-in-Act.ensures c.requires.acts c.act_deed.ensures.cut
-
-pub node-returns-in-With-clause-cut : goal.node-returns-in-With-clause-cut
-node-returns-in-With-clause-cut g t c =
-    cutting.cut_as (SilenceCause (g.W.Env.marks c.args.world.now) (g.W.Env.marks c.within.new.world)) (ground g.W.World.gives (g.W.Env.fixed c.args.world.now)) top.within (c.deref.result.now ∷ c.deref-in-With.result.now ∷ []) (c.deref.result.now ∷ c.deref-in-With.result.now ∷ []) _ c.args.scope.now c.within.result (g.W.World.state c.args.world.now) (g.W.World.state c.within.new.world) (nodes.two_are top.within _ _ _ _ _ (sym (ap core_branch c.in-With.is) ∙ c.core.view_is) c.deref.ensures c.deref-in-With.ensures) refl c.requires.acts c.within.ensures.cut
-
-pub node-returns-in-Over-clause-cut : goal.node-returns-in-Over-clause-cut
-node-returns-in-Over-clause-cut g t c =
-    cutting.cut_as (SilenceCause (g.W.Env.marks c.args.world.now) (g.W.Env.marks c.for_all.new.world)) (ground g.W.World.gives (g.W.Env.fixed c.args.world.now)) (top.over fun.ForAll) (c.deref-in-Over.result.now ∷ c.as_slice-in-Over.result.now) (c.deref-in-Over.result.now ∷ c.as_slice-in-Over.result.now) _ c.args.scope.now c.for_all.result (g.W.World.state c.args.world.now) (g.W.World.state c.for_all.new.world) (nodes.over_is (g.W.Env.fixed c.args.world.now).types c.args.scope.now _ _ c.deref-in-Over.result.now _ c.as_slice-in-Over.result.now _ (sym (ap core_branch c.in-Over.is) ∙ c.core.view_is) c.deref-in-Over.ensures c.as_slice-in-Over.ensures c.requires.can c.requires.acts) refl c.requires.acts c.for_all.ensures.cut
 
 pub node-returns-in_err-value-in-Dot-clause-cut : goal.node-returns-in_err-value-in-Dot-clause-cut
 node-returns-in_err-value-in-Dot-clause-cut g t c =
@@ -1252,7 +1010,7 @@ node-returns-in_err-list-in-List-clause-cut g t c =
 
 pub perform-returns-else-acts-clause-cut : goal.perform-returns-else-acts-clause-cut
 perform-returns-else-acts-clause-cut g t c =
-    cutting.on_any c.evaluate.result (cutting.cut_staying (SilenceCause (g.W.Env.marks c.args.world.now) (g.W.Env.marks c.evaluate.new.world)) (ground g.W.World.gives (g.W.Env.fixed c.args.world.now)) c.args.core.now c.args.scope.now (g.W.World.state c.args.world.now) (g.W.World.state c.evaluate.new.world) c.evaluate.ensures.stays)
+    cutting.on_any c.evaluate.result (cutting.cut_staying (SilenceCause (g.W.Env.marks c.args.world.now) (g.W.Env.marks c.evaluate.new.world)) (ground g.W.World.gives (g.W.Env.fixed c.args.world.now)) c.args.core.now c.args.scope.now (g.W.World.state c.args.world.now) (g.W.World.state c.evaluate.new.world) c.evaluate.ensures.look.stays)
 
 pub within-returns-in_err-value-clause-cut : goal.within-returns-in_err-value-clause-cut
 within-returns-in_err-value-clause-cut g t c =
@@ -1262,9 +1020,9 @@ within-returns-in_err-value-clause-cut g t c =
 pub within-returns-in-Ok-clause-cut : goal.within-returns-in-Ok-clause-cut
 within-returns-in-Ok-clause-cut g t c =
     on_err_weaker c.in_scope.result
-    (λ k. cutting.within_then (ground g.W.World.gives (g.W.Env.fixed c.args.world.now)) c.args.scope.now _ _ _ _ _ _ c.args.part.now (view c.in_ok-value.value) c.perform.ensures.passed.later c.in_scope.ensures.passed.later c.in-Ok.ensures.1 c.in_ok-value.ensures.done c.args.formula.now
+    (λ k. cutting.within_then (ground g.W.World.gives (g.W.Env.fixed c.args.world.now)) c.args.scope.now _ _ _ _ _ _ c.args.part.now (view c.in_ok-value.value) c.perform.ensures.attempt.passed.later c.in_scope.ensures.attempt.passed.later c.in-Ok.ensures.1 c.in_ok-value.ensures.done c.args.formula.now
     (subst (λ z. MayFallSilent (SilenceCause (g.W.Env.marks c.perform.new.world) (g.W.Env.marks c.in_scope.new.world)) (IsCutOff (ground g.W.World.gives (g.W.Env.fixed c.args.world.now)) c.args.formula.now (inner c.args.scope.now z)) (g.W.World.state c.perform.new.world) (g.W.World.state c.in_scope.new.world)) c.in-Ok.ensures.0
-    (steps.back (λ f h. MayFallSilent (SilenceCause (g.W.Env.marks c.perform.new.world) (g.W.Env.marks c.in_scope.new.world)) (IsCutOff (ground g.W.World.gives f) c.args.formula.now (inner h (view c.in-Ok.row))) (g.W.World.state c.perform.new.world) (g.W.World.state c.in_scope.new.world)) _ _ _ _ c.perform.ensures.passed.fixed c.perform.ensures.scope k)))
+    (steps.back (λ f h. MayFallSilent (SilenceCause (g.W.Env.marks c.perform.new.world) (g.W.Env.marks c.in_scope.new.world)) (IsCutOff (ground g.W.World.gives f) c.args.formula.now (inner h (view c.in-Ok.row))) (g.W.World.state c.perform.new.world) (g.W.World.state c.in_scope.new.world)) _ _ _ _ c.perform.ensures.attempt.passed.fixed c.perform.ensures.scope k)))
     c.in_scope.ensures.cut
 
 pub switch-returns-in_err-value-clause-cut : goal.switch-returns-in_err-value-clause-cut
@@ -1277,9 +1035,9 @@ pub switch-returns-in-Ok-clause-cut : goal.switch-returns-in-Ok-clause-cut
 switch-returns-in-Ok-clause-cut g t c =
     on_err_weaker c.matches.result
     (λ k. subst (λ (ts : List Term). MayFallSilent (SilenceCause (g.W.Env.marks c.args.world.now) (g.W.Env.marks c.matches.new.world)) (IsSwitchCut (parts_of (ground g.W.World.gives (g.W.Env.fixed c.args.world.now)) (all ts)) c.args.scope.now) (g.W.World.state c.args.world.now) (g.W.World.state c.matches.new.world)) (sym c.in-Some.ensures.cases.0)
-    (cutting.switch_then (ground g.W.World.gives (g.W.Env.fixed c.args.world.now)) c.args.scope.now _ _ _ _ _ _ c.in-Some.part.now (view c.in_ok-value.value) c.perform.ensures.passed.later c.matches.ensures.passed.later c.in-Ok.ensures.1 c.in_ok-value.ensures.done c.in-Some.others.now
+    (cutting.switch_then (ground g.W.World.gives (g.W.Env.fixed c.args.world.now)) c.args.scope.now _ _ _ _ _ _ c.in-Some.part.now (view c.in_ok-value.value) c.perform.ensures.attempt.passed.later c.matches.ensures.attempt.passed.later c.in-Ok.ensures.1 c.in_ok-value.ensures.done c.in-Some.others.now
     (subst (λ z. MayFallSilent (SilenceCause (g.W.Env.marks c.perform.new.world) (g.W.Env.marks c.matches.new.world)) (IsBranchCut (switch_decision z) (parts_of (ground g.W.World.gives (g.W.Env.fixed c.args.world.now)) (all c.in-Some.others.now)) c.args.scope.now) (g.W.World.state c.perform.new.world) (g.W.World.state c.matches.new.world)) c.in-Ok.ensures.0
-    (steps.back (λ f h. MayFallSilent (SilenceCause (g.W.Env.marks c.perform.new.world) (g.W.Env.marks c.matches.new.world)) (IsBranchCut (switch_decision (view c.in-Ok.wanted)) (parts_of (ground g.W.World.gives f) (all c.in-Some.others.now)) h) (g.W.World.state c.perform.new.world) (g.W.World.state c.matches.new.world)) _ _ _ _ c.perform.ensures.passed.fixed c.perform.ensures.scope k))))
+    (steps.back (λ f h. MayFallSilent (SilenceCause (g.W.Env.marks c.perform.new.world) (g.W.Env.marks c.matches.new.world)) (IsBranchCut (switch_decision (view c.in-Ok.wanted)) (parts_of (ground g.W.World.gives f) (all c.in-Some.others.now)) h) (g.W.World.state c.perform.new.world) (g.W.World.state c.matches.new.world)) _ _ _ _ c.perform.ensures.attempt.passed.fixed c.perform.ensures.scope k))))
     c.matches.ensures.cut
 
 pub for_all-returns-in_err-value-clause-cut : goal.for_all-returns-in_err-value-clause-cut
@@ -1292,15 +1050,15 @@ pub for_all-returns-in_err-values-in-Ok-clause-cut : goal.for_all-returns-in_err
 for_all-returns-in_err-values-in-Ok-clause-cut g t c =
     cutting.on_any c.from_residual-in_err-values-in-Ok.result
     (subst (λ (ts : List Term). MayFallSilent (SilenceCause (g.W.Env.marks c.args.world.now) (g.W.Env.marks c.each.new.world)) (IsForAllCut (part_of (ground g.W.World.gives (g.W.Env.fixed c.args.world.now)) c.args.table.now ∷ parts_of (ground g.W.World.gives (g.W.Env.fixed c.args.world.now)) (all ts)) c.args.scope.now) (g.W.World.state c.args.world.now) (g.W.World.state c.each.new.world)) (sym (formula_is (g.W.Env.fixed c.args.world.now).types c.args.scope.now c.args.table.now c.args.parts.now c.requires.0 c.requires.1 c.in-Some.formula.now _ c.in-Some.ensures.cases.0))
-    (cutting.for_all_then (ground g.W.World.gives (g.W.Env.fixed c.args.world.now)) c.args.scope.now _ _ _ _ _ _ c.args.table.now (view c.in_ok-value.value) c.perform.ensures.passed.later c.each.ensures.passed.later (is_no_error _ c.in-Ok.ensures.1) c.in_ok-value.ensures.done c.in-Some.formula.now c.as_slice.result.now (c.as_slice.ensures ∙ c.in-Ok.ensures.0)
-    (steps.back (λ f h. MayFallSilent (SilenceCause (g.W.Env.marks c.perform.new.world) (g.W.Env.marks c.each.new.world)) (cutting.each_left (ground g.W.World.gives f) h c.in-Some.formula.now c.as_slice.result.now) (g.W.World.state c.perform.new.world) (g.W.World.state c.each.new.world)) _ _ _ _ c.perform.ensures.passed.fixed c.perform.ensures.scope c.in_err-values-in-Ok.ensures.cut)))
+    (cutting.for_all_then (ground g.W.World.gives (g.W.Env.fixed c.args.world.now)) c.args.scope.now _ _ _ _ _ _ c.args.table.now (view c.in_ok-value.value) c.perform.ensures.attempt.passed.later c.each.ensures.attempt.passed.later (is_no_error _ c.in-Ok.ensures.1) c.in_ok-value.ensures.done c.in-Some.formula.now c.as_slice.result.now (c.as_slice.ensures ∙ c.in-Ok.ensures.0)
+    (steps.back (λ f h. MayFallSilent (SilenceCause (g.W.Env.marks c.perform.new.world) (g.W.Env.marks c.each.new.world)) (cutting.each_left (ground g.W.World.gives f) h c.in-Some.formula.now c.as_slice.result.now) (g.W.World.state c.perform.new.world) (g.W.World.state c.each.new.world)) _ _ _ _ c.perform.ensures.attempt.passed.fixed c.perform.ensures.scope c.in_err-values-in-Ok.ensures.cut)))
 
 pub for_all-returns-in_err-for_all-in-Ok-clause-cut : goal.for_all-returns-in_err-for_all-in-Ok-clause-cut
 for_all-returns-in_err-for_all-in-Ok-clause-cut g t c =
     cutting.on_any c.from_residual-in_err-for_all-in-Ok.result
     (subst (λ (ts : List Term). MayFallSilent (SilenceCause (g.W.Env.marks c.args.world.now) (g.W.Env.marks c.each.new.world)) (IsForAllCut (part_of (ground g.W.World.gives (g.W.Env.fixed c.args.world.now)) c.args.table.now ∷ parts_of (ground g.W.World.gives (g.W.Env.fixed c.args.world.now)) (all ts)) c.args.scope.now) (g.W.World.state c.args.world.now) (g.W.World.state c.each.new.world)) (sym (formula_is (g.W.Env.fixed c.args.world.now).types c.args.scope.now c.args.table.now c.args.parts.now c.requires.0 c.requires.1 c.in-Some.formula.now _ c.in-Some.ensures.cases.0))
-    (cutting.for_all_behind (ground g.W.World.gives (g.W.Env.fixed c.args.world.now)) c.args.scope.now _ _ _ _ _ _ c.args.table.now (view c.in_ok-value.value) c.perform.ensures.passed.later c.each.ensures.passed.later (is_no_error _ c.in-Ok.ensures.1) c.in_ok-value.ensures.done c.in-Some.formula.now c.as_slice.result.now (map view c.in_ok-values-in-Ok.values.items) (c.as_slice.ensures ∙ c.in-Ok.ensures.0)
-    (steps.back (λ f h. MayFallSilent (SilenceCause (g.W.Env.marks c.perform.new.world) (g.W.Env.marks c.each.new.world)) (λ s u. PerformsEach (performing (ground g.W.World.gives f) c.in-Some.formula.now) h c.as_slice.result.now s (map view c.in_ok-values-in-Ok.values.items) u) (g.W.World.state c.perform.new.world) (g.W.World.state c.each.new.world)) _ _ _ _ c.perform.ensures.passed.fixed c.perform.ensures.scope c.in_ok-values-in-Ok.ensures.done)))
+    (cutting.for_all_behind (ground g.W.World.gives (g.W.Env.fixed c.args.world.now)) c.args.scope.now _ _ _ _ _ _ c.args.table.now (view c.in_ok-value.value) c.perform.ensures.attempt.passed.later c.each.ensures.attempt.passed.later (is_no_error _ c.in-Ok.ensures.1) c.in_ok-value.ensures.done c.in-Some.formula.now c.as_slice.result.now (map view c.in_ok-values-in-Ok.values.items) (c.as_slice.ensures ∙ c.in-Ok.ensures.0)
+    (steps.back (λ f h. MayFallSilent (SilenceCause (g.W.Env.marks c.perform.new.world) (g.W.Env.marks c.each.new.world)) (λ s u. PerformsEach (performing (ground g.W.World.gives f) c.in-Some.formula.now) h c.as_slice.result.now s (map view c.in_ok-values-in-Ok.values.items) u) (g.W.World.state c.perform.new.world) (g.W.World.state c.each.new.world)) _ _ _ _ c.perform.ensures.attempt.passed.fixed c.perform.ensures.scope c.in_ok-values-in-Ok.ensures.done)))
 
 pub update_if-returns-in_err-value-clause-cut : goal.update_if-returns-in_err-value-clause-cut
 update_if-returns-in_err-value-clause-cut g t c =
@@ -1312,16 +1070,16 @@ pub update_if-returns-in_err-changes-in-Ok-clause-cut : goal.update_if-returns-i
 update_if-returns-in_err-changes-in-Ok-clause-cut g t c =
     cutting.on_any c.from_residual-in_err-changes-in-Ok.result
     (subst (λ (ts : List Term). MayFallSilent (SilenceCause (g.W.Env.marks c.args.world.now) (g.W.Env.marks c.each.new.world)) (IsUpdateIfCut (ground g.W.World.gives (g.W.Env.fixed c.args.world.now)) c.args.target (parts_of (ground g.W.World.gives (g.W.Env.fixed c.args.world.now)) (all ts)) c.args.scope.now) (g.W.World.state c.args.world.now) (g.W.World.state c.each.new.world)) (sym c.filter_and_change.ensures)
-    (cutting.update_then (ground g.W.World.gives (g.W.Env.fixed c.args.world.now)) c.args.scope.now _ _ _ _ _ _ c.filter_and_change.result.0.now (view c.in_ok-value.value) c.perform.ensures.passed.later c.each.ensures.passed.later (is_no_error _ c.in-Ok.ensures.1) c.in_ok-value.ensures.done c.args.target c.filter_and_change.result.1.now c.as_slice-kept.result.now (c.as_slice-kept.ensures ∙ c.in-Ok.ensures.0)
-    (cutting.changes_first (SilenceCause (g.W.Env.marks c.perform.new.world) (g.W.Env.marks c.each.new.world)) (ground g.W.World.gives (g.W.Env.fixed c.args.world.now)) c.args.target c.filter_and_change.result.1.now c.args.scope.now c.as_slice-kept.result.now (g.W.World.state c.perform.new.world) (g.W.World.state c.each.new.world) (steps.back (λ f h. MayFallSilent (SilenceCause (g.W.Env.marks c.perform.new.world) (g.W.Env.marks c.each.new.world)) (cutting.each_left (ground g.W.World.gives f) h c.filter_and_change.result.1.now c.as_slice-kept.result.now) (g.W.World.state c.perform.new.world) (g.W.World.state c.each.new.world)) _ _ _ _ c.perform.ensures.passed.fixed c.perform.ensures.scope c.in_err-changes-in-Ok.ensures.cut))))
+    (cutting.update_then (ground g.W.World.gives (g.W.Env.fixed c.args.world.now)) c.args.scope.now _ _ _ _ _ _ c.filter_and_change.result.0.now (view c.in_ok-value.value) c.perform.ensures.attempt.passed.later c.each.ensures.attempt.passed.later (is_no_error _ c.in-Ok.ensures.1) c.in_ok-value.ensures.done c.args.target c.filter_and_change.result.1.now c.as_slice-kept.result.now (c.as_slice-kept.ensures ∙ c.in-Ok.ensures.0)
+    (cutting.changes_first (SilenceCause (g.W.Env.marks c.perform.new.world) (g.W.Env.marks c.each.new.world)) (ground g.W.World.gives (g.W.Env.fixed c.args.world.now)) c.args.target c.filter_and_change.result.1.now c.args.scope.now c.as_slice-kept.result.now (g.W.World.state c.perform.new.world) (g.W.World.state c.each.new.world) (steps.back (λ f h. MayFallSilent (SilenceCause (g.W.Env.marks c.perform.new.world) (g.W.Env.marks c.each.new.world)) (cutting.each_left (ground g.W.World.gives f) h c.filter_and_change.result.1.now c.as_slice-kept.result.now) (g.W.World.state c.perform.new.world) (g.W.World.state c.each.new.world)) _ _ _ _ c.perform.ensures.attempt.passed.fixed c.perform.ensures.scope c.in_err-changes-in-Ok.ensures.cut))))
 
 pub update_if-returns-in_ok-changes-in-Ok-clause-cut : goal.update_if-returns-in_ok-changes-in-Ok-clause-cut
 update_if-returns-in_ok-changes-in-Ok-clause-cut g t c =
     on_err_weaker c.update.result
     (λ k. subst (λ (ts : List Term). MayFallSilent (SilenceCause (g.W.Env.marks c.args.world.now) (g.W.Env.marks c.update.new.world)) (IsUpdateIfCut (ground g.W.World.gives (g.W.Env.fixed c.args.world.now)) c.args.target (parts_of (ground g.W.World.gives (g.W.Env.fixed c.args.world.now)) (all ts)) c.args.scope.now) (g.W.World.state c.args.world.now) (g.W.World.state c.update.new.world)) (sym c.filter_and_change.ensures)
-    (cutting.update_then (ground g.W.World.gives (g.W.Env.fixed c.args.world.now)) c.args.scope.now _ _ _ _ _ _ c.filter_and_change.result.0.now (view c.in_ok-value.value) c.perform.ensures.passed.later (passed_on _ _ _ c.each.ensures.passed c.update.ensures.passed).later (is_no_error _ c.in-Ok.ensures.1) c.in_ok-value.ensures.done c.args.target c.filter_and_change.result.1.now c.as_slice-kept.result.now (c.as_slice-kept.ensures ∙ c.in-Ok.ensures.0)
-    (cutting.changes_then (ground g.W.World.gives (g.W.Env.fixed c.args.world.now)) c.args.target c.filter_and_change.result.1.now c.args.scope.now c.as_slice-kept.result.now (map view c.in_ok-changes-in-Ok.changes.items) _ _ _ _ _ _ c.each.ensures.passed.later c.update.ensures.passed.later (steps.back (λ f h. MayFallSilent (SilenceCause (g.W.Env.marks c.perform.new.world) (g.W.Env.marks c.each.new.world)) (λ s u. PerformsEach (performing (ground g.W.World.gives f) c.filter_and_change.result.1.now) h c.as_slice-kept.result.now s (map view c.in_ok-changes-in-Ok.changes.items) u) (g.W.World.state c.perform.new.world) (g.W.World.state c.each.new.world)) _ _ _ _ c.perform.ensures.passed.fixed c.perform.ensures.scope c.in_ok-changes-in-Ok.ensures.done)
-    (subst (λ (f : Fixed). MayFallSilent (SilenceCause (g.W.Env.marks c.each.new.world) (g.W.Env.marks c.update.new.world)) (CutUpdate (eval_frame f) c.args.target c.as_slice-kept.result.now (map view c.in_ok-changes-in-Ok.changes.items)) (g.W.World.state c.each.new.world) (g.W.World.state c.update.new.world)) (c.each.ensures.passed.fixed ∙ c.perform.ensures.passed.fixed) (subst (λ vs. MayFallSilent (SilenceCause (g.W.Env.marks c.each.new.world) (g.W.Env.marks c.update.new.world)) (CutUpdate (eval_frame (g.W.Env.fixed c.each.new.world)) c.args.target c.as_slice-kept.result.now (map view vs)) (g.W.World.state c.each.new.world) (g.W.World.state c.update.new.world)) c.as_slice.ensures.value k)))))
+    (cutting.update_then (ground g.W.World.gives (g.W.Env.fixed c.args.world.now)) c.args.scope.now _ _ _ _ _ _ c.filter_and_change.result.0.now (view c.in_ok-value.value) c.perform.ensures.attempt.passed.later (passed_on _ _ _ c.each.ensures.attempt.passed c.update.ensures.attempt.passed).later (is_no_error _ c.in-Ok.ensures.1) c.in_ok-value.ensures.done c.args.target c.filter_and_change.result.1.now c.as_slice-kept.result.now (c.as_slice-kept.ensures ∙ c.in-Ok.ensures.0)
+    (cutting.changes_then (ground g.W.World.gives (g.W.Env.fixed c.args.world.now)) c.args.target c.filter_and_change.result.1.now c.args.scope.now c.as_slice-kept.result.now (map view c.in_ok-changes-in-Ok.changes.items) _ _ _ _ _ _ c.each.ensures.attempt.passed.later c.update.ensures.attempt.passed.later (steps.back (λ f h. MayFallSilent (SilenceCause (g.W.Env.marks c.perform.new.world) (g.W.Env.marks c.each.new.world)) (λ s u. PerformsEach (performing (ground g.W.World.gives f) c.filter_and_change.result.1.now) h c.as_slice-kept.result.now s (map view c.in_ok-changes-in-Ok.changes.items) u) (g.W.World.state c.perform.new.world) (g.W.World.state c.each.new.world)) _ _ _ _ c.perform.ensures.attempt.passed.fixed c.perform.ensures.scope c.in_ok-changes-in-Ok.ensures.done)
+    (subst (λ (f : Fixed). MayFallSilent (SilenceCause (g.W.Env.marks c.each.new.world) (g.W.Env.marks c.update.new.world)) (CutUpdate (eval_frame f) c.args.target c.as_slice-kept.result.now (map view c.in_ok-changes-in-Ok.changes.items)) (g.W.World.state c.each.new.world) (g.W.World.state c.update.new.world)) (c.each.ensures.attempt.passed.fixed ∙ c.perform.ensures.attempt.passed.fixed) (subst (λ vs. MayFallSilent (SilenceCause (g.W.Env.marks c.each.new.world) (g.W.Env.marks c.update.new.world)) (CutUpdate (eval_frame (g.W.Env.fixed c.each.new.world)) c.args.target c.as_slice-kept.result.now (map view vs)) (g.W.World.state c.each.new.world) (g.W.World.state c.update.new.world)) c.as_slice.ensures.value k)))))
     c.update.ensures.cut
 
 pub act_deed-returns-in-UpdateIf-clause-cut : goal.act_deed-returns-in-UpdateIf-clause-cut

@@ -10,9 +10,8 @@ use Rattle.fx_value.specs.Fits.{fits_in}
 use Rattle.fx_core.specs.declared.sources.Source.{Source}
 use Rattle.fx_deeds.specs.Fitting.{AreOf}
 use Rattle.fx_deeds.specs.RemainingRows.{RestDecides}
-use Rattle.fx_deeds.specs.WorldSteps.{Passed, stage}
+use Rattle.fx_deeds.specs.StagesOver.{Attempt}
 use Rattle.fx_deeds.specs.State.{ground}
-use Rattle.fx_deeds.specs.Writable.{WritesOnly}
 use Rattle.fx_behave.proofs.Cutting.{Carries, branches_left, each_left, parts_left, recovery_left}
 use Rattle.fx_behave.proofs.Sequences.{DecideAll, branches_of, chain_of, each_of, parts_of, recovery_of}
 use Rattle.fx_behave.specs.Actable.{AreActable, AreActingBranches, AreActingRecoveries, LastHasType, IsActableInside, IsMatchedBy}
@@ -71,10 +70,8 @@ decreases-chain-loop-part g l = length l.rest
 -- what is left decides of the whole
 abbrev pub invariant-chain-loop-part : goal.invariant-chain-loop-part
 invariant-chain-loop-part g l = record {
-  passed : Passed (stage (g.W.Env.fixed l.fn.world) (g.W.World.state l.fn.world) (g.W.Env.marks l.fn.world) (g.W.Env.visited l.fn.world))
-      (stage (g.W.Env.fixed l.world) (g.W.World.state l.world) (g.W.Env.marks l.world) (g.W.Env.visited l.world));
+  attempt : Attempt g.W.Env g.W.World l.fn.world l.world (AnyMayWrite (all l.parts));
   allowed : (x : Source) → AnyMayWrite (all l.rest) x → AnyMayWrite (all l.parts) x;
-  only : MayFallSilent (SilenceCause (g.W.Env.marks l.fn.world) (g.W.Env.marks l.world)) (WritesOnly (AnyMayWrite (all l.parts))) (g.W.World.state l.fn.world) (g.W.World.state l.world);
   scope : l.scope ≡ l.fn.scope;
   fits : (u : Shape) → LastHasType (g.W.Env.fixed l.fn.world).types l.fn.scope u l.parts → LastHasType (g.W.Env.fixed l.fn.world).types l.fn.scope u l.rest;
   done : MayFallSilent (SilenceCause (g.W.Env.marks l.fn.world) (g.W.Env.marks l.world)) (RestDecides (chain_of (ground g.W.World.gives (g.W.Env.fixed l.fn.world)) l.fn.scope l.rest) (chain_of (ground g.W.World.gives (g.W.Env.fixed l.fn.world)) l.fn.scope l.parts)) (g.W.World.state l.fn.world) (g.W.World.state l.world);
@@ -88,10 +85,8 @@ decreases-branches-loop-part g l = length l.rest
 -- no condition was met so far
 abbrev pub invariant-branches-loop-part : goal.invariant-branches-loop-part
 invariant-branches-loop-part g l = record {
-  passed : Passed (stage (g.W.Env.fixed l.fn.world) (g.W.World.state l.fn.world) (g.W.Env.marks l.fn.world) (g.W.Env.visited l.fn.world))
-      (stage (g.W.Env.fixed l.world) (g.W.World.state l.world) (g.W.Env.marks l.world) (g.W.Env.visited l.world));
+  attempt : Attempt g.W.Env g.W.World l.fn.world l.world (AnyMayWrite (all l.parts));
   allowed : (x : Source) → AnyMayWrite (all l.rest) x → AnyMayWrite (all l.parts) x;
-  only : MayFallSilent (SilenceCause (g.W.Env.marks l.fn.world) (g.W.Env.marks l.world)) (WritesOnly (AnyMayWrite (all l.parts))) (g.W.World.state l.fn.world) (g.W.World.state l.world);
   scope : l.scope ≡ l.fn.scope;
   fits : (u : Shape) → AreActingBranches (g.W.Env.fixed l.fn.world).types l.fn.scope u l.parts → AreActingBranches (g.W.Env.fixed l.fn.world).types l.fn.scope u l.rest;
   done : MayFallSilent (SilenceCause (g.W.Env.marks l.fn.world) (g.W.Env.marks l.world)) (RestDecides (branches_of decision_of (ground g.W.World.gives (g.W.Env.fixed l.fn.world)) l.fn.scope l.rest) (branches_of decision_of (ground g.W.World.gives (g.W.Env.fixed l.fn.world)) l.fn.scope l.parts)) (g.W.World.state l.fn.world) (g.W.World.state l.world);
@@ -105,10 +100,8 @@ decreases-matches-loop-part g l = length l.rest
 -- no match was met so far
 abbrev pub invariant-matches-loop-part : goal.invariant-matches-loop-part
 invariant-matches-loop-part g l = record {
-  passed : Passed (stage (g.W.Env.fixed l.fn.world) (g.W.World.state l.fn.world) (g.W.Env.marks l.fn.world) (g.W.Env.visited l.fn.world))
-      (stage (g.W.Env.fixed l.world) (g.W.World.state l.world) (g.W.Env.marks l.world) (g.W.Env.visited l.world));
+  attempt : Attempt g.W.Env g.W.World l.fn.world l.world (AnyMayWrite (all l.parts));
   allowed : (x : Source) → AnyMayWrite (all l.rest) x → AnyMayWrite (all l.parts) x;
-  only : MayFallSilent (SilenceCause (g.W.Env.marks l.fn.world) (g.W.Env.marks l.world)) (WritesOnly (AnyMayWrite (all l.parts))) (g.W.World.state l.fn.world) (g.W.World.state l.world);
   scope : l.scope ≡ l.fn.scope;
   wanted : l.wanted ≡ l.fn.wanted;
   fits : (u : Shape) → IsMatchedBy (g.W.Env.fixed l.fn.world).types l.fn.scope (view l.fn.wanted) u l.parts → IsMatchedBy (g.W.Env.fixed l.fn.world).types l.fn.scope (view l.fn.wanted) u l.rest;
@@ -123,10 +116,8 @@ decreases-recover-loop-part g l = length l.rest
 -- no error so far
 abbrev pub invariant-recover-loop-part : goal.invariant-recover-loop-part
 invariant-recover-loop-part g l = record {
-  passed : Passed (stage (g.W.Env.fixed l.fn.world) (g.W.World.state l.fn.world) (g.W.Env.marks l.fn.world) (g.W.Env.visited l.fn.world))
-      (stage (g.W.Env.fixed l.world) (g.W.World.state l.world) (g.W.Env.marks l.world) (g.W.Env.visited l.world));
+  attempt : Attempt g.W.Env g.W.World l.fn.world l.world (AnyMayWrite (all l.parts));
   allowed : (x : Source) → AnyMayWrite (all l.rest) x → AnyMayWrite (all l.parts) x;
-  only : MayFallSilent (SilenceCause (g.W.Env.marks l.fn.world) (g.W.Env.marks l.world)) (WritesOnly (AnyMayWrite (all l.parts))) (g.W.World.state l.fn.world) (g.W.World.state l.world);
   scope : l.scope ≡ l.fn.scope;
   fits : (u : Shape) → AreActingRecoveries (g.W.Env.fixed l.fn.world).types l.fn.scope u l.parts → AreActingRecoveries (g.W.Env.fixed l.fn.world).types l.fn.scope u l.rest × (fits_in (view l.last) u ≡ true);
   done : MayFallSilent (SilenceCause (g.W.Env.marks l.fn.world) (g.W.Env.marks l.world)) (RestDecides (recovery_of (ground g.W.World.gives (g.W.Env.fixed l.fn.world)) l.fn.scope (view l.last) l.rest) (recovery_of (ground g.W.World.gives (g.W.Env.fixed l.fn.world)) l.fn.scope (none_left form.IfError) l.parts)) (g.W.World.state l.fn.world) (g.W.World.state l.world);
@@ -140,9 +131,7 @@ decreases-each-loop-row g l = length l.rest
 -- the values so far
 abbrev pub invariant-each-loop-row : goal.invariant-each-loop-row
 invariant-each-loop-row g l = record {
-  passed : Passed (stage (g.W.Env.fixed l.fn.world) (g.W.World.state l.fn.world) (g.W.Env.marks l.fn.world) (g.W.Env.visited l.fn.world))
-      (stage (g.W.Env.fixed l.world) (g.W.World.state l.world) (g.W.Env.marks l.world) (g.W.Env.visited l.world));
-  only : MayFallSilent (SilenceCause (g.W.Env.marks l.fn.world) (g.W.Env.marks l.world)) (WritesOnly (MayWrite l.formula)) (g.W.World.state l.fn.world) (g.W.World.state l.world);
+  attempt : Attempt g.W.Env g.W.World l.fn.world l.world (MayWrite l.formula);
   scope : l.scope ≡ l.fn.scope;
   fits : (u : Shape) → IsActableInside (g.W.Env.fixed l.fn.world).types l.fn.scope u l.formula l.rows → IsActableInside (g.W.Env.fixed l.fn.world).types l.fn.scope u l.formula l.rest × AreOf u (map view l.values.items);
   done : MayFallSilent (SilenceCause (g.W.Env.marks l.fn.world) (g.W.Env.marks l.world)) (DecideAll (map view l.values.items) (each_of (ground g.W.World.gives (g.W.Env.fixed l.fn.world)) l.fn.scope l.formula l.rest) (each_of (ground g.W.World.gives (g.W.Env.fixed l.fn.world)) l.fn.scope l.formula l.rows)) (g.W.World.state l.fn.world) (g.W.World.state l.world);
@@ -155,10 +144,8 @@ decreases-part_values-loop-part g l = length l.rest
 -- the values so far
 abbrev pub invariant-part_values-loop-part : goal.invariant-part_values-loop-part
 invariant-part_values-loop-part g l = record {
-  passed : Passed (stage (g.W.Env.fixed l.fn.world) (g.W.World.state l.fn.world) (g.W.Env.marks l.fn.world) (g.W.Env.visited l.fn.world))
-      (stage (g.W.Env.fixed l.world) (g.W.World.state l.world) (g.W.Env.marks l.world) (g.W.Env.visited l.world));
+  attempt : Attempt g.W.Env g.W.World l.fn.world l.world (AnyMayWrite (all l.parts));
   allowed : (x : Source) → AnyMayWrite (all l.rest) x → AnyMayWrite (all l.parts) x;
-  only : MayFallSilent (SilenceCause (g.W.Env.marks l.fn.world) (g.W.Env.marks l.world)) (WritesOnly (AnyMayWrite (all l.parts))) (g.W.World.state l.fn.world) (g.W.World.state l.world);
   scope : l.scope ≡ l.fn.scope;
   fits : (us : List Shape) → AreActable (g.W.Env.fixed l.fn.world).types l.fn.scope us l.parts → (done : List Shape) × (left : List Shape) × (us ≡ done ++ left) × AreFit (map view l.values.items) done × AreActable (g.W.Env.fixed l.fn.world).types l.fn.scope left l.rest;
   done : MayFallSilent (SilenceCause (g.W.Env.marks l.fn.world) (g.W.Env.marks l.world)) (DecideAll (map view l.values.items) (parts_of (ground g.W.World.gives (g.W.Env.fixed l.fn.world)) l.fn.scope l.rest) (parts_of (ground g.W.World.gives (g.W.Env.fixed l.fn.world)) l.fn.scope l.parts)) (g.W.World.state l.fn.world) (g.W.World.state l.world);

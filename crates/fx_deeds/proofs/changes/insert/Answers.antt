@@ -1,20 +1,15 @@
 use Rattle.std.proofs.Common.{◌∷◌, []}
 use Rattle.fx_core.specs.declared.sources.Source.TheVariants as source
 use Rattle.fx_deeds.proofs.Changing.{row_made_within}
-use Rattle.fx_deeds.proofs.Passing.{passed_changing}
-use Rattle.fx_deeds.proofs.Allowing.{only_changing, row_made_only}
+use Rattle.fx_deeds.proofs.Allowing.{row_made_only}
 use Rattle.fx_deeds.specs.Changed.{IsRowMade}
 use Rattle.row_keeper.specs.Tables.{columns_at}
 use Rattle.fx_deeds.specs.Writable.{IsOneOf}
+use Rattle.fx_deeds.proofs.Attempts.{attempt_changing}
 use Rattle.fx_deeds.proofs.changes.insert.Goals as goal
 
-pub returns-clause-passed : goal.returns-clause-passed
-returns-clause-passed g c =
+pub returns-clause-attempt : goal.returns-clause-attempt
+returns-clause-attempt g c =
     let columns = columns_at (g.W.Env.fixed c.args.world.now).schema.tables c.args.table in
-    passed_changing c.insert.result _ _ (λ p. IsRowMade columns c.args.table c.args.cells.now p) (row_made_within columns c.args.table c.args.cells.now) c.insert.ensures.fixed c.insert.ensures.put
-    c.insert.ensures.stops c.insert.ensures.marks c.insert.ensures.visited
-
-pub returns-clause-only : goal.returns-clause-only
-returns-clause-only g c =
-    let columns = columns_at (g.W.Env.fixed c.args.world.now).schema.tables c.args.table in
-    only_changing c.insert.result (IsOneOf (source.Table c.args.table ∷ [])) _ _ (returns-clause-passed g c) (λ p. IsRowMade columns c.args.table c.args.cells.now p) (row_made_only columns c.args.table c.args.cells.now) c.insert.ensures.put c.insert.ensures.stops
+    attempt_changing c.insert.result _ _ (IsOneOf (source.Table c.args.table ∷ [])) (λ p. IsRowMade columns c.args.table c.args.cells.now p) (row_made_within columns c.args.table c.args.cells.now)
+    (row_made_only columns c.args.table c.args.cells.now) c.insert.ensures.fixed c.insert.ensures.put c.insert.ensures.stops c.insert.ensures.counts.0 c.insert.ensures.counts.1

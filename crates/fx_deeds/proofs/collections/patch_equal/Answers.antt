@@ -1,4 +1,4 @@
-use Rattle.std.proofs.Common.{◌≡◌, ◌∙◌, ◌∷◌, [], None, map, ap, subst, sym}
+use Rattle.std.proofs.Common.{◌≡◌, ◌∙◌, None, map, ap, subst, sym}
 use Rattle.std.specs.Prelude.{option_map}
 use Rattle.std.specs.List.{find}
 use Rattle.fx_base.specs.Silence.{SilenceCause}
@@ -10,11 +10,9 @@ use Rattle.fx_deeds.proofs.Adding.{error_fits}
 use Rattle.fx_deeds.proofs.Deeding.{no_error}
 use Rattle.fx_deeds.proofs.CutOff.{cut_by}
 use Rattle.fx_deeds.proofs.Holding.{patched_in, patches_in}
-use Rattle.fx_deeds.proofs.Allowing.{only_nowhere}
 use Rattle.fx_deeds.specs.Collections.{IsPatchedIn, PatchesGathered}
 use Rattle.fx_deeds.specs.RowValues.{changed_row, columns_of_rows, values_among}
-use Rattle.fx_deeds.specs.Writable.{IsOneOf}
-use Rattle.fx_deeds.proofs.Passing.{passed_nowhere}
+use Rattle.fx_deeds.proofs.Attempts.{attempt_none}
 use Rattle.fx_deeds.proofs.collections.patch_equal.Goals as goal
 
 pub returns-in-Some-clause-fits : goal.returns-in-Some-clause-fits
@@ -28,29 +26,23 @@ returns-clause-done g c =
     (subst (λ z. find is_fault (values_among z) ≡ None) c.as_slice.ensures (no_error c.in_ok-error.field-0 _ c.in_ok-error.ensures c.in_default.not-Some)) c.in_ok-row.ensures
     (c.in_ok-changed.ensures.row ∙ ap (λ z. changed_row cs z c.in_ok-row.row) c.as_slice-2.ensures) c.patch_row.ensures.done
 
-pub returns-in_err-changes-clause-only : goal.returns-in_err-changes-clause-only
-returns-in_err-changes-clause-only g c =
-    only_nowhere (IsOneOf (source.Gathered c.args.collection ∷ [])) (SilenceCause (g.W.Env.marks c.args.world.now) (g.W.Env.marks c.args.world.now)) (g.W.World.state c.args.world.now)
+pub returns-in_err-changes-clause-attempt : goal.returns-in_err-changes-clause-attempt
+returns-in_err-changes-clause-attempt g c = attempt_none _ _
 
-pub returns-in_err-error-clause-only : goal.returns-in_err-error-clause-only
-returns-in_err-error-clause-only g c =
-    only_nowhere (IsOneOf (source.Gathered c.args.collection ∷ [])) (SilenceCause (g.W.Env.marks c.args.world.now) (g.W.Env.marks c.args.world.now)) (g.W.World.state c.args.world.now)
+pub returns-in_err-error-clause-attempt : goal.returns-in_err-error-clause-attempt
+returns-in_err-error-clause-attempt g c = attempt_none _ _
 
-pub returns-in-Some-clause-only : goal.returns-in-Some-clause-only
-returns-in-Some-clause-only g c =
-    only_nowhere (IsOneOf (source.Gathered c.args.collection ∷ [])) (SilenceCause (g.W.Env.marks c.args.world.now) (g.W.Env.marks c.args.world.now)) (g.W.World.state c.args.world.now)
+pub returns-in-Some-clause-attempt : goal.returns-in-Some-clause-attempt
+returns-in-Some-clause-attempt g c = attempt_none _ _
 
-pub returns-in_err-columns-clause-only : goal.returns-in_err-columns-clause-only
-returns-in_err-columns-clause-only g c =
-    only_nowhere (IsOneOf (source.Gathered c.args.collection ∷ [])) (SilenceCause (g.W.Env.marks c.args.world.now) (g.W.Env.marks c.args.world.now)) (g.W.World.state c.args.world.now)
+pub returns-in_err-columns-clause-attempt : goal.returns-in_err-columns-clause-attempt
+returns-in_err-columns-clause-attempt g c = attempt_none _ _
 
-pub returns-in_err-row-clause-only : goal.returns-in_err-row-clause-only
-returns-in_err-row-clause-only g c =
-    only_nowhere (IsOneOf (source.Gathered c.args.collection ∷ [])) (SilenceCause (g.W.Env.marks c.args.world.now) (g.W.Env.marks c.args.world.now)) (g.W.World.state c.args.world.now)
+pub returns-in_err-row-clause-attempt : goal.returns-in_err-row-clause-attempt
+returns-in_err-row-clause-attempt g c = attempt_none _ _
 
-pub returns-in_err-changed-clause-only : goal.returns-in_err-changed-clause-only
-returns-in_err-changed-clause-only g c =
-    only_nowhere (IsOneOf (source.Gathered c.args.collection ∷ [])) (SilenceCause (g.W.Env.marks c.args.world.now) (g.W.Env.marks c.args.world.now)) (g.W.World.state c.args.world.now)
+pub returns-in_err-changed-clause-attempt : goal.returns-in_err-changed-clause-attempt
+returns-in_err-changed-clause-attempt g c = attempt_none _ _
 
 pub returns-clause-cut : goal.returns-clause-cut
 returns-clause-cut g c =
@@ -60,21 +52,3 @@ returns-clause-cut g c =
     (λ s n d t. patches_in c.args.collection (g.W.Env.fixed c.args.world.now).types cs (view c.args.base.now) (map view c.args.changes.now) c.new.result c.in_ok-changes.changes c.in_ok-row.row c.in_ok-changed.changed c.in_ok-columns.ensures c.new.ensures c.in_ok-changes.ensures
     (subst (λ z. find is_fault (values_among z) ≡ None) c.as_slice.ensures (no_error c.in_ok-error.field-0 _ c.in_ok-error.ensures c.in_default.not-Some)) c.in_ok-row.ensures
     (c.in_ok-changed.ensures.row ∙ ap (λ z. changed_row cs z c.in_ok-row.row) c.as_slice-2.ensures) s d t) c.patch_row.ensures.cut
-
-pub returns-in_err-changes-clause-passed : goal.returns-in_err-changes-clause-passed
-returns-in_err-changes-clause-passed g c = passed_nowhere _
-
-pub returns-in_err-error-clause-passed : goal.returns-in_err-error-clause-passed
-returns-in_err-error-clause-passed g c = passed_nowhere _
-
-pub returns-in-Some-clause-passed : goal.returns-in-Some-clause-passed
-returns-in-Some-clause-passed g c = passed_nowhere _
-
-pub returns-in_err-columns-clause-passed : goal.returns-in_err-columns-clause-passed
-returns-in_err-columns-clause-passed g c = passed_nowhere _
-
-pub returns-in_err-row-clause-passed : goal.returns-in_err-row-clause-passed
-returns-in_err-row-clause-passed g c = passed_nowhere _
-
-pub returns-in_err-changed-clause-passed : goal.returns-in_err-changed-clause-passed
-returns-in_err-changed-clause-passed g c = passed_nowhere _

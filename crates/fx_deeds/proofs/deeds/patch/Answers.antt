@@ -10,7 +10,6 @@ use Rattle.fx_core.specs.declared.sources.Source.TheVariants as source
 use Rattle.fx_deeds.proofs.Adding.{error_fits}
 use Rattle.fx_deeds.proofs.Holding.{base_can}
 use Rattle.fx_deeds.proofs.Targets.{can_patch, patched_fits}
-use Rattle.fx_deeds.proofs.Allowing.{only_nowhere, only_wider}
 use Rattle.fx_deeds.specs.Doable.{AnswersAs, CanDo}
 use Rattle.fx_deeds.specs.RowValues.{rows_among, columns_of_rows}
 use Rattle.fx_deeds.specs.Writable.{IsOneOf, DeedMayWrite}
@@ -21,7 +20,7 @@ use Rattle.fx_deeds.proofs.CutRows.{cut_among, cut_as}
 use Rattle.fx_deeds.proofs.Deeding.{no_error}
 use Rattle.fx_deeds.specs.Collections.{IsPatchedIn}
 use Rattle.fx_deeds.specs.Deeds.{IsPatched}
-use Rattle.fx_deeds.proofs.Passing.{passed_nowhere}
+use Rattle.fx_deeds.proofs.Attempts.{attempt_none, attempt_wider}
 use Rattle.fx_deeds.proofs.deeds.patch.Goals as goal
 
 pub returns-in-Some-clause-fits : goal.returns-in-Some-clause-fits
@@ -53,21 +52,17 @@ returns-in-Gathered-clause-fits g c = λ u h.
     let k = subst (λ p. AnswersAs (g.W.Env.fixed c.args.world.now).types (deed.Patch p) u) c.in-Gathered.is h in
     subst (λ z. IfOk c.patch_equal.result (λ x. fits_in (view x) z ≡ true)) (sym k.2) (c.patch_equal.ensures.fits k.0 k.1)
 
-pub returns-in_err-error-clause-only : goal.returns-in_err-error-clause-only
-returns-in_err-error-clause-only g c =
-    only_nowhere (DeedMayWrite (deed.Patch c.args.target)) (SilenceCause (g.W.Env.marks c.args.world.now) (g.W.Env.marks c.args.world.now)) (g.W.World.state c.args.world.now)
+pub returns-in_err-error-clause-attempt : goal.returns-in_err-error-clause-attempt
+returns-in_err-error-clause-attempt g c = attempt_none _ _
 
-pub returns-in-Some-clause-only : goal.returns-in-Some-clause-only
-returns-in-Some-clause-only g c =
-    only_nowhere (DeedMayWrite (deed.Patch c.args.target)) (SilenceCause (g.W.Env.marks c.args.world.now) (g.W.Env.marks c.args.world.now)) (g.W.World.state c.args.world.now)
+pub returns-in-Some-clause-attempt : goal.returns-in-Some-clause-attempt
+returns-in-Some-clause-attempt g c = attempt_none _ _
 
-pub returns-in-Table-clause-only : goal.returns-in-Table-clause-only
-returns-in-Table-clause-only g c =
-    only_wider (IsOneOf (source.Table c.in-Table.table ∷ [])) (DeedMayWrite (deed.Patch c.args.target)) (λ x w. subst (λ p. DeedMayWrite (deed.Patch p) x) (sym c.in-Table.is) w) _ _ c.patch_table.ensures.passed c.patch_table.ensures.only
+pub returns-in-Table-clause-attempt : goal.returns-in-Table-clause-attempt
+returns-in-Table-clause-attempt g c = attempt_wider _ _ (IsOneOf (source.Table c.in-Table.table ∷ [])) (DeedMayWrite (deed.Patch c.args.target)) (λ x w. subst (λ p. DeedMayWrite (deed.Patch p) x) (sym c.in-Table.is) w) c.patch_table.ensures.attempt
 
-pub returns-in-Gathered-clause-only : goal.returns-in-Gathered-clause-only
-returns-in-Gathered-clause-only g c =
-    only_wider (IsOneOf (source.Gathered c.in-Gathered.collection ∷ [])) (DeedMayWrite (deed.Patch c.args.target)) (λ x w. subst (λ p. DeedMayWrite (deed.Patch p) x) (sym c.in-Gathered.is) w) _ _ c.patch_equal.ensures.passed c.patch_equal.ensures.only
+pub returns-in-Gathered-clause-attempt : goal.returns-in-Gathered-clause-attempt
+returns-in-Gathered-clause-attempt g c = attempt_wider _ _ (IsOneOf (source.Gathered c.in-Gathered.collection ∷ [])) (DeedMayWrite (deed.Patch c.args.target)) (λ x w. subst (λ p. DeedMayWrite (deed.Patch p) x) (sym c.in-Gathered.is) w) c.patch_equal.ensures.attempt
 
 pub returns-in-Table-clause-cut : goal.returns-in-Table-clause-cut
 returns-in-Table-clause-cut g c =
@@ -85,9 +80,3 @@ returns-in-Gathered-clause-cut g c =
     let none = ap (λ (z : List Value). find is_fault (map view z)) (sym c.in-Some-split_first.ensures.cases.0) ∙ no_error c.in_ok-error.field-0 _ c.in_ok-error.ensures c.in_default.not-Some in
     cut_as c.patch_equal.result (SilenceCause (g.W.Env.marks c.args.world.now) (g.W.Env.marks c.patch_equal.new.world)) (g.W.World.state c.args.world.now) (g.W.World.state c.patch_equal.new.world) (eval_frame (g.W.Env.fixed c.args.world.now)) (deed.Patch c.args.target) (deed.Patch (target.Gathered k)) c.args.values.now (c.in-Some-split_first.base.now ∷ c.in-Some-split_first.changes.now) (ap deed.Patch c.in-Gathered.is) c.in-Some-split_first.ensures.cases.0
     (cut_among c.patch_equal.result (SilenceCause (g.W.Env.marks c.args.world.now) (g.W.Env.marks c.patch_equal.new.world)) (g.W.World.state c.args.world.now) (g.W.World.state c.patch_equal.new.world) (b ∷ ys) (λ s n x t. IsPatchedIn (columns_of_rows ((g.W.Env.fixed c.args.world.now).types (source.Gathered k))) k b ys s x t) none c.patch_equal.ensures.cut)
-
-pub returns-in_err-error-clause-passed : goal.returns-in_err-error-clause-passed
-returns-in_err-error-clause-passed g c = passed_nowhere _
-
-pub returns-in-Some-clause-passed : goal.returns-in-Some-clause-passed
-returns-in-Some-clause-passed g c = passed_nowhere _

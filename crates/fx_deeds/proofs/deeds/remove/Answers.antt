@@ -7,7 +7,6 @@ use Rattle.fx_types.specs.ValueView.{view}
 use Rattle.fx_core.specs.declared.deeds.Deed.TheVariants as deed
 use Rattle.fx_core.specs.declared.sources.Source.TheVariants as source
 use Rattle.fx_deeds.proofs.Adding.{error_fits}
-use Rattle.fx_deeds.proofs.Allowing.{only_nowhere, only_wider}
 use Rattle.fx_deeds.specs.Writable.{IsOneOf, DeedMayWrite}
 use Rattle.fx_deeds.specs.State.{eval_frame}
 use Rattle.fx_deeds.proofs.CutRows.{cut_among, cut_as}
@@ -15,27 +14,23 @@ use Rattle.fx_deeds.proofs.Deeding.{no_error}
 use Rattle.fx_deeds.specs.Collections.{AreTaken}
 use Rattle.fx_deeds.specs.Deeds.{AreRemoved}
 use Rattle.fx_deeds.specs.RowValues.{columns_of_rows}
-use Rattle.fx_deeds.proofs.Passing.{passed_nowhere}
+use Rattle.fx_deeds.proofs.Attempts.{attempt_none, attempt_wider}
 use Rattle.fx_deeds.proofs.deeds.remove.Goals as goal
 
 pub returns-in-Some-clause-fits : goal.returns-in-Some-clause-fits
 returns-in-Some-clause-fits g c = error_fits (map view c.args.values.now) (view c.in-Some.error) booleans (sym c.in_ok-error.ensures ∙ ap (option_map view) c.in-Some.is)
 
-pub returns-in_err-error-clause-only : goal.returns-in_err-error-clause-only
-returns-in_err-error-clause-only g c =
-    only_nowhere (DeedMayWrite (deed.Remove c.args.target)) (SilenceCause (g.W.Env.marks c.args.world.now) (g.W.Env.marks c.args.world.now)) (g.W.World.state c.args.world.now)
+pub returns-in_err-error-clause-attempt : goal.returns-in_err-error-clause-attempt
+returns-in_err-error-clause-attempt g c = attempt_none _ _
 
-pub returns-in-Some-clause-only : goal.returns-in-Some-clause-only
-returns-in-Some-clause-only g c =
-    only_nowhere (DeedMayWrite (deed.Remove c.args.target)) (SilenceCause (g.W.Env.marks c.args.world.now) (g.W.Env.marks c.args.world.now)) (g.W.World.state c.args.world.now)
+pub returns-in-Some-clause-attempt : goal.returns-in-Some-clause-attempt
+returns-in-Some-clause-attempt g c = attempt_none _ _
 
-pub returns-in-Table-clause-only : goal.returns-in-Table-clause-only
-returns-in-Table-clause-only g c =
-    only_wider (IsOneOf (source.Table c.in-Table.table ∷ [])) (DeedMayWrite (deed.Remove c.args.target)) (λ x w. subst (λ p. DeedMayWrite (deed.Remove p) x) (sym c.in-Table.is) w) _ _ c.remove_rows.ensures.passed c.remove_rows.ensures.only
+pub returns-in-Table-clause-attempt : goal.returns-in-Table-clause-attempt
+returns-in-Table-clause-attempt g c = attempt_wider _ _ (IsOneOf (source.Table c.in-Table.table ∷ [])) (DeedMayWrite (deed.Remove c.args.target)) (λ x w. subst (λ p. DeedMayWrite (deed.Remove p) x) (sym c.in-Table.is) w) c.remove_rows.ensures.attempt
 
-pub returns-in-Gathered-clause-only : goal.returns-in-Gathered-clause-only
-returns-in-Gathered-clause-only g c =
-    only_wider (IsOneOf (source.Gathered c.in-Gathered.collection ∷ [])) (DeedMayWrite (deed.Remove c.args.target)) (λ x w. subst (λ p. DeedMayWrite (deed.Remove p) x) (sym c.in-Gathered.is) w) _ _ c.remove_equal.ensures.passed c.remove_equal.ensures.only
+pub returns-in-Gathered-clause-attempt : goal.returns-in-Gathered-clause-attempt
+returns-in-Gathered-clause-attempt g c = attempt_wider _ _ (IsOneOf (source.Gathered c.in-Gathered.collection ∷ [])) (DeedMayWrite (deed.Remove c.args.target)) (λ x w. subst (λ p. DeedMayWrite (deed.Remove p) x) (sym c.in-Gathered.is) w) c.remove_equal.ensures.attempt
 
 pub returns-in-Table-clause-cut : goal.returns-in-Table-clause-cut
 returns-in-Table-clause-cut g c =
@@ -49,9 +44,3 @@ returns-in-Gathered-clause-cut g c =
     let k = c.in-Gathered.collection in
     cut_as c.remove_equal.result (SilenceCause (g.W.Env.marks c.args.world.now) (g.W.Env.marks c.remove_equal.new.world)) (g.W.World.state c.args.world.now) (g.W.World.state c.remove_equal.new.world) (eval_frame (g.W.Env.fixed c.args.world.now)) (deed.Remove c.args.target) (deed.Remove (target.Gathered k)) c.args.values.now c.args.values.now (ap deed.Remove c.in-Gathered.is) refl
     (cut_among c.remove_equal.result (SilenceCause (g.W.Env.marks c.args.world.now) (g.W.Env.marks c.remove_equal.new.world)) (g.W.World.state c.args.world.now) (g.W.World.state c.remove_equal.new.world) ys (λ s n x t. AreTaken (columns_of_rows ((g.W.Env.fixed c.args.world.now).types (source.Gathered k))) k (take n ys) s x t) (no_error c.in_ok-error.field-0 _ c.in_ok-error.ensures c.in_default.not-Some) c.remove_equal.ensures.cut)
-
-pub returns-in_err-error-clause-passed : goal.returns-in_err-error-clause-passed
-returns-in_err-error-clause-passed g c = passed_nowhere _
-
-pub returns-in-Some-clause-passed : goal.returns-in-Some-clause-passed
-returns-in-Some-clause-passed g c = passed_nowhere _

@@ -9,7 +9,6 @@ use Rattle.fx_deeds.proofs.Adding.{error_fits}
 use Rattle.fx_deeds.proofs.Deeding.{no_error}
 use Rattle.fx_deeds.proofs.Holding.{all_can}
 use Rattle.fx_deeds.proofs.Targets.{can_update}
-use Rattle.fx_deeds.proofs.Allowing.{only_nowhere, only_wider}
 use Rattle.fx_deeds.specs.Doable.{CanUpdate}
 use Rattle.fx_deeds.specs.Done.{errors_in}
 use Rattle.fx_deeds.specs.Writable.{IsOneOf, DeedMayWrite}
@@ -17,7 +16,7 @@ use Rattle.fx_deeds.proofs.CutOff.{cut_nowhere, on_any}
 use Rattle.fx_deeds.proofs.CutUpdates.{cut_update, cut_update_in}
 use Rattle.fx_deeds.specs.CutOff.{IsUpdateBegun}
 use Rattle.fx_deeds.specs.State.{eval_frame}
-use Rattle.fx_deeds.proofs.Passing.{passed_nowhere}
+use Rattle.fx_deeds.proofs.Attempts.{attempt_none, attempt_wider}
 use Rattle.fx_deeds.proofs.deeds.update.Goals as goal
 
 pub returns-in-Some-clause-fits : goal.returns-in-Some-clause-fits
@@ -34,21 +33,17 @@ update_equal-requires g c =
     let can = subst (λ p. CanUpdate (g.W.Env.fixed c.args.world.now).types p c.args.rows.now (map view c.args.changes.now)) c.in-Gathered.is c.requires in
     (can.0, can.1, all_can can.0 c.args.rows.now (map view c.args.changes.now) can.2 can.3 can.4)
 
-pub returns-in_err-error-clause-only : goal.returns-in_err-error-clause-only
-returns-in_err-error-clause-only g c =
-    only_nowhere (DeedMayWrite (deed.UpdateIf c.args.target)) (SilenceCause (g.W.Env.marks c.args.world.now) (g.W.Env.marks c.args.world.now)) (g.W.World.state c.args.world.now)
+pub returns-in_err-error-clause-attempt : goal.returns-in_err-error-clause-attempt
+returns-in_err-error-clause-attempt g c = attempt_none _ _
 
-pub returns-in-Some-clause-only : goal.returns-in-Some-clause-only
-returns-in-Some-clause-only g c =
-    only_nowhere (DeedMayWrite (deed.UpdateIf c.args.target)) (SilenceCause (g.W.Env.marks c.args.world.now) (g.W.Env.marks c.args.world.now)) (g.W.World.state c.args.world.now)
+pub returns-in-Some-clause-attempt : goal.returns-in-Some-clause-attempt
+returns-in-Some-clause-attempt g c = attempt_none _ _
 
-pub returns-in-Table-clause-only : goal.returns-in-Table-clause-only
-returns-in-Table-clause-only g c =
-    only_wider (IsOneOf (source.Table c.in-Table.table ∷ [])) (DeedMayWrite (deed.UpdateIf c.args.target)) (λ x w. subst (λ p. DeedMayWrite (deed.UpdateIf p) x) (sym c.in-Table.is) w) _ _ c.update_table.ensures.passed c.update_table.ensures.only
+pub returns-in-Table-clause-attempt : goal.returns-in-Table-clause-attempt
+returns-in-Table-clause-attempt g c = attempt_wider _ _ (IsOneOf (source.Table c.in-Table.table ∷ [])) (DeedMayWrite (deed.UpdateIf c.args.target)) (λ x w. subst (λ p. DeedMayWrite (deed.UpdateIf p) x) (sym c.in-Table.is) w) c.update_table.ensures.attempt
 
-pub returns-in-Gathered-clause-only : goal.returns-in-Gathered-clause-only
-returns-in-Gathered-clause-only g c =
-    only_wider (IsOneOf (source.Gathered c.in-Gathered.collection ∷ [])) (DeedMayWrite (deed.UpdateIf c.args.target)) (λ x w. subst (λ p. DeedMayWrite (deed.UpdateIf p) x) (sym c.in-Gathered.is) w) _ _ c.update_equal.ensures.passed c.update_equal.ensures.only
+pub returns-in-Gathered-clause-attempt : goal.returns-in-Gathered-clause-attempt
+returns-in-Gathered-clause-attempt g c = attempt_wider _ _ (IsOneOf (source.Gathered c.in-Gathered.collection ∷ [])) (DeedMayWrite (deed.UpdateIf c.args.target)) (λ x w. subst (λ p. DeedMayWrite (deed.UpdateIf p) x) (sym c.in-Gathered.is) w) c.update_equal.ensures.attempt
 
 pub returns-in_err-error-clause-cut : goal.returns-in_err-error-clause-cut
 returns-in_err-error-clause-cut g c =
@@ -63,9 +58,3 @@ pub returns-in-Gathered-clause-cut : goal.returns-in-Gathered-clause-cut
 returns-in-Gathered-clause-cut g c =
     cut_update_in c.update_equal.result (SilenceCause (g.W.Env.marks c.args.world.now) (g.W.Env.marks c.update_equal.new.world)) (g.W.World.state c.args.world.now) (g.W.World.state c.update_equal.new.world) (eval_frame (g.W.Env.fixed c.args.world.now)) c.args.target c.in-Gathered.collection c.args.rows.now (map view c.args.changes.now) c.in-Gathered.is
     (no_error c.in_ok-error.field-0 _ c.in_ok-error.ensures c.in_default.not-Some) c.update_equal.ensures.cut
-
-pub returns-in_err-error-clause-passed : goal.returns-in_err-error-clause-passed
-returns-in_err-error-clause-passed g c = passed_nowhere _
-
-pub returns-in-Some-clause-passed : goal.returns-in-Some-clause-passed
-returns-in-Some-clause-passed g c = passed_nowhere _

@@ -5,15 +5,13 @@ use Rattle.fx_core.specs.declared.sources.Source.TheVariants as source
 use Rattle.fx_deeds.proofs.CutOff.{Carries, CutRemoved}
 use Rattle.fx_deeds.specs.Deeds.{AreRemoved}
 use Rattle.fx_deeds.specs.RemainingRows.{RestDecides}
-use Rattle.fx_deeds.specs.WorldSteps.{Passed, stage}
-use Rattle.fx_deeds.specs.Writable.{IsOneOf, WritesOnly}
+use Rattle.fx_deeds.specs.StagesOver.{Attempt}
+use Rattle.fx_deeds.specs.Writable.{IsOneOf}
 use Rattle.fx_deeds.proofs.removing.remove_rows.Given as goal
 
 abbrev pub invariant-loop-row : goal.invariant-loop-row
 invariant-loop-row g l = record {
-  passed : Passed (stage (g.W.Env.fixed l.fn.world) (g.W.World.state l.fn.world) (g.W.Env.marks l.fn.world) (g.W.Env.visited l.fn.world))
-      (stage (g.W.Env.fixed l.world) (g.W.World.state l.world) (g.W.Env.marks l.world) (g.W.Env.visited l.world));
-  only : MayFallSilent (SilenceCause (g.W.Env.marks l.fn.world) (g.W.Env.marks l.world)) (WritesOnly (IsOneOf (source.Table l.table ∷ []))) (g.W.World.state l.fn.world) (g.W.World.state l.world);
+  attempt : Attempt g.W.Env g.W.World l.fn.world l.world (IsOneOf (source.Table l.table ∷ []));
   done : MayFallSilent (SilenceCause (g.W.Env.marks l.fn.world) (g.W.Env.marks l.world)) (RestDecides (AreRemoved l.table (map view l.rest)) (AreRemoved l.table (map view l.rows))) (g.W.World.state l.fn.world) (g.W.World.state l.world);
   cut : MayFallSilent (SilenceCause (g.W.Env.marks l.fn.world) (g.W.Env.marks l.world)) (Carries (CutRemoved l.table (map view l.rest)) (CutRemoved l.table (map view l.rows))) (g.W.World.state l.fn.world) (g.W.World.state l.world);
 }

@@ -1,15 +1,11 @@
-use Rattle.std.proofs.Common.{◌≡◌, ◌∙◌, ◌∷◌, [], true, ap, sym, subst, refl}
+use Rattle.std.proofs.Common.{◌≡◌, ◌∙◌, true, ap, sym, subst, refl}
 use Rattle.std.specs.Prelude.{map, option_map}
-use Rattle.fx_base.specs.Silence.{SilenceCause}
 use Rattle.fx_types.specs.Types.{booleans, tables}
 use Rattle.fx_types.specs.ValueView.{view}
 use Rattle.fx_semantics.specs.Rows.{table_of}
 use Rattle.fx_value.specs.Fits.{fits_in}
-use Rattle.fx_core.specs.declared.sources.Source.TheVariants as source
 use Rattle.fx_deeds.proofs.Adding.{error_fits, gathers}
-use Rattle.fx_deeds.proofs.Allowing.{only_nowhere}
-use Rattle.fx_deeds.specs.Writable.{IsOneOf}
-use Rattle.fx_deeds.proofs.Passing.{passed_nowhere}
+use Rattle.fx_deeds.proofs.Attempts.{attempt_none}
 use Rattle.fx_deeds.proofs.session.clear_collect.Goals as goal
 
 pub returns-in-Some-clause-fits : goal.returns-in-Some-clause-fits
@@ -23,23 +19,11 @@ make-requires g c =
 pub returns-clause-fits : goal.returns-clause-fits
 returns-clause-fits g c = c.make.ensures.fits booleans refl
 
-pub returns-in_err-error-clause-only : goal.returns-in_err-error-clause-only
-returns-in_err-error-clause-only g c =
-    only_nowhere (IsOneOf (source.Gathered c.args.collection ∷ [])) (SilenceCause (g.W.Env.marks c.args.world.now) (g.W.Env.marks c.args.world.now)) (g.W.World.state c.args.world.now)
+pub returns-in_err-error-clause-attempt : goal.returns-in_err-error-clause-attempt
+returns-in_err-error-clause-attempt g c = attempt_none _ _
 
-pub returns-in-Some-clause-only : goal.returns-in-Some-clause-only
-returns-in-Some-clause-only g c =
-    only_nowhere (IsOneOf (source.Gathered c.args.collection ∷ [])) (SilenceCause (g.W.Env.marks c.args.world.now) (g.W.Env.marks c.args.world.now)) (g.W.World.state c.args.world.now)
+pub returns-in-Some-clause-attempt : goal.returns-in-Some-clause-attempt
+returns-in-Some-clause-attempt g c = attempt_none _ _
 
-pub returns-in_err-rows-clause-only : goal.returns-in_err-rows-clause-only
-returns-in_err-rows-clause-only g c =
-    only_nowhere (IsOneOf (source.Gathered c.args.collection ∷ [])) (SilenceCause (g.W.Env.marks c.args.world.now) (g.W.Env.marks c.args.world.now)) (g.W.World.state c.args.world.now)
-
-pub returns-in_err-error-clause-passed : goal.returns-in_err-error-clause-passed
-returns-in_err-error-clause-passed g c = passed_nowhere _
-
-pub returns-in-Some-clause-passed : goal.returns-in-Some-clause-passed
-returns-in-Some-clause-passed g c = passed_nowhere _
-
-pub returns-in_err-rows-clause-passed : goal.returns-in_err-rows-clause-passed
-returns-in_err-rows-clause-passed g c = passed_nowhere _
+pub returns-in_err-rows-clause-attempt : goal.returns-in_err-rows-clause-attempt
+returns-in_err-rows-clause-attempt g c = attempt_none _ _

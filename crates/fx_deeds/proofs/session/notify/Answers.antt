@@ -1,20 +1,8 @@
-use Rattle.std.proofs.Common.{[]}
-use Rattle.fx_deeds.specs.Writable.{IsOneOf}
-use Rattle.fx_base.specs.Silence.{SilenceCause}
-use Rattle.fx_deeds.proofs.Allowing.{only_nowhere}
-use Rattle.fx_deeds.proofs.Passing.{passed_nowhere}
+use Rattle.fx_deeds.proofs.Attempts.{attempt_none}
 use Rattle.fx_deeds.proofs.session.notify.Goals as goal
 
-pub returns-in_err-words-clause-only : goal.returns-in_err-words-clause-only
-returns-in_err-words-clause-only g c =
-    only_nowhere (IsOneOf []) (SilenceCause (g.W.Env.marks c.args.world.now) (g.W.Env.marks c.args.world.now)) (g.W.World.state c.args.world.now)
+pub returns-in_err-words-clause-attempt : goal.returns-in_err-words-clause-attempt
+returns-in_err-words-clause-attempt g c = attempt_none _ _
 
-pub returns-in-Err-clause-only : goal.returns-in-Err-clause-only
-returns-in-Err-clause-only g c =
-    only_nowhere (IsOneOf []) (SilenceCause (g.W.Env.marks c.args.world.now) (g.W.Env.marks c.args.world.now)) (g.W.World.state c.args.world.now)
-
-pub returns-in_err-words-clause-passed : goal.returns-in_err-words-clause-passed
-returns-in_err-words-clause-passed g c = passed_nowhere _
-
-pub returns-in-Err-clause-passed : goal.returns-in-Err-clause-passed
-returns-in-Err-clause-passed g c = passed_nowhere _
+pub returns-in-Err-clause-attempt : goal.returns-in-Err-clause-attempt
+returns-in-Err-clause-attempt g c = attempt_none _ _

@@ -1,11 +1,10 @@
 use Rattle.std.proofs.Common.{◌≡◌, ◌++◌, ap, ◌∙◌}
-use Rattle.fx_base.specs.Silence.{SilenceCause}
 use Rattle.fx_types.specs.ValueView.{view}
 use Rattle.fx_semantics.specs.Rows.{rows_in}
 use Rattle.fx_core.specs.declared.sources.Source.TheVariants as source
-use Rattle.fx_deeds.proofs.Passing.{passed_staying}
 use Rattle.fx_deeds.proofs.Told.{held_there, rows_read_fit, state_holds, state_stays}
 use Rattle.fx_deeds.specs.Collections.{rows_held}
+use Rattle.fx_deeds.proofs.Attempts.{look}
 use Rattle.fx_deeds.proofs.session.rows_held.Goals as goal
 
 pub returns-clause-held : goal.returns-clause-held
@@ -24,32 +23,23 @@ pub returns-clause-fits : goal.returns-clause-fits
 returns-clause-fits g c = λ cs h.
     rows_read_fit (g.W.Env.fixed c.args.world.now).types (source.Gathered c.args.collection) (view c.in_ok-value.value) cs _ _ c.in_ok-value.ensures.value.0 c.new.ensures c.in_ok-with_table.ensures h
 
-pub returns-in_err-value-clause-stays : goal.returns-in_err-value-clause-stays
-returns-in_err-value-clause-stays g c =
-    state_stays (SilenceCause (g.W.Env.marks c.args.world.now) (g.W.Env.marks c.read.new.self)) (g.W.Env.told c.args.world.now) (g.W.Env.told c.read.new.self) (g.W.World.state c.args.world.now) (g.W.World.state c.read.new.self) (g.met.W.World.keeps c.args.world.now c.read.new.self) (g.met.W.World.lost c.args.world.now) (g.met.W.World.lost c.read.new.self) c.read.ensures.told
-
-pub returns-in_err-with_table-clause-stays : goal.returns-in_err-with_table-clause-stays
-returns-in_err-with_table-clause-stays g c =
-    state_stays (SilenceCause (g.W.Env.marks c.args.world.now) (g.W.Env.marks c.read.new.self)) (g.W.Env.told c.args.world.now) (g.W.Env.told c.read.new.self) (g.W.World.state c.args.world.now) (g.W.World.state c.read.new.self) (g.met.W.World.keeps c.args.world.now c.read.new.self) (g.met.W.World.lost c.args.world.now) (g.met.W.World.lost c.read.new.self) c.read.ensures.told
-
-pub returns-clause-stays : goal.returns-clause-stays
-returns-clause-stays g c =
-    state_stays (SilenceCause (g.W.Env.marks c.args.world.now) (g.W.Env.marks c.read.new.self)) (g.W.Env.told c.args.world.now) (g.W.Env.told c.read.new.self) (g.W.World.state c.args.world.now) (g.W.World.state c.read.new.self) (g.met.W.World.keeps c.args.world.now c.read.new.self) (g.met.W.World.lost c.args.world.now) (g.met.W.World.lost c.read.new.self) c.read.ensures.told
-
-pub returns-in_err-value-clause-passed : goal.returns-in_err-value-clause-passed
-returns-in_err-value-clause-passed g c =
-    passed_staying _ _ c.read.ensures.fixed
-    (state_stays _ (g.W.Env.told c.args.world.now) (g.W.Env.told c.read.new.self) _ _ (g.met.W.World.keeps c.args.world.now c.read.new.self) (g.met.W.World.lost c.args.world.now) (g.met.W.World.lost c.read.new.self) c.read.ensures.told)
+pub returns-in_err-value-clause-look : goal.returns-in_err-value-clause-look
+returns-in_err-value-clause-look g c =
+    let old = c.args.world.now in
+    let new = c.read.new.self in
+    look _ _ c.read.ensures.fixed (state_stays _ (g.W.Env.told old) (g.W.Env.told new) _ _ (g.met.W.World.keeps old new) (g.met.W.World.lost old) (g.met.W.World.lost new) c.read.ensures.told)
     c.read.ensures.marks c.read.ensures.visited
 
-pub returns-in_err-with_table-clause-passed : goal.returns-in_err-with_table-clause-passed
-returns-in_err-with_table-clause-passed g c =
-    passed_staying _ _ c.read.ensures.fixed
-    (state_stays _ (g.W.Env.told c.args.world.now) (g.W.Env.told c.read.new.self) _ _ (g.met.W.World.keeps c.args.world.now c.read.new.self) (g.met.W.World.lost c.args.world.now) (g.met.W.World.lost c.read.new.self) c.read.ensures.told)
+pub returns-in_err-with_table-clause-look : goal.returns-in_err-with_table-clause-look
+returns-in_err-with_table-clause-look g c =
+    let old = c.args.world.now in
+    let new = c.read.new.self in
+    look _ _ c.read.ensures.fixed (state_stays _ (g.W.Env.told old) (g.W.Env.told new) _ _ (g.met.W.World.keeps old new) (g.met.W.World.lost old) (g.met.W.World.lost new) c.read.ensures.told)
     c.read.ensures.marks c.read.ensures.visited
 
-pub returns-clause-passed : goal.returns-clause-passed
-returns-clause-passed g c =
-    passed_staying _ _ c.read.ensures.fixed
-    (state_stays _ (g.W.Env.told c.args.world.now) (g.W.Env.told c.read.new.self) _ _ (g.met.W.World.keeps c.args.world.now c.read.new.self) (g.met.W.World.lost c.args.world.now) (g.met.W.World.lost c.read.new.self) c.read.ensures.told)
+pub returns-clause-look : goal.returns-clause-look
+returns-clause-look g c =
+    let old = c.args.world.now in
+    let new = c.read.new.self in
+    look _ _ c.read.ensures.fixed (state_stays _ (g.W.Env.told old) (g.W.Env.told new) _ _ (g.met.W.World.keeps old new) (g.met.W.World.lost old) (g.met.W.World.lost new) c.read.ensures.told)
     c.read.ensures.marks c.read.ensures.visited

@@ -1,16 +1,15 @@
 use Rattle.std.proofs.Common.{◌≡◌, ◌∙◌, ap}
 use Rattle.std.specs.Prelude.{option_map}
-use Rattle.fx_base.specs.Silence.{SilenceCause}
 use Rattle.fx_types.specs.ValueView.{view}
 use Rattle.fx_env.specs.Telling.{tables_told}
 use Rattle.fx_semantics.specs.Rows.{rows_in}
 use Rattle.row_queries.specs.declared.rows.Row.{Row}
 use Rattle.fx_deeds.proofs.Finding.{is_query}
-use Rattle.fx_deeds.proofs.Passing.{passed_staying}
 use Rattle.fx_deeds.proofs.Tabling.{cells_found, found_there}
 use Rattle.fx_deeds.proofs.Told.{state_holds, state_stays}
 use Rattle.fx_deeds.specs.Deeds.{row_numbered}
 use Rattle.fx_deeds.specs.Finding.{first_cells}
+use Rattle.fx_deeds.proofs.Attempts.{look}
 use Rattle.fx_deeds.proofs.table_rows.find_cells.Goals as goal
 
 pub scan_row-requires : goal.scan_row-requires
@@ -40,32 +39,23 @@ returns-clause-fit g c =
     c.in_ok-found.ensures.value
     (c.in_ok-first_cells.ensures ∙ ap (λ z. first_cells z (rows_in d)) c.as_slice.ensures) in found.fit
 
-pub returns-in_err-found-clause-passed : goal.returns-in_err-found-clause-passed
-returns-in_err-found-clause-passed g c =
-    passed_staying _ _ c.scan_row.ensures.fixed
-    (state_stays _ (g.W.Env.told c.args.world.now) (g.W.Env.told c.scan_row.new.world) _ _ (g.met.W.World.keeps c.args.world.now c.scan_row.new.world) (g.met.W.World.lost c.args.world.now) (g.met.W.World.lost c.scan_row.new.world) c.scan_row.ensures.told)
+pub returns-in_err-found-clause-look : goal.returns-in_err-found-clause-look
+returns-in_err-found-clause-look g c =
+    let old = c.args.world.now in
+    let new = c.scan_row.new.world in
+    look _ _ c.scan_row.ensures.fixed (state_stays _ (g.W.Env.told old) (g.W.Env.told new) _ _ (g.met.W.World.keeps old new) (g.met.W.World.lost old) (g.met.W.World.lost new) c.scan_row.ensures.told)
     c.scan_row.ensures.marks c.scan_row.ensures.visited
 
-pub returns-in_err-first_cells-clause-passed : goal.returns-in_err-first_cells-clause-passed
-returns-in_err-first_cells-clause-passed g c =
-    passed_staying _ _ c.scan_row.ensures.fixed
-    (state_stays _ (g.W.Env.told c.args.world.now) (g.W.Env.told c.scan_row.new.world) _ _ (g.met.W.World.keeps c.args.world.now c.scan_row.new.world) (g.met.W.World.lost c.args.world.now) (g.met.W.World.lost c.scan_row.new.world) c.scan_row.ensures.told)
+pub returns-in_err-first_cells-clause-look : goal.returns-in_err-first_cells-clause-look
+returns-in_err-first_cells-clause-look g c =
+    let old = c.args.world.now in
+    let new = c.scan_row.new.world in
+    look _ _ c.scan_row.ensures.fixed (state_stays _ (g.W.Env.told old) (g.W.Env.told new) _ _ (g.met.W.World.keeps old new) (g.met.W.World.lost old) (g.met.W.World.lost new) c.scan_row.ensures.told)
     c.scan_row.ensures.marks c.scan_row.ensures.visited
 
-pub returns-clause-passed : goal.returns-clause-passed
-returns-clause-passed g c =
-    passed_staying _ _ c.scan_row.ensures.fixed
-    (state_stays _ (g.W.Env.told c.args.world.now) (g.W.Env.told c.scan_row.new.world) _ _ (g.met.W.World.keeps c.args.world.now c.scan_row.new.world) (g.met.W.World.lost c.args.world.now) (g.met.W.World.lost c.scan_row.new.world) c.scan_row.ensures.told)
+pub returns-clause-look : goal.returns-clause-look
+returns-clause-look g c =
+    let old = c.args.world.now in
+    let new = c.scan_row.new.world in
+    look _ _ c.scan_row.ensures.fixed (state_stays _ (g.W.Env.told old) (g.W.Env.told new) _ _ (g.met.W.World.keeps old new) (g.met.W.World.lost old) (g.met.W.World.lost new) c.scan_row.ensures.told)
     c.scan_row.ensures.marks c.scan_row.ensures.visited
-
-pub returns-in_err-found-clause-stays : goal.returns-in_err-found-clause-stays
-returns-in_err-found-clause-stays g c =
-    state_stays (SilenceCause (g.W.Env.marks c.args.world.now) (g.W.Env.marks c.scan_row.new.world)) (g.W.Env.told c.args.world.now) (g.W.Env.told c.scan_row.new.world) (g.W.World.state c.args.world.now) (g.W.World.state c.scan_row.new.world) (g.met.W.World.keeps c.args.world.now c.scan_row.new.world) (g.met.W.World.lost c.args.world.now) (g.met.W.World.lost c.scan_row.new.world) c.scan_row.ensures.told
-
-pub returns-in_err-first_cells-clause-stays : goal.returns-in_err-first_cells-clause-stays
-returns-in_err-first_cells-clause-stays g c =
-    state_stays (SilenceCause (g.W.Env.marks c.args.world.now) (g.W.Env.marks c.scan_row.new.world)) (g.W.Env.told c.args.world.now) (g.W.Env.told c.scan_row.new.world) (g.W.World.state c.args.world.now) (g.W.World.state c.scan_row.new.world) (g.met.W.World.keeps c.args.world.now c.scan_row.new.world) (g.met.W.World.lost c.args.world.now) (g.met.W.World.lost c.scan_row.new.world) c.scan_row.ensures.told
-
-pub returns-clause-stays : goal.returns-clause-stays
-returns-clause-stays g c =
-    state_stays (SilenceCause (g.W.Env.marks c.args.world.now) (g.W.Env.marks c.scan_row.new.world)) (g.W.Env.told c.args.world.now) (g.W.Env.told c.scan_row.new.world) (g.W.World.state c.args.world.now) (g.W.World.state c.scan_row.new.world) (g.met.W.World.keeps c.args.world.now c.scan_row.new.world) (g.met.W.World.lost c.args.world.now) (g.met.W.World.lost c.scan_row.new.world) c.scan_row.ensures.told

@@ -1,4 +1,4 @@
-use Rattle.std.proofs.Common.{◌≡◌, ◌++◌, ◌∙◌, ◌∷◌, [], map, Some, ap, subst, sym, true}
+use Rattle.std.proofs.Common.{◌≡◌, ◌++◌, ◌∙◌, ◌∷◌, map, Some, ap, subst, sym, true}
 use Rattle.std.specs.Prelude.{IfOk, option_map}
 use Rattle.std.specs.List.{find}
 use Rattle.fx_base.specs.Silence.{SilenceCause}
@@ -7,17 +7,14 @@ use Rattle.fx_types.specs.ValueView.{view}
 use Rattle.fx_tables.specs.Unions.{is_fault}
 use Rattle.fx_core.specs.SourceTypes.{columns_of}
 use Rattle.fx_value.specs.Fits.{fits_in}
-use Rattle.fx_core.specs.declared.sources.Source.TheVariants as source
 use Rattle.fx_deeds.proofs.Adding.{error_fits}
 use Rattle.fx_deeds.proofs.Deeding.{by_error, goes_nowhere, is_error, no_error}
 use Rattle.fx_deeds.proofs.Tabling.{of_shape, patched_table, rest_none, to_table}
-use Rattle.fx_deeds.proofs.Allowing.{only_nowhere}
 use Rattle.fx_deeds.specs.Deeds.{IsPatched, OfTable, PatchesBase, row_id_value}
 use Rattle.fx_deeds.specs.Finding.{CanPatchRows}
 use Rattle.fx_deeds.specs.RowValues.{rows_among, values_among}
-use Rattle.fx_deeds.specs.Writable.{IsOneOf}
 use Rattle.fx_deeds.proofs.CutRows.{cut_patched}
-use Rattle.fx_deeds.proofs.Passing.{passed_nowhere}
+use Rattle.fx_deeds.proofs.Attempts.{attempt_none}
 use Rattle.fx_deeds.proofs.table_rows.patch_table.Goals as goal
 
 pub returns-in-Some-clause-done : goal.returns-in-Some-clause-done
@@ -63,21 +60,17 @@ returns-clause-done g c =
 pub returns-clause-fits : goal.returns-clause-fits
 returns-clause-fits g c = to_table (g.W.Env.fixed c.args.world.now).schema c.args.table c.in_ok-shape.shape (λ q. IfOk c.patch_base.result (λ x. fits_in (view x) (records (columns_of q)) ≡ true)) c.in_ok-shape.ensures c.patch_base.ensures.fits
 
-pub returns-in_err-shape-clause-only : goal.returns-in_err-shape-clause-only
-returns-in_err-shape-clause-only g c =
-    only_nowhere (IsOneOf (source.Table c.args.table ∷ [])) (SilenceCause (g.W.Env.marks c.args.world.now) (g.W.Env.marks c.args.world.now)) (g.W.World.state c.args.world.now)
+pub returns-in_err-shape-clause-attempt : goal.returns-in_err-shape-clause-attempt
+returns-in_err-shape-clause-attempt g c = attempt_none _ _
 
-pub returns-in_err-changes-clause-only : goal.returns-in_err-changes-clause-only
-returns-in_err-changes-clause-only g c =
-    only_nowhere (IsOneOf (source.Table c.args.table ∷ [])) (SilenceCause (g.W.Env.marks c.args.world.now) (g.W.Env.marks c.args.world.now)) (g.W.World.state c.args.world.now)
+pub returns-in_err-changes-clause-attempt : goal.returns-in_err-changes-clause-attempt
+returns-in_err-changes-clause-attempt g c = attempt_none _ _
 
-pub returns-in_err-error-clause-only : goal.returns-in_err-error-clause-only
-returns-in_err-error-clause-only g c =
-    only_nowhere (IsOneOf (source.Table c.args.table ∷ [])) (SilenceCause (g.W.Env.marks c.args.world.now) (g.W.Env.marks c.args.world.now)) (g.W.World.state c.args.world.now)
+pub returns-in_err-error-clause-attempt : goal.returns-in_err-error-clause-attempt
+returns-in_err-error-clause-attempt g c = attempt_none _ _
 
-pub returns-in-Some-clause-only : goal.returns-in-Some-clause-only
-returns-in-Some-clause-only g c =
-    only_nowhere (IsOneOf (source.Table c.args.table ∷ [])) (SilenceCause (g.W.Env.marks c.args.world.now) (g.W.Env.marks c.args.world.now)) (g.W.World.state c.args.world.now)
+pub returns-in-Some-clause-attempt : goal.returns-in-Some-clause-attempt
+returns-in-Some-clause-attempt g c = attempt_none _ _
 
 pub returns-clause-cut : goal.returns-clause-cut
 returns-clause-cut g c =
@@ -87,15 +80,3 @@ returns-clause-cut g c =
     let first = c.as_slice.ensures ∙ c.in_ok-changes.ensures ∙ ap (λ z. z ++ rows_among ys) c.new.ensures in
     let none = ap (λ z. find is_fault (row_id_value b ∷ values_among z)) (sym first) ∙ no_error c.in_ok-error.field-0 _ c.in_ok-error.ensures c.in_default.not-Some in
     cut_patched c.patch_base.result (SilenceCause (g.W.Env.marks c.args.world.now) (g.W.Env.marks c.patch_base.new.world)) (g.W.World.state c.args.world.now) (g.W.World.state c.patch_base.new.world) (g.W.Env.fixed c.args.world.now).schema c.args.table c.in_ok-shape.shape b ys c.as_slice-2.result.now c.in_ok-shape.ensures rows none c.patch_base.ensures.cut
-
-pub returns-in_err-shape-clause-passed : goal.returns-in_err-shape-clause-passed
-returns-in_err-shape-clause-passed g c = passed_nowhere _
-
-pub returns-in_err-changes-clause-passed : goal.returns-in_err-changes-clause-passed
-returns-in_err-changes-clause-passed g c = passed_nowhere _
-
-pub returns-in_err-error-clause-passed : goal.returns-in_err-error-clause-passed
-returns-in_err-error-clause-passed g c = passed_nowhere _
-
-pub returns-in-Some-clause-passed : goal.returns-in-Some-clause-passed
-returns-in-Some-clause-passed g c = passed_nowhere _

@@ -1,18 +1,15 @@
-use Rattle.std.proofs.Common.{◌≡◌, ◌∙◌, ◌∷◌, [], refl, subst, sym}
+use Rattle.std.proofs.Common.{◌≡◌, ◌∙◌, refl, subst, sym}
 use Rattle.fx_base.specs.Silence.{SilenceCause}
 use Rattle.fx_env.specs.Scopes.{Fixed}
-use Rattle.fx_core.specs.declared.sources.Source.TheVariants as source
 use Rattle.row_keeper.specs.declared.rows.Put.TheVariants.{NoRow}
 use Rattle.row_queries.specs.TableRows.{AreCellsOf}
 use Rattle.fx_deeds.proofs.Cells.{changed_cells_fit}
 use Rattle.fx_deeds.proofs.Tabling.{cells_there, changed_fits, changes_row, columns_there, found_fits_at, misses_row, none_of}
-use Rattle.fx_deeds.proofs.Allowing.{only_behind, only_staying}
 use Rattle.fx_deeds.specs.Finding.{IsShape}
 use Rattle.fx_deeds.specs.RowValues.{changed_cells}
-use Rattle.fx_deeds.specs.Writable.{IsOneOf}
 use Rattle.fx_deeds.proofs.CutOff.{on_any}
 use Rattle.fx_deeds.proofs.CutUpdates.{stays_on}
-use Rattle.fx_deeds.proofs.Passing.{passed_on}
+use Rattle.fx_deeds.proofs.Attempts.{look_attempts, look_then}
 use Rattle.fx_deeds.proofs.table_rows.put_changed.Goals as goal
 
 pub returns-in_default-clause-done : goal.returns-in_default-clause-done
@@ -23,14 +20,14 @@ replace-requires g c =
     let p = c.args.shape.now in
     let old = found_fits_at p c.args.id c.in_ok-found.field-0 c.in-Some.found c.in-Some.is c.in_ok-found.ensures.fit in
     let cells : c.in_ok-cells.cells ≡ changed_cells p.columns c.args.changes.now c.in-Some.found = c.in_ok-cells.ensures ∙ (λ i. changed_cells (c.as_slice.ensures i) c.args.changes.now (c.as_slice-2.ensures i)) in
-    cells_there (g.W.Env.fixed c.find_cells.new.world).schema c.args.table p c.in_ok-cells.cells (subst (λ (f : Fixed). IsShape f.schema c.args.table p) (sym c.find_cells.ensures.passed.fixed) c.requires.shape)
+    cells_there (g.W.Env.fixed c.find_cells.new.world).schema c.args.table p c.in_ok-cells.cells (subst (λ (f : Fixed). IsShape f.schema c.args.table p) (sym c.find_cells.ensures.look.passed.fixed) c.requires.shape)
     (subst (AreCellsOf p.columns) (sym cells) (changed_cells_fit p c.requires.shape.1 c.requires.can.0.0 c.args.changes.now c.requires.can.0.1 c.requires.can.1 c.in-Some.found old.1))
 
 pub returns-clause-done : goal.returns-clause-done
 returns-clause-done g c =
     let p = c.args.shape.now in
-    let shape = subst (λ (f : Fixed). IsShape f.schema c.args.table p) (sym c.find_cells.ensures.passed.fixed) c.requires.shape in
-    changes_row _ _ _ _ _ _ p _ c.args.table c.args.id c.args.changes.now c.in_ok-found.field-0 c.in-Some.found c.in_ok-cells.cells c.in_ok-put.put c.find_cells.ensures.passed.later c.replace.ensures.passed.later
+    let shape = subst (λ (f : Fixed). IsShape f.schema c.args.table p) (sym c.find_cells.ensures.look.passed.fixed) c.requires.shape in
+    changes_row _ _ _ _ _ _ p _ c.args.table c.args.id c.args.changes.now c.in_ok-found.field-0 c.in-Some.found c.in_ok-cells.cells c.in_ok-put.put c.find_cells.ensures.look.passed.later c.replace.ensures.attempt.passed.later
     (columns_there (g.W.Env.fixed c.find_cells.new.world).schema c.args.table p shape) c.in-Some.is (c.in_ok-cells.ensures ∙ (λ i. changed_cells (c.as_slice.ensures i) c.args.changes.now (c.as_slice-2.ensures i)))
     c.in_ok-found.ensures.found c.in_ok-put.ensures.put
 
@@ -42,38 +39,27 @@ returns-clause-fit g c =
     changed_fits p _ c.args.id c.in-Some.found c.in_ok-cells.cells c.in_ok-put.put c.in_ok-put.ensures.sound old
     (subst (AreCellsOf p.columns) (sym cells) (changed_cells_fit p c.requires.shape.1 c.requires.can.0.0 c.args.changes.now c.requires.can.0.1 c.requires.can.1 c.in-Some.found old.1))
 
-pub returns-in_err-found-clause-only : goal.returns-in_err-found-clause-only
-returns-in_err-found-clause-only g c =
-    only_staying (IsOneOf (source.Table c.args.table ∷ [])) _ _ c.find_cells.ensures.passed c.find_cells.ensures.stays
+pub returns-in_err-found-clause-attempt : goal.returns-in_err-found-clause-attempt
+returns-in_err-found-clause-attempt g c = look_attempts _ _ _ c.find_cells.ensures.look
 
-pub returns-in_default-clause-only : goal.returns-in_default-clause-only
-returns-in_default-clause-only g c =
-    only_staying (IsOneOf (source.Table c.args.table ∷ [])) _ _ c.find_cells.ensures.passed c.find_cells.ensures.stays
+pub returns-in_default-clause-attempt : goal.returns-in_default-clause-attempt
+returns-in_default-clause-attempt g c = look_attempts _ _ _ c.find_cells.ensures.look
 
-pub returns-in_err-cells-clause-only : goal.returns-in_err-cells-clause-only
-returns-in_err-cells-clause-only g c =
-    only_staying (IsOneOf (source.Table c.args.table ∷ [])) _ _ c.find_cells.ensures.passed c.find_cells.ensures.stays
+pub returns-in_err-cells-clause-attempt : goal.returns-in_err-cells-clause-attempt
+returns-in_err-cells-clause-attempt g c = look_attempts _ _ _ c.find_cells.ensures.look
 
-pub returns-in_err-put-clause-only : goal.returns-in_err-put-clause-only
-returns-in_err-put-clause-only g c =
-    only_behind (IsOneOf (source.Table c.args.table ∷ [])) _ _ _ c.find_cells.ensures.passed c.replace.ensures.passed c.find_cells.ensures.stays c.replace.ensures.only
+pub returns-in_err-put-clause-attempt : goal.returns-in_err-put-clause-attempt
+returns-in_err-put-clause-attempt g c = look_then _ _ _ _ c.find_cells.ensures.look c.replace.ensures.attempt
 
-pub returns-clause-only : goal.returns-clause-only
-returns-clause-only g c =
-    only_behind (IsOneOf (source.Table c.args.table ∷ [])) _ _ _ c.find_cells.ensures.passed c.replace.ensures.passed c.find_cells.ensures.stays c.replace.ensures.only
+pub returns-clause-attempt : goal.returns-clause-attempt
+returns-clause-attempt g c = look_then _ _ _ _ c.find_cells.ensures.look c.replace.ensures.attempt
 
 pub returns-in_err-found-clause-stops : goal.returns-in_err-found-clause-stops
-returns-in_err-found-clause-stops g c = on_any _ c.find_cells.ensures.stays
+returns-in_err-found-clause-stops g c = on_any _ c.find_cells.ensures.look.stays
 
 pub returns-in_err-cells-clause-stops : goal.returns-in_err-cells-clause-stops
-returns-in_err-cells-clause-stops g c = on_any _ c.find_cells.ensures.stays
+returns-in_err-cells-clause-stops g c = on_any _ c.find_cells.ensures.look.stays
 
 pub returns-in_err-put-clause-stops : goal.returns-in_err-put-clause-stops
 returns-in_err-put-clause-stops g c =
-    on_any _ (stays_on _ _ _ _ _ _ c.find_cells.ensures.passed.later c.replace.ensures.passed.later c.find_cells.ensures.stays c.in_err-put.ensures.stops)
-
-pub returns-clause-passed : goal.returns-clause-passed
-returns-clause-passed g c = passed_on _ _ _ c.find_cells.ensures.passed c.replace.ensures.passed
-
-pub returns-in_err-put-clause-passed : goal.returns-in_err-put-clause-passed
-returns-in_err-put-clause-passed g c = passed_on _ _ _ c.find_cells.ensures.passed c.replace.ensures.passed
+    on_any _ (stays_on _ _ _ _ _ _ c.find_cells.ensures.look.passed.later c.replace.ensures.attempt.passed.later c.find_cells.ensures.look.stays c.in_err-put.ensures.stops)

@@ -4,17 +4,14 @@ use Rattle.fx_types.specs.ValueView.{view}
 use Rattle.fx_semantics.specs.Around.{record_of}
 use Rattle.fx_semantics.specs.Rows.{rows_in}
 use Rattle.std.specs.Prelude.{Some}
-use Rattle.fx_core.specs.declared.sources.Source.TheVariants as source
 use Rattle.fx_deeds.proofs.Deeding.{goes_nowhere}
 use Rattle.fx_deeds.proofs.Tabling.{updates_none, updates_row}
-use Rattle.fx_deeds.proofs.Allowing.{only_nowhere}
 use Rattle.fx_deeds.specs.Finding.{CanChangeRows, IsUpdatedRow}
 use Rattle.fx_deeds.specs.Found.{NamesRow}
-use Rattle.fx_deeds.specs.Writable.{IsOneOf}
 use Rattle.fx_deeds.proofs.CutOff.{cut_nowhere, cut_staying, on_any}
 use Rattle.fx_deeds.proofs.CutUpdates.{cut_put}
 use Rattle.fx_deeds.specs.Deeds.{AreUpdated}
-use Rattle.fx_deeds.proofs.Passing.{passed_nowhere}
+use Rattle.fx_deeds.proofs.Attempts.{attempt_none}
 use Rattle.fx_deeds.proofs.table_rows.update_row.Goals as goal
 
 pub returns-in-Err-clause-done : goal.returns-in-Err-clause-done
@@ -34,17 +31,14 @@ returns-clause-done g c =
     updates_row (SilenceCause (g.W.Env.marks c.args.world.now) (g.W.Env.marks c.put_changed.new.world)) (g.W.World.state c.args.world.now) (g.W.World.state c.put_changed.new.world) c.args.shape.now c.args.table c.in-Ok.id c.args.row.now (view c.args.change.now) c.as_slice.result.now c.in_ok-patched-in-Ok.patched.cells
     c.in_ok-patched-in-Ok.patched.put c.in_ok-end-in-Ok.end (subst (NamesRow (record_of c.args.row.now)) c.in-Ok.is c.in_ok-named.ensures) rows c.in_ok-end-in-Ok.ensures.end c.in_ok-patched-in-Ok.ensures.done
 
-pub returns-in_err-named-clause-only : goal.returns-in_err-named-clause-only
-returns-in_err-named-clause-only g c =
-    only_nowhere (IsOneOf (source.Table c.args.table ∷ [])) (SilenceCause (g.W.Env.marks c.args.world.now) (g.W.Env.marks c.args.world.now)) (g.W.World.state c.args.world.now)
+pub returns-in_err-named-clause-attempt : goal.returns-in_err-named-clause-attempt
+returns-in_err-named-clause-attempt g c = attempt_none _ _
 
-pub returns-in_err-changes-clause-only : goal.returns-in_err-changes-clause-only
-returns-in_err-changes-clause-only g c =
-    only_nowhere (IsOneOf (source.Table c.args.table ∷ [])) (SilenceCause (g.W.Env.marks c.args.world.now) (g.W.Env.marks c.args.world.now)) (g.W.World.state c.args.world.now)
+pub returns-in_err-changes-clause-attempt : goal.returns-in_err-changes-clause-attempt
+returns-in_err-changes-clause-attempt g c = attempt_none _ _
 
-pub returns-in-Err-clause-only : goal.returns-in-Err-clause-only
-returns-in-Err-clause-only g c =
-    only_nowhere (IsOneOf (source.Table c.args.table ∷ [])) (SilenceCause (g.W.Env.marks c.args.world.now) (g.W.Env.marks c.args.world.now)) (g.W.World.state c.args.world.now)
+pub returns-in-Err-clause-attempt : goal.returns-in-Err-clause-attempt
+returns-in-Err-clause-attempt g c = attempt_none _ _
 
 pub returns-in_err-named-clause-cut : goal.returns-in_err-named-clause-cut
 returns-in_err-named-clause-cut g c =
@@ -64,12 +58,3 @@ returns-in_err-end-in-Ok-clause-cut g c =
     on_any _
     (cut_put (SilenceCause (g.W.Env.marks c.args.world.now) (g.W.Env.marks c.put_changed.new.world)) (g.W.World.state c.args.world.now) (g.W.World.state c.put_changed.new.world) c.args.shape.now c.args.table c.in-Ok.id c.args.row.now (view c.args.change.now) c.as_slice.result.now c.in_ok-patched-in-Ok.patched.cells c.in_ok-patched-in-Ok.patched.put
     (subst (NamesRow (record_of c.args.row.now)) c.in-Ok.is c.in_ok-named.ensures) rows c.in_ok-patched-in-Ok.ensures.done)
-
-pub returns-in_err-named-clause-passed : goal.returns-in_err-named-clause-passed
-returns-in_err-named-clause-passed g c = passed_nowhere _
-
-pub returns-in_err-changes-clause-passed : goal.returns-in_err-changes-clause-passed
-returns-in_err-changes-clause-passed g c = passed_nowhere _
-
-pub returns-in-Err-clause-passed : goal.returns-in-Err-clause-passed
-returns-in-Err-clause-passed g c = passed_nowhere _

@@ -7,15 +7,13 @@ use Rattle.fx_deeds.proofs.CutUpdates.{CutUpdated}
 use Rattle.fx_deeds.specs.Deeds.{AreUpdated}
 use Rattle.fx_deeds.specs.Finding.{CanChangeEach}
 use Rattle.fx_deeds.specs.RemainingRows.{RestDecides}
-use Rattle.fx_deeds.specs.WorldSteps.{Passed, stage}
-use Rattle.fx_deeds.specs.Writable.{IsOneOf, WritesOnly}
+use Rattle.fx_deeds.specs.StagesOver.{Attempt}
+use Rattle.fx_deeds.specs.Writable.{IsOneOf}
 use Rattle.fx_deeds.proofs.table_rows.update_rows.Given as goal
 
 abbrev pub invariant-loop-row : goal.invariant-loop-row
 invariant-loop-row g l = record {
-  passed : Passed (stage (g.W.Env.fixed l.fn.world) (g.W.World.state l.fn.world) (g.W.Env.marks l.fn.world) (g.W.Env.visited l.fn.world))
-      (stage (g.W.Env.fixed l.world) (g.W.World.state l.world) (g.W.Env.marks l.world) (g.W.Env.visited l.world));
-  only : MayFallSilent (SilenceCause (g.W.Env.marks l.fn.world) (g.W.Env.marks l.world)) (WritesOnly (IsOneOf (source.Table l.table ∷ []))) (g.W.World.state l.fn.world) (g.W.World.state l.world);
+  attempt : Attempt g.W.Env g.W.World l.fn.world l.world (IsOneOf (source.Table l.table ∷ []));
   can : CanChangeEach l.shape (map view l.left);
   done : MayFallSilent (SilenceCause (g.W.Env.marks l.fn.world) (g.W.Env.marks l.world)) (RestDecides (AreUpdated l.shape l.table l.rest (map view l.left)) (AreUpdated l.shape l.table l.rows (map view l.changes))) (g.W.World.state l.fn.world) (g.W.World.state l.world);
   cut : MayFallSilent (SilenceCause (g.W.Env.marks l.fn.world) (g.W.Env.marks l.world)) (Carries (CutUpdated l.shape l.table l.rest (map view l.left)) (CutUpdated l.shape l.table l.rows (map view l.changes))) (g.W.World.state l.fn.world) (g.W.World.state l.world);
