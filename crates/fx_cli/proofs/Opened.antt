@@ -1,8 +1,15 @@
 -- What the opening of a keeper leaves of its marks.
-use Rattle.std.proofs.Common.{◌≡◌, ◌⊎◌, inl, inr, ℕ, List, subst}
+use Rattle.std.proofs.Common.{◌≡◌, ◌⊎◌, inl, inr, ℕ, List, Result, Ok, Err, subst}
+use Rattle.std.specs.Prelude.{IsErrOf, OnErr}
 use Rattle.fx_base.specs.Faults.{Rose}
 use Rattle.fx_base.proofs.Silences.{rose_before}
+use Rattle.fx_base.specs.Silence.{IsLater, Marks}
+use Rattle.fx_core.specs.declared.schema.Schema.{Schema}
+use Rattle.row_keeper.specs.Changes.{StaysOrShapes}
+use Rattle.row_keeper.specs.Over.{Becomes, HasCause}
 use Rattle.row_keeper.specs.declared.keeper.Keeper.{Ghosts}
+use Rattle.row_keeper.specs.declared.keeper.KeeperEnd.{KeeperEnd}
+use Rattle.row_keeper.specs.declared.keeper.KeeperEnd.TheVariants.{Failed}
 use Rattle.fx_cli.specs.Opening.{Counted, IsAttached, IsStopped}
 
 begun_faults : {K : Type 0} (g : Ghosts K) (name : List ℕ) (old between : K) (now : ℕ)
@@ -14,3 +21,14 @@ begun_faults g name old between now (inr is) rose = rose_before (g.marks old).fa
 pub stopped_rose : {K : Type 0} (g : Ghosts K) (name : List ℕ) (old new : K)
     → IsStopped g name Counted old new → Rose (g.marks old).faults (g.marks new).faults
 stopped_rose g name old new h = begun_faults g name old h.between (g.marks new).faults h.begun h.rise
+
+-- ---- a call without an answer, to take a shape
+pub stopped_by : {K T : Type 0} (g : Ghosts K) (name : List ℕ) (r : Result T KeeperEnd) (Rise : Marks → Marks → Type 0) (s : Schema) (old between new : K) → IsAttached g name old between
+    → OnErr r (Becomes g between new (StaysOrShapes s)) → IsLater (g.marks between) (g.marks new) → Rise (g.marks between) (g.marks new) → OnErr r (IsStopped g name Rise old new)
+stopped_by g name (Ok x) Rise s old between new is tables later rise = tt
+stopped_by g name (Err e) Rise s old between new is tables later rise = record { between = between; schema = s; begun = inr is; tables = tables; later = later; rise = rise }
+
+pub failed_by : {K T : Type 0} (g : Ghosts K) (name : List ℕ) (r : Result T KeeperEnd) (s : Schema) (old between new : K) → IsAttached g name old between
+    → OnErr r (Becomes g between new (StaysOrShapes s)) → HasCause g between new r → IsErrOf r Failed → IsStopped g name Counted old new
+failed_by g name (Ok x) s old between new is tables cause e = absurd cc
+failed_by g name (Err end) s old between new is tables cause e = record { between = between; schema = s; begun = inr is; tables = tables; later = cause.later; rise = cause.failed e }

@@ -171,8 +171,8 @@ pub record ListensAndReplays (port : Option ℕ) (most : ℕ) (one : Bool) (old 
 
 -- The doors couldn't listen on the port: a fault was counted, and nothing else happened.
 pub record IsDeaf (port : Option ℕ) (old new : OfficeAt) (count now : ℕ)
-    (clock clock_now : Option (List ℕ)) (doors doors_now : Option Doorway) (end : ReplayEnd)
-    : Type 0 where
+    (clock clock_now : Option (List ℕ)) (doors doors_now : Option Doorway) (end : ReplayEnd) :
+    Type 0 where
   pub has_port : IsSome port
   pub ended : end ≡ Fault
   pub rose : Rose count now

@@ -3,11 +3,11 @@
 use Rattle.std.specs.Prelude.{◌≡◌, ◌≢◌, ◌⊎◌, ℕ, List, Option, Some, None, IfNone, IfSome, IsSome}
 use Rattle.fx_base.specs.Faults.{Rose}
 use Rattle.fx_base.specs.Silence.{MayFallSilent, IsLater, SilenceCause, Marks}
-use Rattle.fx_base.specs.Telling.{Stays}
 use Rattle.fx_core.specs.declared.schema.Schema.{Schema}
-use Rattle.row_keeper.specs.Changes.{Shapes}
+use Rattle.row_keeper.specs.Changes.{Shapes, StaysOrShapes}
 use Rattle.row_keeper.specs.Over.{Becomes}
 use Rattle.row_keeper.specs.declared.keeper.Keeper.{Ghosts}
+use Rattle.row_keeper.specs.Shaped.{by}
 use Rattle.app_cells.specs.declared.app.App.{App}
 use Rattle.office.specs.app_semantics.Sound.{IsSoundApp}
 use Rattle.office.specs.session_requests.Opening.{CanOpen}
@@ -36,25 +36,27 @@ module _ {K : Type 0} (g : Ghosts K) (name : List ℕ) where
     pub between : K
     pub is_attached : IsAttached old between
     pub shapes : Becomes g between new (Shapes schema other)
-    pub shaped : IfNone other (g.shaped new ≡ Some schema)
+    pub shaped : IfNone other (g.shaped new ≡ by schema)
     pub unshaped : IsSome other → g.shaped new ≡ g.shaped between
     pub differs : IfSome other (λ s. s ≢ schema)
     pub later : IsLater (g.marks between) (g.marks new)
 
-  -- It gave no answer as it was attached, or as it was to take a shape then. The tables that are
-  -- told are as before that call, in which the marks rose so.
+  -- It gave no answer as it was attached, or as it was to take the shape of a schema then. The
+  -- tables that are told are as before that call, or have that shape already, and the marks rose so
+  -- in it.
   pub record IsStopped (Rise : Marks → Marks → Type 0) (old new : K) : Type 0 where
     pub between : K
+    pub schema : Schema
     pub begun : (between ≡ old) ⊎ IsAttached old between
-    pub tables : Becomes g between new Stays
+    pub tables : Becomes g between new (StaysOrShapes schema)
     pub later : IsLater (g.marks between) (g.marks new)
     pub rise : Rise (g.marks between) (g.marks new)
 
   -- Opened for an app, which is a sound one of which sessions can be opened, it was served: that
   -- began with the tables and the marks that it had then, without a session or a desk, and ended
   -- with those that it has now.
-  pub record IsServed (old new : K) (app : App) (serves : OfficeAt → OfficeAt → Type 0)
-      : Type 0 where
+  pub record IsServed (old new : K) (app : App) (serves : OfficeAt → OfficeAt → Type 0) :
+      Type 0 where
     pub accepted : IsSoundApp app
     pub opens : CanOpen app.names
     pub opened : K

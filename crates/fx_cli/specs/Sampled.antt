@@ -42,8 +42,8 @@ PlaysSample moment old before (x ∷ xs) new now =
     × PlaysSample moment x.state x.marks xs new now
 
 -- these requests were answered so, at the moment of the sample, with these replies
-pub record IsPlayed (asked : List Asked) (replies : List (List ℕ)) (old new : OfficeAt)
-    : Type 0 where
+pub record IsPlayed (asked : List Asked) (replies : List (List ℕ)) (old new : OfficeAt) :
+    Type 0 where
   pub exchanges : List Exchange
   pub asked_are : map (λ (x : Exchange). x.asked) exchanges ≡ asked
   pub replies_are : map (λ (x : Exchange). x.said) exchanges ≡ replies

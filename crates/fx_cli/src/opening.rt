@@ -3,6 +3,7 @@ ghost use Rattle.std.specs.Prelude.{◌≡◌, IfNone, IfOk, IsErrOf, OnErr, Som
 ghost use Rattle.fx_base.specs.Silence.{IsLater};
 ghost use Rattle.fx_core.specs.Lawful.{IsLawfulSchema};
 ghost use Rattle.row_keeper.specs.declared.keeper.KeeperEnd.TheVariants.{Failed};
+ghost use Rattle.row_keeper.specs.Shaped.{by};
 ghost use Rattle.row_requests.specs.Sound.{AreSound};
 ghost use Rattle.fx_cli.specs.Opening.{Counted, IsAsked, IsStopped, Unsaid};
 
@@ -20,7 +21,7 @@ pub(crate) fn open_keeper<K: Keeper>(
     requires lawful { IsLawfulSchema schema.now }
     ensures asked { IfOk result (λ other. IsAsked K.Keeper name.now schema.now other keeper.old
         keeper.new) }
-    ensures shaped { IfOk result (λ other. IfNone other (K.shaped keeper.new ≡ Some schema.now)) }
+    ensures shaped { IfOk result (λ other. IfNone other (K.shaped keeper.new ≡ by schema.now)) }
     ensures sound { IfOk result (λ other. IfNone other (AreSound schema.now (K.told keeper.new))) }
     ensures stopped { OnErr result (IsStopped K.Keeper name.now Unsaid keeper.old keeper.new) }
     ensures failed { IsErrOf result Failed → IsStopped K.Keeper name.now Counted keeper.old

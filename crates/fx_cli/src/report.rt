@@ -19,6 +19,7 @@ ghost use Rattle.fx_cli.specs.Report.{no_show, schema_text, status_of, status_of
 ghost use Rattle.fx_cli.specs.Report.{text_of_end, unread_text, usage_text};
 ghost use Rattle.fx_cli.specs.Run.{LeavesAlone, Reports};
 ghost use Rattle.fx_cli.specs.declared.words.Form.TheVariants.{Check, Serve, View};
+ghost use Rattle.row_keeper.specs.Shaped.{by};
 
 use crate::files::{FileEnd, Files};
 use crate::opening::open_keeper;
@@ -369,7 +370,7 @@ fn serve_over<D: Doors, K: Keeper, C: Clock, L: Ledger>(
     steps: &mut Steps<L>,
 ) -> ReplayEnd
     requires idle { K.in_transaction keeper.old ≡ false }
-    requires shaped { K.shaped keeper.old ≡ Some (schema_of app) }
+    requires shaped { K.shaped keeper.old ≡ by (schema_of app) }
     requires app { IsSoundApp app }
     requires loaded { IsLoaded app }
     requires opens { CanOpen app.names }

@@ -22,6 +22,7 @@ ghost use Rattle.fx_cli.specs.Sampled.{EndsSample, IsPlayed, IsSampled, IsSample
 ghost use Rattle.fx_cli.specs.Sampled.{ReportsSample};
 ghost use Rattle.row_keeper.specs.Causes as by_marks;
 ghost use Rattle.row_keeper.specs.Over.{Becomes, HasCause};
+ghost use Rattle.row_keeper.specs.Shaped.{by};
 
 use crate::opening::open_keeper;
 use crate::report::{Report, refuse};
@@ -144,7 +145,7 @@ fn put_over<K: Keeper, L: Ledger>(
     steps: &mut Steps<L>,
 ) -> Result<String, KeeperEnd>
     requires idle { K.in_transaction keeper.old ≡ false }
-    requires shaped { K.shaped keeper.old ≡ Some (schema_of app) }
+    requires shaped { K.shaped keeper.old ≡ by (schema_of app) }
     requires app { IsSoundApp app }
     requires loaded { IsLoaded app }
     requires opens { CanOpen app.names }
@@ -180,7 +181,7 @@ fn play_over<K: Keeper, L: Ledger>(
     steps: &mut Steps<L>,
 ) -> Result<Played, KeeperEnd>
     requires idle { K.in_transaction keeper.old ≡ false }
-    requires shaped { K.shaped keeper.old ≡ Some (schema_of app) }
+    requires shaped { K.shaped keeper.old ≡ by (schema_of app) }
     requires app { IsSoundApp app }
     requires loaded { IsLoaded app }
     requires opens { CanOpen app.names }
@@ -191,7 +192,7 @@ fn play_over<K: Keeper, L: Ledger>(
         (record { state = started app (K.told keeper.old); marks = K.marks keeper.old })
         (record { state = state; marks = K.marks keeper.new })) }
     ensures whole { IfOk result (λ p. All IsReply p.replies.items) }
-    ensures shaped { IfOk result (λ p. K.shaped keeper.new ≡ Some (schema_of p.app)) }
+    ensures shaped { IfOk result (λ p. K.shaped keeper.new ≡ by (schema_of p.app)) }
     ensures sound { IfOk result (λ p. AreSound (schema_of p.app) (K.told keeper.new)) }
     ensures cause { HasCause K.Keeper keeper.old keeper.new result }
     ensures idle { K.in_transaction keeper.new ≡ false }
@@ -235,7 +236,7 @@ fn play<K: Keeper + Drop, L: Ledger>(
 
 /// What is told of the replies, with the rows that are kept then.
 fn tell<K: Keeper>(alloc: Global, played: &Played, keeper: &mut K) -> Result<String, KeeperEnd>
-    requires shaped { K.shaped keeper.old ≡ Some (schema_of played.now.app) }
+    requires shaped { K.shaped keeper.old ≡ by (schema_of played.now.app) }
     requires sound { AreSound (schema_of played.now.app) (K.told keeper.old) }
     requires whole { All IsReply played.now.replies.items }
     ensures told { IfOk result (λ text. (rows : ℕ) × Becomes K.Keeper keeper.old keeper.new

@@ -5,6 +5,7 @@ use Rattle.fx_core.specs.declared.names.ControlName.{ControlName}
 use Rattle.fx_core.specs.declared.names.Names.{Names}
 use Rattle.fx_core.specs.declared.schema.Schema.{Schema}
 use Rattle.recalc.specs.Kept.{CacheState as Values}
+use Rattle.row_keeper.specs.Shaped.{Shaped, by}
 use Rattle.row_keeper.specs.Tables.{Tables}
 use Rattle.row_requests.specs.Sound.{AreSound}
 use Rattle.session_state.proofs.Carried.{fits_carried}
@@ -56,14 +57,14 @@ carried_keep n m [] keep = tt
 carried_keep n m (x ∷ xs) keep = (keep.0, carried_keep n m xs keep.1)
 
 -- what was ready is so with an edited app, beside which the keeper stays as it is
-pub ready_edited : (a b : App) (in_transaction : Bool) (by : Option Schema) (told : Option Tables) (ss rs : List (Named SessionState)) (ds es : List (Named LastRequest)) (cs later : List (Named Values)) (m : ℕ)
-    → OfficeInvariant a in_transaction by told ss ds cs m → KeepsApp a b → IsLoaded b → LiveSessionsFit b.names rs → KeepReplies es → SessionsKeepReplies rs → AreKept b told m rs later
-    → OfficeInvariant b in_transaction by told rs es later m
-ready_edited a b in_transaction by told ss rs ds es cs later m ready keeps loaded fit kept replies cached =
+pub ready_edited : (a b : App) (in_transaction : Bool) (shape : Shaped) (told : Option Tables) (ss rs : List (Named SessionState)) (ds es : List (Named LastRequest)) (cs later : List (Named Values)) (m : ℕ)
+    → OfficeInvariant a in_transaction shape told ss ds cs m → KeepsApp a b → IsLoaded b → LiveSessionsFit b.names rs → KeepReplies es → SessionsKeepReplies rs → AreKept b told m rs later
+    → OfficeInvariant b in_transaction shape told rs es later m
+ready_edited a b in_transaction shape told ss rs ds es cs later m ready keeps loaded fit kept replies cached =
     let same : schema_of b ≡ schema_of a = ap (λ (f : Frame). f.schema) keeps.frame in
     record {
       idle = ready.idle;
-      shaped = ready.shaped ∙ ap (λ (s : Schema). Some s) (sym same);
+      shaped = ready.shaped ∙ ap (λ (s : Schema). by s) (sym same);
       sound = subst (λ (s : Schema). AreSound s told) (sym same) ready.sound;
       kept = kept;
       accepted = keeps.sound;

@@ -3,6 +3,7 @@ use Rattle.std.proofs.Common.{◌≡◌, ℕ, Bool, List, Option, None, Some, Re
 use Rattle.std.specs.Prelude.{OnErr}
 use Rattle.fx_base.specs.Silence.{MayFallSilent, SilenceCause, Marks}
 use Rattle.fx_base.specs.Telling.{Stays}
+use Rattle.row_keeper.specs.Shaped.{Shaped}
 use Rattle.row_keeper.specs.Tables.{Tables}
 use Rattle.row_keeper.specs.declared.keeper.KeeperEnd.{KeeperEnd}
 use Rattle.app_wire.specs.Framing.{Asked}
@@ -143,9 +144,9 @@ still_ready app a b sessions desks caches later moment read kept ready = record 
 }
 
 -- and with other caches at another moment
-pub ready_then : (app : App) (in_transaction : Bool) (by : Option Schema) (told : Option Tables) (sessions : List (Caller SessionState)) (desks : List (Caller LastRequest)) (caches later : List (Caller Values)) (m n : ℕ)
-    → OfficeInvariant app in_transaction by told sessions desks caches m → AreKept app told n sessions later → OfficeInvariant app in_transaction by told sessions desks later n
-ready_then app in_transaction by told sessions desks caches later m n ready kept = record {
+pub ready_then : (app : App) (in_transaction : Bool) (shape : Shaped) (told : Option Tables) (sessions : List (Caller SessionState)) (desks : List (Caller LastRequest)) (caches later : List (Caller Values)) (m n : ℕ)
+    → OfficeInvariant app in_transaction shape told sessions desks caches m → AreKept app told n sessions later → OfficeInvariant app in_transaction shape told sessions desks later n
+ready_then app in_transaction shape told sessions desks caches later m n ready kept = record {
   idle = ready.idle;
   shaped = ready.shaped;
   sound = ready.sound;

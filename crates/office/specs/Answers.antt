@@ -82,8 +82,8 @@ IsConversationOver false xs left unread words = IsSpent left words
 
 -- Doors failed in a read, with all replies written. What was taken and not answered begins no
 -- request, or none that is whole.
-pub record IsCutInRead (one : Bool) (xs : List Exchange) (left unread written : List ℕ)
-    : Type 0 where
+pub record IsCutInRead (one : Bool) (xs : List Exchange) (left unread written : List ℕ) :
+    Type 0 where
   pub on : GoesOn one xs
   pub held : List ℕ
   pub left_is : left ≡ held ++ unread
@@ -138,8 +138,8 @@ pub record Talked (taken written : List ℕ) (a b : Doorway) : Type 0 where
   pub is : b ≡ record a { unread = b.unread; begun = with_last (with_bytes taken written) a.begun }
 
 -- so much of the present conversation
-pub record Converses (one : Bool) (end : ConvEnd) (xs : List Exchange) (a b : Doorway)
-    : Type 0 where
+pub record Converses (one : Bool) (end : ConvEnd) (xs : List Exchange) (a b : Doorway) :
+    Type 0 where
   pub taken : List ℕ
   pub written : List ℕ
   pub talk : IsTalk one end xs a.unread taken written

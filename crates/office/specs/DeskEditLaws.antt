@@ -35,8 +35,8 @@ abbrev pub RefusesEdit : Parts → List Broken → List ℕ → Parts → Type 0
 RefusesEdit p bs said p' = (said ≡ refusal_reply (refusal_of bs)) × (p' ≡ p)
 
 -- two refusals for the same breaks
-pub record RefusesAlike (p : Parts) (said : List ℕ) (q : Parts) (said' : List ℕ) (q' : Parts)
-    : Type 0 where
+pub record RefusesAlike (p : Parts) (said : List ℕ) (q : Parts) (said' : List ℕ) (q' : Parts) :
+    Type 0 where
   pub breaks : List Broken
   pub breaks' : List Broken
   pub same : AreSameBreaks breaks breaks'

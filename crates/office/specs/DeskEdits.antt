@@ -71,8 +71,8 @@ EditEnds name body seq (Ok b) p said p' = (said ≡ accepted_edit_reply seq)
 EditEnds name body seq (Err bs) p said p' = (said ≡ refusal_reply (refusal_of bs)) × (p' ≡ p)
 
 -- an edit that passed the checks of numbered requests
-pub record MakesEdit (name body : List ℕ) (e : Edit) (p : Parts) (said : List ℕ) (p' : Parts)
-    : Type 0 where
+pub record MakesEdit (name body : List ℕ) (e : Edit) (p : Parts) (said : List ℕ) (p' : Parts) :
+    Type 0 where
   pub verdict : Result App (List Broken)
   pub judged : JudgedEdit p.app e.cell e.text verdict
   pub ends : EditEnds name body e.seq verdict p said p'

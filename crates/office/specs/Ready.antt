@@ -1,11 +1,11 @@
 -- What is true of an office between two requests.
-use Rattle.std.specs.Prelude.{◌≡◌, ℕ, Bool, false, List, Option, Some}
+use Rattle.std.specs.Prelude.{◌≡◌, ℕ, Bool, false, List, Option}
 use Rattle.app_cells.specs.declared.app.App.{App}
 use Rattle.app_loader.specs.Edits.{IsLoaded}
 use Rattle.app_loader.specs.app_semantics.Sound.{IsSoundApp}
 use Rattle.session_views.specs.Shows.{LiveSessionsFit}
-use Rattle.fx_core.specs.declared.schema.Schema.{Schema}
 use Rattle.recalc.specs.Kept.{CacheState as Values}
+use Rattle.row_keeper.specs.Shaped.{Shaped, by}
 use Rattle.row_keeper.specs.Tables.{Tables}
 use Rattle.session_requests.specs.Opening.{CanOpen}
 use Rattle.session_state.specs.Once.{LastRequest}
@@ -28,11 +28,11 @@ pub record IsSettledOffice (s : OfficeState) : Type 0 where
 -- told, are those of the schema, what is kept of desks are replies, the app is an accepted one that
 -- can be edited, its sessions fit it, and each has its cache, which is right on the day of the last
 -- request that had a route.
-pub record OfficeInvariant (app : App) (in_transaction : Bool) (by : Option Schema)
+pub record OfficeInvariant (app : App) (in_transaction : Bool) (shape : Shaped)
     (told : Option Tables) (sessions : List (Named SessionState)) (desks : List (Named LastRequest))
     (caches : List (Named Values)) (moment : ℕ) : Type 0 where
   pub idle : in_transaction ≡ false
-  pub shaped : by ≡ Some (schema_of app)
+  pub shaped : shape ≡ by (schema_of app)
   pub sound : AreSound (schema_of app) told
   pub kept : KeepReplies desks
   pub accepted : IsSoundApp app

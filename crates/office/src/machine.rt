@@ -6,6 +6,7 @@ ghost use Rattle.app_loader.specs.Edits.{IsLoaded};
 ghost use Rattle.app_loader.specs.app_semantics.Sound.{IsSoundApp};
 ghost use Rattle.row_keeper.specs.Causes.{HasCause};
 ghost use Rattle.row_keeper.specs.declared.keeper.KeeperEnd.TheVariants.{Failed};
+ghost use Rattle.row_keeper.specs.Shaped.{by};
 ghost use Rattle.app_wire.specs.Framing.{asked};
 ghost use Rattle.app_wire.specs.declared.route.RouteEnd.TheVariants.{Memory as NoMemory};
 ghost use Rattle.numbered_requests.specs.Replies.{IsReply, said};
@@ -98,7 +99,7 @@ impl<K: Keeper + Drop> Office<K> {
     /// has come into being.
     pub fn new(alloc: Global, app: App, keeper: K) -> Result<Office<K>, Memory>
         requires idle { K.in_transaction keeper ≡ false }
-        requires shaped { K.shaped keeper ≡ Some (schema_of app) }
+        requires shaped { K.shaped keeper ≡ by (schema_of app) }
         requires app { IsSoundApp app }
         requires loaded { IsLoaded app }
         requires opens { CanOpen app.names }
@@ -116,7 +117,7 @@ impl<K: Keeper + Drop> Office<K> {
     /// lent is never lost.
     pub fn over(alloc: Global, app: App, routes: Routes, keeper: K) -> Office<K>
         requires idle { K.in_transaction keeper ≡ false }
-        requires shaped { K.shaped keeper ≡ Some (schema_of app) }
+        requires shaped { K.shaped keeper ≡ by (schema_of app) }
         requires app { IsSoundApp app }
         requires loaded { IsLoaded app }
         requires opens { CanOpen app.names }
@@ -371,7 +372,7 @@ impl<K: Keeper + Drop> Office<K> {
         ensures visited { K.visited result ≡ self.visited }
         ensures loan { K.loan result ≡ self.loan }
         ensures idle { K.in_transaction result ≡ false }
-        ensures shaped { K.shaped result ≡ Some (schema_of self.state.app) }
+        ensures shaped { K.shaped result ≡ by (schema_of self.state.app) }
     {
         self.keeper
     }

@@ -2,6 +2,7 @@
 ghost use Rattle.std.specs.Prelude.{◌≡◌, Some, false, length};
 ghost use Rattle.row_requests.specs.Sound.{AreSound};
 ghost use Rattle.office.specs.State.{schema_of};
+ghost use Rattle.row_keeper.specs.Shaped.{by};
 
 use crate::machine::Office;
 use app_cells::App;
@@ -23,7 +24,7 @@ impl<K: Keeper + Drop> Office<K> {
         ensures visited { K.visited result.1 ≡ self.visited }
         ensures loan { K.loan result.1 ≡ self.loan }
         ensures idle { K.in_transaction result.1 ≡ false }
-        ensures shaped { K.shaped result.1 ≡ Some (schema_of result.0) }
+        ensures shaped { K.shaped result.1 ≡ by (schema_of result.0) }
         ensures sound { AreSound (schema_of result.0) (K.told result.1) }
     {
         (self.app, self.keeper)

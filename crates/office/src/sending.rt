@@ -16,6 +16,7 @@ ghost use Rattle.numbered_requests.specs.Replies.{IsReply, KeepReplies, said};
 ghost use Rattle.numbered_requests.specs.declared.directory.Named.{Named as Under};
 ghost use Rattle.row_keeper.specs.Over.{Becomes, HasCause};
 ghost use Rattle.row_keeper.specs.declared.keeper.KeeperEnd.TheVariants.{Failed};
+ghost use Rattle.row_keeper.specs.Shaped.{by};
 ghost use Rattle.row_requests.specs.DeskRows.{PostsRows, ReachesRows};
 ghost use Rattle.row_requests.specs.Sound.{AreSound};
 ghost use Rattle.session_requests.specs.Posting.{PostsEvent, PostsInput, ReachesEvent};
@@ -57,7 +58,7 @@ pub(crate) fn post_input<K: Keeper, L: Ledger>(
     requires fit { LiveSessionsFit app.now.names sessions.old.items }
     requires replies { SessionsKeepReplies sessions.old.items }
     requires kept { AreKept app.now (K.told keeper.old) moment sessions.old.items caches.old.items }
-    requires shaped { K.shaped keeper.old ≡ Some app.now.names.schema }
+    requires shaped { K.shaped keeper.old ≡ by app.now.names.schema }
     requires rows { AreSound app.now.names.schema (K.told keeper.old) }
     requires idle { K.in_transaction keeper.old ≡ false }
     ensures done { IfOk result (λ r. PostsInput
@@ -81,7 +82,7 @@ pub(crate) fn post_input<K: Keeper, L: Ledger>(
         (checks input_in (λ (i : AnInput). i.seq) (session_of name.now sessions.old.items)
         body.now)) (K.told keeper.new) caches.old.items caches.new.items) }
     ensures rows { AreSound app.now.names.schema (K.told keeper.new) }
-    ensures shaped { K.shaped keeper.new ≡ Some app.now.names.schema }
+    ensures shaped { K.shaped keeper.new ≡ by app.now.names.schema }
     ensures idle { K.in_transaction keeper.new ≡ false }
     ensures cause { HasCause K.Keeper keeper.old keeper.new result }
     ensures loan { K.loan keeper.new ≡ K.loan keeper.old }
@@ -113,7 +114,7 @@ fn act_input<K: Keeper, L: Ledger>(
     requires fit { LiveSessionsFit app.now.names sessions.old.items }
     requires replies { SessionsKeepReplies sessions.old.items }
     requires kept { AreKept app.now (K.told keeper.old) moment sessions.old.items caches.old.items }
-    requires shaped { K.shaped keeper.old ≡ Some app.now.names.schema }
+    requires shaped { K.shaped keeper.old ≡ by app.now.names.schema }
     requires rows { AreSound app.now.names.schema (K.told keeper.old) }
     requires idle { K.in_transaction keeper.old ≡ false }
     ensures done { IfOk result (λ r. SendsInput
@@ -135,7 +136,7 @@ fn act_input<K: Keeper, L: Ledger>(
         (InputCutOff app.now moment name.now input (K.told keeper.old) sessions.old.items)
         (K.told keeper.new) caches.old.items caches.new.items) }
     ensures rows { AreSound app.now.names.schema (K.told keeper.new) }
-    ensures shaped { K.shaped keeper.new ≡ Some app.now.names.schema }
+    ensures shaped { K.shaped keeper.new ≡ by app.now.names.schema }
     ensures idle { K.in_transaction keeper.new ≡ false }
     ensures cause { HasCause K.Keeper keeper.old keeper.new result }
     ensures loan { K.loan keeper.new ≡ K.loan keeper.old }
@@ -171,7 +172,7 @@ pub(crate) fn post_event<K: Keeper, L: Ledger>(
     requires fit { LiveSessionsFit app.now.names sessions.old.items }
     requires replies { SessionsKeepReplies sessions.old.items }
     requires kept { AreKept app.now (K.told keeper.old) moment sessions.old.items caches.old.items }
-    requires shaped { K.shaped keeper.old ≡ Some app.now.names.schema }
+    requires shaped { K.shaped keeper.old ≡ by app.now.names.schema }
     requires rows { AreSound app.now.names.schema (K.told keeper.old) }
     requires idle { K.in_transaction keeper.old ≡ false }
     ensures done { IfOk result (λ r. PostsEvent
@@ -195,7 +196,7 @@ pub(crate) fn post_event<K: Keeper, L: Ledger>(
         (checks event_in (λ (e : AnEvent). e.seq) (session_of name.now sessions.old.items)
         body.now)) (K.told keeper.new) caches.old.items caches.new.items) }
     ensures rows { AreSound app.now.names.schema (K.told keeper.new) }
-    ensures shaped { K.shaped keeper.new ≡ Some app.now.names.schema }
+    ensures shaped { K.shaped keeper.new ≡ by app.now.names.schema }
     ensures idle { K.in_transaction keeper.new ≡ false }
     ensures cause { HasCause K.Keeper keeper.old keeper.new result }
     ensures loan { K.loan keeper.new ≡ K.loan keeper.old }
@@ -227,7 +228,7 @@ fn act_event<K: Keeper, L: Ledger>(
     requires fit { LiveSessionsFit app.now.names sessions.old.items }
     requires replies { SessionsKeepReplies sessions.old.items }
     requires kept { AreKept app.now (K.told keeper.old) moment sessions.old.items caches.old.items }
-    requires shaped { K.shaped keeper.old ≡ Some app.now.names.schema }
+    requires shaped { K.shaped keeper.old ≡ by app.now.names.schema }
     requires rows { AreSound app.now.names.schema (K.told keeper.old) }
     requires idle { K.in_transaction keeper.old ≡ false }
     ensures done { IfOk result (λ r. SendsEvent
@@ -249,7 +250,7 @@ fn act_event<K: Keeper, L: Ledger>(
         (EventCutOff app.now moment name.now event.now (K.told keeper.old) sessions.old.items)
         (K.told keeper.new) caches.old.items caches.new.items) }
     ensures rows { AreSound app.now.names.schema (K.told keeper.new) }
-    ensures shaped { K.shaped keeper.new ≡ Some app.now.names.schema }
+    ensures shaped { K.shaped keeper.new ≡ by app.now.names.schema }
     ensures idle { K.in_transaction keeper.new ≡ false }
     ensures cause { HasCause K.Keeper keeper.old keeper.new result }
     ensures loan { K.loan keeper.new ≡ K.loan keeper.old }
@@ -281,7 +282,7 @@ pub(crate) fn change_rows<K: Keeper>(
     requires sound { IsSoundApp app.now }
     requires order { (k : ℕ) (c : Under CacheState) → slice_get caches.old.items k ≡ Some c
         → IsInOrder app.now c.it }
-    requires shaped { K.shaped keeper.old ≡ Some app.now.names.schema }
+    requires shaped { K.shaped keeper.old ≡ by app.now.names.schema }
     requires rows { AreSound app.now.names.schema (K.told keeper.old) }
     requires idle { K.in_transaction keeper.old ≡ false }
     requires replies { KeepReplies desks.old.items }

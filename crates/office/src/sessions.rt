@@ -25,6 +25,7 @@ ghost use Rattle.fx_base.specs.Telling.{Stays};
 ghost use Rattle.row_requests.specs.Sound.{AreSound};
 ghost use Rattle.session_requests.specs.Opening.{CanOpen};
 ghost use Rattle.row_keeper.specs.declared.keeper.KeeperEnd.TheVariants.{Failed};
+ghost use Rattle.row_keeper.specs.Shaped.{by};
 ghost use Rattle.office.specs.Sessions.{BeginsSession, ReachesBegin, ReachesNamed, ShowsNamed};
 ghost use Rattle.office.specs.Sessions.{begin_checks, sessions_without};
 
@@ -66,7 +67,7 @@ pub(crate) fn begin<K: Keeper, L: Ledger>(
     requires fit { LiveSessionsFit app.now.names sessions.old.items }
     requires replies { SessionsKeepReplies sessions.old.items }
     requires kept { AreKept app.now (K.told keeper.old) moment sessions.old.items caches.old.items }
-    requires shaped { K.shaped keeper.old ≡ Some app.now.names.schema }
+    requires shaped { K.shaped keeper.old ≡ by app.now.names.schema }
     requires rows { AreSound app.now.names.schema (K.told keeper.old) }
     requires idle { K.in_transaction keeper.old ≡ false }
     ensures done { IfOk result (λ r. BeginsSession
@@ -86,7 +87,7 @@ pub(crate) fn begin<K: Keeper, L: Ledger>(
         (K.told keeper.new) sessions.new.items caches.old.items caches.new.items) }
     ensures cut { OnErr result (SessionsLeft app.now nothing caches.old.items caches.new.items) }
     ensures rows { AreSound app.now.names.schema (K.told keeper.new) }
-    ensures shaped { K.shaped keeper.new ≡ Some app.now.names.schema }
+    ensures shaped { K.shaped keeper.new ≡ by app.now.names.schema }
     ensures idle { K.in_transaction keeper.new ≡ false }
     ensures cause { HasCause K.Keeper keeper.old keeper.new result }
     ensures loan { K.loan keeper.new ≡ K.loan keeper.old }
@@ -223,7 +224,7 @@ pub(crate) fn show_view_to<K: Keeper, L: Ledger>(
     requires sound { IsSoundApp app.now }
     requires fit { LiveSessionsFit app.now.names sessions.now }
     requires kept { AreKept app.now (K.told keeper.old) moment sessions.now caches.old.items }
-    requires shaped { K.shaped keeper.old ≡ Some app.now.names.schema }
+    requires shaped { K.shaped keeper.old ≡ by app.now.names.schema }
     ensures done { IfOk result (λ r. ShowsView
         (SilenceCause (K.marks keeper.old) (K.marks keeper.new)) moment app.now name.now
         sessions.now (K.told keeper.old) (said r) (K.told keeper.new)) }
@@ -272,7 +273,7 @@ pub(crate) fn show_items_to<K: Keeper, L: Ledger>(
     requires sound { IsSoundApp app.now }
     requires fit { LiveSessionsFit app.now.names sessions.now }
     requires kept { AreKept app.now (K.told keeper.old) moment sessions.now caches.old.items }
-    requires shaped { K.shaped keeper.old ≡ Some app.now.names.schema }
+    requires shaped { K.shaped keeper.old ≡ by app.now.names.schema }
     ensures done { IfOk result (λ r. ShowsItems
         (SilenceCause (K.marks keeper.old) (K.marks keeper.new)) moment app.now name.now gallery.now
         from sessions.now (K.told keeper.old) (said r) (K.told keeper.new)) }
@@ -314,7 +315,7 @@ pub(crate) fn show_named<K: Keeper, L: Ledger>(
     requires sound { IsSoundApp app.now }
     requires fit { LiveSessionsFit app.now.names sessions.now }
     requires kept { AreKept app.now (K.told keeper.old) moment sessions.now caches.old.items }
-    requires shaped { K.shaped keeper.old ≡ Some app.now.names.schema }
+    requires shaped { K.shaped keeper.old ≡ by app.now.names.schema }
     ensures done { IfOk result (λ r. ShowsNamed
         (SilenceCause (K.marks keeper.old) (K.marks keeper.new)) moment app.now name.now
         sessions.now (K.told keeper.old) (said r) (K.told keeper.new)) }

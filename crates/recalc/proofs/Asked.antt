@@ -8,7 +8,7 @@ use Rattle.fx_base.specs.Silence.{MayFallSilent, SilenceCause}
 use Rattle.fx_base.specs.Telling.{Stays}
 use Rattle.fx_env.specs.Telling.{IsHeard}
 use Rattle.recalc.specs.Asking.{CanAsk, HasRead, IsHeardOf, Keeping}
-use Rattle.fx_core.specs.declared.schema.Schema.{Schema}
+use Rattle.row_keeper.specs.Shaped.{Shaped, by}
 use Rattle.row_keeper.specs.Tables.{Tables, rows_told}
 use Rattle.row_queries.specs.declared.rows.Row.{Row}
 
@@ -48,11 +48,11 @@ heard_told None = tt
 heard_told (Some t) = refl
 
 -- what could be asked can still be
-pub still_asks : (a : App) (x y : Option Schema) → y ≡ x → CanAsk a x → CanAsk a y
+pub still_asks : (a : App) (x y : Shaped) → y ≡ x → CanAsk a x → CanAsk a y
 still_asks a x y e (inl h) = inl (e ∙ h)
 still_asks a x y e (inr h) = inr h
 
 -- the keeper of a formula that reads a table is shaped
-pub asks_for : (a : App) (x : Option Schema) (k : ℕ) (c : CellInfo) → CanAsk a x → slice_get a.cells k ≡ Some c → reads_table c.reads ≡ true → x ≡ Some a.names.schema
+pub asks_for : (a : App) (x : Shaped) (k : ℕ) (c : CellInfo) → CanAsk a x → slice_get a.cells k ≡ Some c → reads_table c.reads ≡ true → x ≡ by a.names.schema
 asks_for a x k c (inl h) there reads = h
 asks_for a x k c (inr none) there reads = let both : false ≡ true = sym (none k c there) ∙ reads in absurd cc

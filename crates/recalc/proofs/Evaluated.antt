@@ -8,10 +8,10 @@ use Rattle.fx_types.specs.Values.{Data}
 use Rattle.fx_env.specs.Scopes.{Fixed}
 use Rattle.fx_env.specs.Telling.{EnvState, values_told}
 use Rattle.fx_core.specs.declared.names.Names.{Names}
-use Rattle.fx_core.specs.declared.schema.Schema.{Schema}
 use Rattle.fx_core.specs.declared.sources.Source.{Source}
 use Rattle.recalc.specs.Asking.{HasRead, keeping}
 use Rattle.recalc.specs.Reading.{KeeperState, cell_value, fixed_over, loans_of, told_by, told_over}
+use Rattle.row_keeper.specs.Shaped.{Shaped, by}
 use Rattle.row_keeper.specs.Tables.{Tables, rows_told}
 use Rattle.row_queries.specs.declared.rows.Row.{Row}
 use Rattle.session_state.specs.Sessions.{SessionState}
@@ -71,15 +71,15 @@ same_loan : (a b : ℕ) (x y : Option ℕ) → loans_of a x ≡ loans_of b y →
 same_loan a b x y e = cc
 
 -- the keeper is as it was, but that it may have fallen silent
-pub has_read : (n m : Names) (reads rs : List Source) (day d : Data) (s u : SessionState) (values vs : List Data) (limit l : ℕ) (name new : ℕ) (x y b then : Option Tables) (shaped was : Option Schema) (mode other : Bool)
-    (before now : Marks) (met seen : ℕ) (loan lent : Option ℕ) → shaped ≡ Some n.schema → was ≡ Some m.schema →
+pub has_read : (n m : Names) (reads rs : List Source) (day d : Data) (s u : SessionState) (values vs : List Data) (limit l : ℕ) (name new : ℕ) (x y b then : Option Tables) (shaped was : Shaped) (mode other : Bool)
+    (before now : Marks) (met seen : ℕ) (loan lent : Option ℕ) → shaped ≡ by n.schema → was ≡ by m.schema →
     fixed_over m rs (told_by d m u vs) l (loans_of new lent) other ≡ fixed_over n reads (told_by day n s values) limit (loans_of name loan) mode →
     MayFallSilent (SilenceCause before now) Stays (option_map (told_over day n s values b) x) (option_map (told_over d m u vs then) y) → IsLater before now → met ≤ seen → (x ≡ None → b ≡ None) → (y ≡ None → then ≡ None) →
     HasRead (keeping x b shaped mode before met loan) (keeping y then was other now seen lent)
 has_read n m reads rs day d s u values vs limit l name new x y b then shaped was mode other before now met seen loan lent h k fixed told later more before_is after_is = record {
   told = stays_told (SilenceCause before now) (told_over day n s values b) (told_over d m u vs then) (whole day n s values b) (whole d m u vs then) x y told;
   began = began_stays (SilenceCause before now) (told_over day n s values b) (told_over d m u vs then) b then (λ t. refl) (λ t. refl) x y before_is after_is told;
-  shaped = k ∙ ap (λ (f : Fixed). Some f.schema) fixed ∙ sym h;
+  shaped = k ∙ ap (λ (f : Fixed). by f.schema) fixed ∙ sym h;
   mode = ap (λ (f : Fixed). f.in_transaction) fixed;
   later = later;
   visited = more;

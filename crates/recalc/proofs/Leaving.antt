@@ -1,5 +1,5 @@
 -- Clean cells that are left so, call after call.
-use Rattle.std.proofs.Common.{◌≡◌, ◌+◌, ◌^◌, ◌<◌, ◌≤◌, ℕ, List, [], sym, subst, arith, inl, inr}
+use Rattle.std.proofs.Common.{◌+◌, ◌^◌, List, [], sym, subst, arith, inl, inr}
 use Rattle.std.proofs.lemmas.Bool.{cases_lt}
 use Rattle.fx_types.specs.Values.{Data}
 use Rattle.fx_core.specs.Reads.{IsAmong}

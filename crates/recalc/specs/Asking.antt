@@ -6,7 +6,7 @@ use Rattle.app_semantics.specs.Fresh.{reads_table}
 use Rattle.fx_base.specs.Silence.{MayFallSilent, IsLater, SilenceCause, Marks}
 use Rattle.fx_base.specs.Telling.{Stays}
 use Rattle.fx_env.specs.Telling.{IsHeard}
-use Rattle.fx_core.specs.declared.schema.Schema.{Schema}
+use Rattle.row_keeper.specs.Shaped.{Shaped, by}
 use Rattle.row_keeper.specs.Tables.{Tables, rows_told}
 use Rattle.row_queries.specs.declared.rows.Row.{Row}
 
@@ -14,14 +14,13 @@ use Rattle.row_queries.specs.declared.rows.Row.{Row}
 pub record Keeping : Type 0 where
   pub told : Option Tables
   pub began : Option Tables
-  pub shaped : Option Schema
+  pub shaped : Shaped
   pub in_transaction : Bool
   pub marks : Marks
   pub visited : ℕ
   pub loan : Option ℕ
 
-abbrev pub keeping : Option Tables → Option Tables → Option Schema → Bool → Marks → ℕ → Option ℕ
-    → Keeping
+abbrev pub keeping : Option Tables → Option Tables → Shaped → Bool → Marks → ℕ → Option ℕ → Keeping
 keeping told began shaped in_transaction marks visited loan
     = record {
       told = told;
@@ -57,5 +56,5 @@ ReadsNone a = (k : ℕ) (c : CellInfo) → slice_get a.cells k ≡ Some c → re
 
 -- a keeper can be asked for the rows that the formulas of an app read: it is shaped by the app's
 -- schema, or they read none
-abbrev pub CanAsk : App → Option Schema → Type 0
-CanAsk a shaped = (shaped ≡ Some a.names.schema) ⊎ ReadsNone a
+abbrev pub CanAsk : App → Shaped → Type 0
+CanAsk a shaped = (shaped ≡ by a.names.schema) ⊎ ReadsNone a

@@ -32,8 +32,8 @@ pub record IsIdle (a : App) (c : CacheState) (k : ℕ) : Type 0 where
       → fits_in (cached_value c k) (shape i.ty) ≡ true
 
 -- FILLING: so many cells of the order were seen
-pub record IsFilling (old new : App) (before from : CacheState) (i : ℕ) (after : CacheState)
-    : Type 0 where
+pub record IsFilling (old new : App) (before from : CacheState) (i : ℕ) (after : CacheState) :
+    Type 0 where
   pub kept : (k : ℕ) (e : Stamp) → stamp_of after k ≡ Some e → IsFrom old new before after k e
   pub had : (k : ℕ) (e : Stamp) → stamp_of after k ≡ Some e → AreHad new after k
   pub unkept : (k : ℕ) → stamp_of after k ≡ None → IsIdle new after k

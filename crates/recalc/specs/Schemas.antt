@@ -1,6 +1,6 @@
 -- That a schema is lawful is a fact, and so is which schema a keeper is shaped by.
-use Rattle.std.specs.Prelude.{◌≡◌, List, [], ◌∷◌, Option}
-use Rattle.std.specs.Coded.{Coded-set, coded_option}
+use Rattle.std.specs.Prelude.{◌≡◌, List, [], ◌∷◌}
+use Rattle.std.specs.Coded.{Coded-set, codes}
 use Rattle.std.proofs.Props.{props}
 use Rattle.fx_types.specs.declared.types.Ty.{Ty}
 use Rattle.fx_types.specs.declared.types.Ty.TheVariants as ty
@@ -9,9 +9,10 @@ use Rattle.fx_core.specs.Lawful.{IsLawfulTable}
 use Rattle.fx_core.specs.contracts.schema.Schema.{the_row}
 use Rattle.fx_core.specs.declared.schema.Schema.{Schema}
 use Rattle.fx_core.specs.declared.schema.TableShape.{TableShape}
+use Rattle.row_keeper.specs.Shaped.{Shaped}
 
-pub shaped_prop : (x y : Option Schema) → IsProp (x ≡ y)
-shaped_prop x y = Coded-set (coded_option the_row.coded) x y
+pub shaped_prop : (x y : Shaped) → IsProp (x ≡ y)
+shaped_prop x y = Coded-set (hlevel (codes, the_row.coded)) x y
 
 pub differs_prop : {A : Type 0} (x : A) (ys : List A) → IsProp (DiffersFromAll x ys)
 differs_prop x [] = hlevel props

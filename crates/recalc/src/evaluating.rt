@@ -19,6 +19,7 @@ ghost use Rattle.recalc.specs.Values.{CellsFit};
 ghost use Rattle.recalc.specs.Visits.{FormulaVisits, WhereTold};
 ghost use Rattle.row_keeper.specs.Over.{HasCause};
 ghost use Rattle.row_keeper.specs.declared.keeper.KeeperEnd.TheVariants.{Failed};
+ghost use Rattle.row_keeper.specs.Shaped.{by};
 
 use crate::app_cells::{App, CellInfo};
 use crate::reading::Reading;
@@ -76,7 +77,7 @@ pub(crate) fn formula_value<K: Keeper, L: Ledger>(
     requires item { IsItemFit (option_map view item) (item_context app.now.names info.now.cell.item) }
     requires day { (moment : ℕ) × IsToday moment (view day.now) }
     requires shaped { reads_any info.now.reads ≡ true
-        → K.shaped keeper.old ≡ Some app.now.names.schema }
+        → K.shaped keeper.old ≡ by app.now.names.schema }
     ensures value { IfOk result (λ v. (moment : ℕ) (tables : ToldRows)
         → IsToday moment (view day.now) → IsHeardOf (K.told keeper.new) tables →
         IsValueOf (present app.now session.now tables moment) (cell_value (map view values.now))
@@ -173,7 +174,7 @@ fn value_over_rows<'a, K: Keeper, L: Ledger>(
     requires fits { CellsFit app.now (cell_value (map view values.now)) }
     requires item { IsItemFit (option_map view item) (item_context app.now.names info.now.cell.item) }
     requires day { (moment : ℕ) × IsToday moment (view day.now) }
-    requires shaped { K.shaped keeper.old ≡ Some app.now.names.schema }
+    requires shaped { K.shaped keeper.old ≡ by app.now.names.schema }
     ensures value { IfOk result (λ v. (moment : ℕ) (tables : ToldRows)
         → IsToday moment (view day.now) → IsHeardOf (K.told keeper.new) tables →
         IsValueOf (present app.now session.now tables moment) (cell_value (map view values.now))

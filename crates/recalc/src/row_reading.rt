@@ -9,6 +9,7 @@ ghost use Rattle.recalc.specs.Holds.{holds_prop};
 ghost use Rattle.recalc.specs.Reading.{KeeperState, fixed_over, loans_of, told_by, told_over};
 ghost use Rattle.recalc.specs.Schemas.{schema_prop, shaped_prop};
 ghost use Rattle.recalc.specs.Stops.{stop_of as stop_by};
+ghost use Rattle.row_keeper.specs.Shaped.{by};
 
 use crate::source_values::given_value;
 use crate::tables::table_value;
@@ -38,7 +39,7 @@ pub(crate) struct RowReading<'a, K: Keeper> {
     pub(crate) limit: u32,
     ghost holds: { HoldsFitting names.now session.now } by { Prim.hlevel (holds_prop, Bool-set) },
     ghost lawful: { IsLawfulSchema names.now.schema } by { schema_prop names.now.schema },
-    ghost shaped: { K.shaped keeper.now ≡ Some names.now.schema } by { shaped_prop (K.shaped keeper.now) (Some names.now.schema) },
+    ghost shaped: { K.shaped keeper.now ≡ by names.now.schema } by { shaped_prop (K.shaped keeper.now) (by names.now.schema) },
 }
 
 /// Why an evaluation stops where the keeper gives no answer.

@@ -7,6 +7,7 @@ ghost use Rattle.recalc.specs.Asking.{HasRead};
 ghost use Rattle.recalc.specs.Queries.{IsTableValue, whole_table as whole_query};
 ghost use Rattle.row_keeper.specs.Over.{Becomes, BeganStays, HasCause};
 ghost use Rattle.row_keeper.specs.Tables.{rows_told};
+ghost use Rattle.row_keeper.specs.Shaped.{by};
 ghost use Rattle.row_queries.specs.TableRows.{rows_at};
 
 use crate::fx_plan::ranges::everything;
@@ -43,7 +44,7 @@ pub fn table_value<K: Keeper>(
     table: u16,
 ) -> Result<Value, KeeperEnd>
     requires lawful { IsLawfulSchema schema.now }
-    requires shaped { K.shaped keeper.old ≡ Some schema.now }
+    requires shaped { K.shaped keeper.old ≡ by schema.now }
     requires table { IsSome (slice_get schema.now.tables table) }
     ensures value { IfOk result (λ v. IsTableValue schema.now.tables (rows_told (K.told keeper.new))
         table (view v)) }

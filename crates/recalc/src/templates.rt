@@ -24,6 +24,7 @@ ghost use Rattle.recalc.specs.Templates.{IsTemplateProperty, StandsIn, steps_of}
 ghost use Rattle.recalc.specs.Values.{CellsFit, value_of};
 ghost use Rattle.recalc.specs.Visits.{WhereTold};
 ghost use Rattle.row_keeper.specs.Over.{HasCause};
+ghost use Rattle.row_keeper.specs.Shaped.{by};
 
 use crate::app_cells::App;
 use crate::session_sources::cell_of_property;
@@ -73,7 +74,7 @@ pub fn is_visible_for_item<K: Keeper, L: Ledger>(
     requires day { (moment : ℕ) × IsToday moment valued.now.day }
     requires stands { StandsIn app.now.names control gallery }
     requires item { IsItemFit (Some (record_of row.now)) (item_context app.now.names (Some gallery)) }
-    requires shaped { K.shaped keeper.old ≡ Some app.now.names.schema }
+    requires shaped { K.shaped keeper.old ≡ by app.now.names.schema }
     ensures shows { IfOk result (λ b. (moment : ℕ) (tables : ToldRows)
         → IsToday moment valued.now.day → IsHeardOf (K.told keeper.new) tables →
         (v : Data) × IsPropertyForItem (present app.now session.now tables moment)
@@ -119,7 +120,7 @@ pub fn property_for_item<K: Keeper, L: Ledger>(
     requires property { IsTemplateProperty app.now gallery
         (leaning.cell_of_property app.now.names control name.now) }
     requires item { IsItemFit (Some (record_of row.now)) (item_context app.now.names (Some gallery)) }
-    requires shaped { K.shaped keeper.old ≡ Some app.now.names.schema }
+    requires shaped { K.shaped keeper.old ≡ by app.now.names.schema }
     ensures shows { IfOk result (λ v. (moment : ℕ) (tables : ToldRows)
         → IsToday moment valued.now.day → IsHeardOf (K.told keeper.new) tables →
         IsPropertyForItem (present app.now session.now tables moment) (value_of valued.now)
@@ -161,7 +162,7 @@ fn cell_for_item<K: Keeper, L: Ledger>(
     requires day { (moment : ℕ) × IsToday moment valued.now.day }
     requires cell { IsTemplateProperty app.now gallery (Some cell) }
     requires item { IsItemFit (Some (record_of row.now)) (item_context app.now.names (Some gallery)) }
-    requires shaped { K.shaped keeper.old ≡ Some app.now.names.schema }
+    requires shaped { K.shaped keeper.old ≡ by app.now.names.schema }
     ensures shows { IfOk result (λ v. (moment : ℕ) (tables : ToldRows)
         → IsToday moment valued.now.day → IsHeardOf (K.told keeper.new) tables →
         (c : Info) × (slice_get app.now.cells cell ≡ Some c)

@@ -16,6 +16,7 @@ ghost use Rattle.recalc.specs.AskingOver.{HasRead};
 ghost use Rattle.recalc.specs.Reading.{cell_value};
 ghost use Rattle.row_keeper.specs.Over.{HasCause};
 ghost use Rattle.row_keeper.specs.declared.keeper.KeeperEnd.TheVariants.{Failed};
+ghost use Rattle.row_keeper.specs.Shaped.{by};
 ghost use Rattle.recalc.specs.Values.{CellsFit, value_of};
 
 use crate::app_cells::{App, CellInfo};
@@ -218,7 +219,7 @@ impl Valued {
         requires cell { (k : ℕ) × (slice_get app.now.cells k ≡ Some info.now) }
         requires quiet { info.now.cell.acts ≡ false }
         requires item { IsItemFit (Some (view item)) (item_context app.now.names info.now.cell.item) }
-        requires shaped { K.shaped keeper.old ≡ Some app.now.names.schema }
+        requires shaped { K.shaped keeper.old ≡ by app.now.names.schema }
         ensures value { IfOk result (λ v. (moment : ℕ) (tables : ToldRows)
             → IsToday moment self.now.day → IsHeardOf (K.told keeper.new) tables →
             IsValueOf (present app.now session.now tables moment) (value_of self.now)

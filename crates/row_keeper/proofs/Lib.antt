@@ -5,11 +5,13 @@ pub mod FoundLemmas
 pub mod HeldLemmas
 pub mod HitLemmas
 pub mod MarkLemmas
+pub mod MovedLemmas
 pub mod NumberedRows
 pub mod PageLemmas
 pub mod PutLemmas
 pub mod RowLists
 pub mod RuleLemmas
+pub mod ShapeLemmas
 pub mod SlotLemmas
 pub mod SoundLemmas
 pub mod StoreLemmas

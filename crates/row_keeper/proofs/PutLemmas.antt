@@ -1,5 +1,5 @@
 -- The rules of rows: where none is broken there is room, and each names its column.
-use Rattle.std.proofs.Common.{◌≡◌, ◌⊎◌, inl, inr, ℕ, ◌+◌, ◌-◌, ◌^◌, ◌==◌, ◌<◌, ◌≤◌, List, [], ◌∷◌, length, refl, arith, Bool, true, false, cond, ◌||◌, Option, None, Some, subst}
+use Rattle.std.proofs.Common.{◌≡◌, ◌≢◌, ◌∙◌, ap, ◌⊎◌, inl, inr, ℕ, ◌+◌, ◌-◌, ◌^◌, ◌==◌, ◌<◌, ◌≤◌, List, [], ◌∷◌, length, refl, arith, Bool, true, false, cond, ◌||◌, Option, None, Some, subst}
 use Rattle.std.specs.Prelude.{nat_le, nat_lt, is_none, ◌&&◌}
 use Rattle.std.proofs.lemmas.Bool.Decides.{nat_tests}
 use Rattle.fx_types.specs.Values.{Data}
@@ -106,4 +106,40 @@ names columns s all id cells r h = at_required (first_or_second required (first_
 
     at_required : (required ≡ Some r) ⊎ (first_of_two unique (first_of_two size full) ≡ Some r) → Names columns r
     at_required (inl e) = required_names columns _ (below lacks 1 columns cells) r e
+    at_required (inr e) = at_unique (first_or_second unique (first_of_two size full) r e)
+
+-- ---- a row that is there never finds its table full
+not_in_column : (rule : RowRule) → rule ≢ Full → (o : Option ℕ) (r : RowRefusal) → in_column rule o ≡ Some r → r.rule ≢ Full
+not_in_column rule other None r e = absurd cc
+not_in_column rule other (Some k) r e = λ f. other (let q : (let x : RowRefusal = record { column = Some k; rule = rule } in x) ≡ r = cc in ap (λ (x : RowRefusal). x.rule) q ∙ f)
+
+not_size : (b : Bool) (r : RowRefusal) → where_broken Size b ≡ Some r → r.rule ≢ Full
+not_size false r e = absurd cc
+not_size true r e = λ f. absurd (let q : (let x : RowRefusal = record { column = None; rule = Size } in x) ≡ r = cc in let z : Size ≡ Full = ap (λ (x : RowRefusal). x.rule) q ∙ f in cc)
+
+pub not_full : (columns : List Column) (s : TableState) (all id : ℕ) (cells : List Data) (r : RowRefusal) → rule_in columns s all (Some id) cells ≡ Some r → r.rule ≢ Full
+not_full columns s all id cells r h = at_required (first_or_second required (first_of_two unique (first_of_two size full)) r h)
+  where
+    required : Option RowRefusal
+    required = in_column Required (first_broken lacks 1 columns cells)
+
+    unique : Option RowRefusal
+    unique = in_column Unique (first_broken (repeats (others (Some id) s.rows)) 1 columns cells)
+
+    size : Option RowRefusal
+    size = where_broken Size (nat_lt 2048 (cells_weight cells))
+
+    full : Option RowRefusal
+    full = None
+
+    at_size : (size ≡ Some r) ⊎ (full ≡ Some r) → r.rule ≢ Full
+    at_size (inl e) = not_size (nat_lt 2048 (cells_weight cells)) r e
+    at_size (inr e) = absurd cc
+
+    at_unique : (unique ≡ Some r) ⊎ (first_of_two size full ≡ Some r) → r.rule ≢ Full
+    at_unique (inl e) = not_in_column Unique (λ f. absurd cc) (first_broken (repeats (others (Some id) s.rows)) 1 columns cells) r e
+    at_unique (inr e) = at_size (first_or_second size full r e)
+
+    at_required : (required ≡ Some r) ⊎ (first_of_two unique (first_of_two size full) ≡ Some r) → r.rule ≢ Full
+    at_required (inl e) = not_in_column Required (λ f. absurd cc) (first_broken lacks 1 columns cells) r e
     at_required (inr e) = at_unique (first_or_second unique (first_of_two size full) r e)

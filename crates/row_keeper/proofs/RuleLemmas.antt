@@ -204,7 +204,7 @@ module _ {X Y : Type 0} (g : X → Y) (f : Y → ℕ) where
   sum_more xs i x l e = ap (λ l. sum_by f (map g l)) (take_more xs i x l ∙ ap (λ y. take i xs ++ y ∷ []) (sym e)) ∙ sum_push (take i xs) x
 
 -- ---- the first column that breaks a rule
-next_of : {X : Type 0} (xs : List X) (i : ℕ) (x : X) → slice_get xs i ≡ Some x → drop i xs ≡ x ∷ drop (i + 1) xs
+pub next_of : {X : Type 0} (xs : List X) (i : ℕ) (x : X) → slice_get xs i ≡ Some x → drop i xs ≡ x ∷ drop (i + 1) xs
 next_of [] i x h = absurd cc
 next_of (y ∷ ys) zero x h = let e : y ≡ x = cc in let z : drop (0 + 1) (y ∷ ys) ≡ ys = refl in ap (λ w. w ∷ ys) e
 next_of (y ∷ ys) (suc i) x h = next_of ys i x h ∙ ap (λ n. x ∷ drop n (y ∷ ys)) (let e : suc (i + 1) ≡ suc i + 1 = omega arith in e)

@@ -1,11 +1,11 @@
 -- The tables of a store against its schema, and what calls make of them.
 use Rattle.std.proofs.Common.{◌≡◌, ◌⊎◌, inl, inr, ⊎_elim, ℕ, zero, suc, ◌+◌, ◌==◌, ◌<◌, ◌≤◌, List, [], ◌∷◌, map, length, take, refl, sym, ap, ap₂, ◌∙◌, arith, Bool, true, false, cond, ◌||◌, Option, None, Some, Result, Ok, Err, subst}
-use Rattle.std.specs.Prelude.{slice_index_or, IsSomeAnd, IfOk, OnErr, set, slice_get, unwrap_or}
+use Rattle.std.specs.Prelude.{slice_index_or, IfNone, IfSome, IsSomeAnd, IfOk, OnErr, set, slice_get, unwrap_or}
 use Rattle.std.specs.List.{AllByRecursion, filter, list_any}
 use Rattle.std.specs.List.Sorted.{IsPermutation, IsSorted}
 use Rattle.std.specs.Ordering.{is_lt, nat_cmp}
 use Rattle.std.proofs.lemmas.Bool.Decides.{nat_tests}
-use Rattle.std.proofs.lemmas.List.{map-set, set-get_or}
+use Rattle.std.proofs.lemmas.List.{length-map, map-set, set-get_or}
 use Rattle.std.proofs.lemmas.List.Elements.{All-filter, All-from_recursion, All-take, recursion_from_All}
 use Rattle.std.proofs.lemmas.List.Sorted.{All-permutation, IsPermutation-refl, length_permutation}
 use Rattle.std.proofs.lemmas.Option.{get_or_from_slice_get}
@@ -23,7 +23,7 @@ use Rattle.row_queries.specs.declared.queries.Query.{Query}
 use Rattle.row_queries.specs.declared.rows.Row.{Row}
 use Rattle.row_keeper.specs.Changes.{Inserts, IsInserted, IsReplaced, Removes, Replaces, Shapes}
 use Rattle.row_keeper.specs.Covered.{covered_of, covers, indexed_from}
-use Rattle.row_keeper.specs.Kept.{IsKept, columns_kept, columns_shaped, empty_table}
+use Rattle.row_keeper.specs.Kept.{IsKept, IsOfSchema, columns_kept, columns_shaped, empty_table, kept_then, schema_then}
 use Rattle.row_keeper.specs.OneTable.{ChangesAt, PutsNew, PutsOver, TakesOut, view_restored, view_settled, with_now}
 use Rattle.row_keeper.specs.Pages.{AreFirstRows}
 use Rattle.row_keeper.specs.RowRules.{rule_in}
@@ -32,6 +32,7 @@ use Rattle.row_keeper.specs.Sound.{IsSoundTable, IsSoundRow, IsSoundState, lies_
 use Rattle.row_keeper.specs.TableView.{TableView, states_now, states_then}
 use Rattle.row_keeper.specs.Tables.{AreStatesOf, IsStateOf, TableState, Tables, all_rows, columns_at, columns_in, filled_tables, has_id, no_rows, rows_of_tables, shapes_of, state_at, with_cells, with_row, with_state, without_row}
 use Rattle.row_keeper.specs.declared.rows.Put.{Put}
+use Rattle.row_keeper.specs.declared.store.Aside.{Aside}
 use Rattle.row_keeper.specs.declared.rows.Put.TheVariants.{Id, NoRow, Refused}
 use Rattle.row_keeper.proofs.PutLemmas.{names}
 use Rattle.row_keeper.proofs.RowLists.{order_less}
@@ -109,30 +110,38 @@ module _ (tables tables' : List TableView) (place : ℕ) (before after : TableVi
       ap states_now stands ∙ map-set (λ (t : TableView). t.now) tables place after
       ∙ ap (set (states_now tables) place) (ap (λ (t : TableView). t.now) is ∙ ap f (sym (state_there tables place before there)))
 
+-- the tables as the transaction began stay, where those that are there have the rows of then
+pub then_stays : (tables tables' : List TableView) (aside : Option Aside) → states_then tables' ≡ states_then tables → states_then (kept_then tables' aside) ≡ states_then (kept_then tables aside)
+then_stays tables tables' None h = h
+then_stays tables tables' (Some a) h = refl
+
 -- the store stays whole, and its tables as the transaction began stay
-pub stays_kept : {T E : Type 0} (P : T → TableView → TableView → Type 0) → ((x : T) (a b : TableView) → P x a b → Keeps a b) → (schema : Option Schema) (place : ℕ) (tables tables' : List TableView) (is_begun : Bool) (r : Result T E)
-    → IfOk r (λ x. ChangesAt place (P x) tables tables') → OnErr r (tables' ≡ tables) → is_begun ≡ true → IsKept schema tables is_begun → IsKept schema tables' is_begun × (states_then tables' ≡ states_then tables)
-stays_kept P keeps schema place tables tables' is_begun (Err e) ok err begun k = (subst (λ l. IsKept schema l is_begun) (sym err) k, ap states_then err)
-stays_kept P keeps schema place tables tables' is_begun (Ok x) ok err begun k =
+pub stays_kept : {T E : Type 0} (P : T → TableView → TableView → Type 0) → ((x : T) (a b : TableView) → P x a b → Keeps a b) → (schema : Option Schema) (place : ℕ) (tables tables' : List TableView) (aside : Option Aside) (is_begun : Bool) (r : Result T E)
+    → IfOk r (λ x. ChangesAt place (P x) tables tables') → OnErr r (tables' ≡ tables) → is_begun ≡ true → IsKept schema tables aside is_begun → IsKept schema tables' aside is_begun × (states_then (kept_then tables' aside) ≡ states_then (kept_then tables aside))
+stays_kept P keeps schema place tables tables' aside is_begun (Err e) ok err begun k =
+    (subst (λ l. IsKept schema l aside is_begun) (sym err) k, ap (λ l. states_then (kept_then l aside)) err)
+stays_kept P keeps schema place tables tables' aside is_begun (Ok x) ok err begun k =
     let same = keeps x ok.before ok.after ok.goes in (
-      (let q : IsKept schema tables' is_begun = record {
+      (let q : IsKept schema tables' aside is_begun = record {
         columns = unseen tables tables' place ok.before ok.after ok.is_there ok.stands (λ (t : TableView). t.columns) same.0 ∙ k.columns;
         lawful = k.lawful;
+        apart = k.apart;
+        alone = k.alone;
         still = λ e. absurd (let z : true ≡ false = sym begun ∙ e in cc);
       } in q),
-      unseen tables tables' place ok.before ok.after ok.is_there ok.stands (λ (t : TableView). t.then) same.1,
+      then_stays tables tables' aside (unseen tables tables' place ok.before ok.after ok.is_there ok.stands (λ (t : TableView). t.then) same.1),
     )
 
-pub insert_kept : {E : Type 0} (all : ℕ) (cells : List Data) (schema : Option Schema) (place : ℕ) (tables tables' : List TableView) (is_begun : Bool) (r : Result Put E)
-    → IfOk r (λ put. ChangesAt place (PutsNew all cells put) tables tables') → OnErr r (tables' ≡ tables) → is_begun ≡ true → IsKept schema tables is_begun → IsKept schema tables' is_begun × (states_then tables' ≡ states_then tables)
+pub insert_kept : {E : Type 0} (all : ℕ) (cells : List Data) (schema : Option Schema) (place : ℕ) (tables tables' : List TableView) (aside : Option Aside) (is_begun : Bool) (r : Result Put E)
+    → IfOk r (λ put. ChangesAt place (PutsNew all cells put) tables tables') → OnErr r (tables' ≡ tables) → is_begun ≡ true → IsKept schema tables aside is_begun → IsKept schema tables' aside is_begun × (states_then (kept_then tables' aside) ≡ states_then (kept_then tables aside))
 insert_kept all cells = stays_kept (PutsNew all cells) (new_keeps all cells)
 
-pub replace_kept : {E : Type 0} (all id : ℕ) (cells : List Data) (schema : Option Schema) (place : ℕ) (tables tables' : List TableView) (is_begun : Bool) (r : Result Put E)
-    → IfOk r (λ put. ChangesAt place (PutsOver all id cells put) tables tables') → OnErr r (tables' ≡ tables) → is_begun ≡ true → IsKept schema tables is_begun → IsKept schema tables' is_begun × (states_then tables' ≡ states_then tables)
+pub replace_kept : {E : Type 0} (all id : ℕ) (cells : List Data) (schema : Option Schema) (place : ℕ) (tables tables' : List TableView) (aside : Option Aside) (is_begun : Bool) (r : Result Put E)
+    → IfOk r (λ put. ChangesAt place (PutsOver all id cells put) tables tables') → OnErr r (tables' ≡ tables) → is_begun ≡ true → IsKept schema tables aside is_begun → IsKept schema tables' aside is_begun × (states_then (kept_then tables' aside) ≡ states_then (kept_then tables aside))
 replace_kept all id cells = stays_kept (PutsOver all id cells) (over_keeps all id cells)
 
-pub remove_kept : {E : Type 0} (id : ℕ) (schema : Option Schema) (place : ℕ) (tables tables' : List TableView) (is_begun : Bool) (r : Result Bool E)
-    → IfOk r (λ was. ChangesAt place (TakesOut id was) tables tables') → OnErr r (tables' ≡ tables) → is_begun ≡ true → IsKept schema tables is_begun → IsKept schema tables' is_begun × (states_then tables' ≡ states_then tables)
+pub remove_kept : {E : Type 0} (id : ℕ) (schema : Option Schema) (place : ℕ) (tables tables' : List TableView) (aside : Option Aside) (is_begun : Bool) (r : Result Bool E)
+    → IfOk r (λ was. ChangesAt place (TakesOut id was) tables tables') → OnErr r (tables' ≡ tables) → is_begun ≡ true → IsKept schema tables aside is_begun → IsKept schema tables' aside is_begun × (states_then (kept_then tables' aside) ≡ states_then (kept_then tables aside))
 remove_kept id = stays_kept (TakesOut id) (out_keeps id)
 
 -- ---- what the calls answer
@@ -212,19 +221,65 @@ restored_columns : (tables : List TableView) → columns_kept (map view_restored
 restored_columns [] = refl
 restored_columns (t ∷ ts) = ap (λ l. t.columns ∷ l) (restored_columns ts)
 
-pub settled_kept : (schema : Option Schema) (tables : List TableView) (was is : Bool) → IsKept schema tables was → IsKept schema (map view_settled tables) is
-settled_kept schema tables was is k = record {
+pub settled_kept : (schema : Option Schema) (tables : List TableView) (aside : Option Aside) (was is : Bool) → IsKept schema tables aside was → IsKept schema (map view_settled tables) None is
+settled_kept schema tables aside was is k = record {
   columns = settled_columns tables ∙ k.columns;
   lawful = k.lawful;
+  apart = tt;
+  alone = λ e. refl;
   still = λ e. settled_then tables ∙ sym (settled_now tables);
 }
 
-pub restored_kept : (schema : Option Schema) (tables : List TableView) (was is : Bool) → IsKept schema tables was → IsKept schema (map view_restored tables) is
-restored_kept schema tables was is k = record {
+-- what was put aside is of its schema, and so are the tables where nothing was
+pub kept_before : (schema : Option Schema) (tables : List TableView) (aside : Option Aside) (was : Bool) → IsKept schema tables aside was → IsOfSchema (schema_then schema aside) (kept_then tables aside)
+kept_before schema tables None was k = record { columns = k.columns; lawful = k.lawful }
+kept_before schema tables (Some a) was k = k.apart
+
+pub restored_kept : (schema : Option Schema) (tables : List TableView) (is : Bool) → IsOfSchema schema tables → IsKept schema (map view_restored tables) None is
+restored_kept schema tables is k = record {
   columns = restored_columns tables ∙ k.columns;
   lawful = k.lawful;
+  apart = tt;
+  alone = λ e. refl;
   still = λ e. restored_then tables ∙ sym (restored_now tables);
 }
+
+-- ---- the tables move
+-- what stood there as the transaction began is what was put aside first
+pub kept_aside : (schema : Option Schema) (tables : List TableView) (aside made : Option Aside) (it : Aside) (is_begun : Bool) → IsKept schema tables aside is_begun → it.schema ≡ schema → it.tables.items ≡ tables
+    → IfSome aside (λ (a : Aside). made ≡ Some a) → IfNone aside (made ≡ Some it) → IfSome made (λ (a : Aside). IsOfSchema a.schema a.tables.items)
+    × ((new : Option Schema) (news : List TableView) → (schema_then new made ≡ schema_then schema aside) × (states_then (kept_then news made) ≡ states_then (kept_then tables aside)))
+kept_aside schema tables None made it is_begun k s t first now = (
+  subst (λ (o : Option Aside). IfSome o (λ (a : Aside). IsOfSchema a.schema a.tables.items)) (sym now) (let q : IsOfSchema it.schema it.tables.items = record {
+    columns = ap columns_kept t ∙ k.columns ∙ ap (λ (o : Option Schema). columns_shaped (shapes_of o)) (sym s);
+    lawful = subst (λ (o : Option Schema). IfSome o IsLawfulSchema) (sym s) k.lawful;
+  } in q),
+  λ new news. (ap (schema_then new) now ∙ s, ap (λ (o : Option Aside). states_then (kept_then news o)) now ∙ ap states_then t),
+)
+kept_aside schema tables (Some a) made it is_begun k s t first now = (
+  subst (λ (o : Option Aside). IfSome o (λ (b : Aside). IsOfSchema b.schema b.tables.items)) (sym first) k.apart,
+  λ new news. (ap (schema_then new) first, ap (λ (o : Option Aside). states_then (kept_then news o)) first),
+)
+
+-- other tables under another schema, where a transaction is begun
+pub moved_kept : (schema : Schema) (tables : List TableView) (aside : Option Aside) → IsLawfulSchema schema → columns_kept tables ≡ columns_shaped schema.tables → IfSome aside (λ (a : Aside). IsOfSchema a.schema a.tables.items)
+    → (is_begun : Bool) → is_begun ≡ true → IsKept (Some schema) tables aside is_begun
+moved_kept schema tables aside lawful columns apart is_begun begun = record {
+  columns = columns;
+  lawful = lawful;
+  apart = apart;
+  alone = λ e. absurd (let z : true ≡ false = sym begun ∙ e in cc);
+  still = λ e. absurd (let z : true ≡ false = sym begun ∙ e in cc);
+}
+
+-- there are as many tables as shapes
+pub few_tables : (s : Schema) (tables : List TableView) → IsLawfulSchema s → columns_kept tables ≡ columns_shaped s.tables → length tables ≤ 32
+few_tables s tables h e =
+    let here = length-map tables (λ (t : TableView). t.columns) in
+    let there = length-map s.tables (λ (t : TableShape). t.columns) in
+    let same = ap length e in
+    let most = h.0 in
+    omega (arith, here, there, same, most)
 
 -- ---- a schema is kept
 weaker : {X : Type 0} (P Q : X → Type 0) → ((x : X) → P x → Q x) → (xs : List X) → AllByRecursion P xs → AllByRecursion Q xs
@@ -256,8 +311,14 @@ empty_then : (shapes : List TableShape) → states_then (map empty_table shapes)
 empty_then [] = refl
 empty_then (s ∷ ss) = ap (λ l. no_rows ∷ l) (empty_then ss)
 
-pub empty_kept : (s : Schema) (is_begun : Bool) → IsLawfulSchema s → IsKept (Some s) (map empty_table s.tables) is_begun
-empty_kept s is_begun h = record { columns = empty_columns s.tables; lawful = h; still = λ e. empty_then s.tables }
+pub empty_kept : (s : Schema) (aside : Option Aside) (is_begun : Bool) → IsLawfulSchema s → aside ≡ None → IsKept (Some s) (map empty_table s.tables) aside is_begun
+empty_kept s aside is_begun h none = record {
+  columns = empty_columns s.tables;
+  lawful = h;
+  apart = subst (λ (o : Option Aside). IfSome o (λ (a : Aside). IsOfSchema a.schema a.tables.items)) (sym none) tt;
+  alone = λ e. none;
+  still = λ e. empty_then s.tables;
+}
 
 -- no schema was kept, and there were no tables
 pub shapes_none : (s : Schema) (tables : List TableView) → columns_kept tables ≡ [] → Shapes s None (record { kept = None; states = states_now tables }) (record { kept = Some s; states = states_now (map empty_table s.tables) })

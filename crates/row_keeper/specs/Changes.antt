@@ -1,7 +1,8 @@
 -- How calls change the tables, and what they answer.
-use Rattle.std.specs.Prelude.{◌≡◌, ◌≢◌, ℕ, ◌+◌, ◌≤◌, Bool, true, false, List, length, Option, Some}
-use Rattle.std.specs.Prelude.{None, IfSome, IsSomeAnd}
+use Rattle.std.specs.Prelude.{◌≡◌, ◌≢◌, ◌⊎◌, ℕ, ◌+◌, ◌≤◌, Bool, true, false, List, length, Option}
+use Rattle.std.specs.Prelude.{Some, None, IfSome, IsSomeAnd}
 use Rattle.std.specs.List.{list_any}
+use Rattle.fx_base.specs.Telling.{Stays}
 use Rattle.fx_types.specs.Values.{Data}
 use Rattle.fx_types.specs.declared.aggregates.Totals.{Totals}
 use Rattle.fx_core.specs.declared.schema.Column.{Column}
@@ -26,6 +27,10 @@ abbrev pub Shapes : Schema → Option Schema → Tables → Tables → Type 0
 Shapes schema (Some other) a b = (a.kept ≡ Some other) × (other ≢ schema) × (b ≡ a)
 Shapes schema None a b = IfSome a.kept (λ s. s ≡ schema)
     × (b ≡ record { kept = Some schema; states = filled_tables schema.tables a.states })
+
+-- nothing changes, or the tables have become those of the schema
+abbrev pub StaysOrShapes : Schema → Tables → Tables → Type 0
+StaysOrShapes schema a b = Stays a b ⊎ Shapes schema None a b
 
 -- a new row gets the next number, or is refused by the first rule that it breaks
 abbrev pub Inserts : List Column → ℕ → List Data → Put → Tables → Tables → Type 0

@@ -1,18 +1,25 @@
 //! Rows in memory.
-ghost use Rattle.std.specs.Prelude.{◌≡◌, ◌≤◌, ◌+◌, true, length, map, slice_get, IfOk, IsSomeAnd};
+ghost use Rattle.std.specs.Prelude.{◌≡◌, ◌≢◌, ◌≤◌, ◌+◌, Some, true, false, length, map, slice_get};
+ghost use Rattle.std.specs.Prelude.{IfNone, IfOk, IfSome, IsSome, IsSomeAnd, OnErr, OnOk};
 ghost use Rattle.std.specs.List.{All, AllByRecursion};
+ghost use Rattle.fx_core.specs.Lawful.{IsLawfulSchema};
 ghost use Rattle.row_queries.specs.Queries.{AreAsked, IsQuery, IsScanned};
 ghost use Rattle.row_queries.specs.TableRows.{IsRowOf, rows_at};
 ghost use Rattle.row_queries.specs.Visits.{VisitsAtLeast, VisitsItsRanges};
-ghost use Rattle.row_keeper.specs.InMemory.{unused};
+ghost use Rattle.row_keeper.specs.Causes.{HasCause, end_of};
+ghost use Rattle.row_keeper.specs.Changes.{Shapes};
+ghost use Rattle.row_keeper.specs.InMemory.{EndsAsPlanned, EndsByPlan, memory_marks, unused};
 ghost use Rattle.row_keeper.specs.Pages.{IsPage};
+ghost use Rattle.row_keeper.specs.Shaped.{by};
 ghost use Rattle.row_keeper.specs.Skips.{numbers_passed};
-ghost use Rattle.row_keeper.specs.Tables.{rows_of_tables, shapes_of};
+ghost use Rattle.row_keeper.specs.StoreView.{shape_of, tables_now};
+ghost use Rattle.row_keeper.specs.Tables.{AreStatesOf, rows_of_tables, shapes_of};
 
 use crate::answers::{answer, give_rows, values_in};
 use crate::keeper::{Keeper, KeeperEnd};
+use crate::moves::TableMove;
 use crate::pages::{give_page, page_size};
-use crate::rows::Put;
+use crate::rows::{Put, Reshaped};
 use crate::scans::list;
 use crate::store::Store;
 use fx_base::Memory;
@@ -195,20 +202,21 @@ impl MemoryKeeper {
 }
 
 impl Keeper for MemoryKeeper {
-    ghost use Rattle.std.specs.Prelude.{None, Some};
+    ghost use Rattle.std.specs.Prelude.{None};
     ghost use Rattle.std.proofs.Common.{sym};
     ghost use Rattle.std.proofs.lemmas.Option.{none-some};
-    ghost use Rattle.row_keeper.specs.InMemory.{EndsAsPlanned, EndsWithoutMemory, EndsByPlan};
-    ghost use Rattle.row_keeper.specs.InMemory.{memory_marks};
-    ghost use Rattle.row_keeper.specs.StoreView.{tables_now, tables_then};
+    ghost use Rattle.row_keeper.specs.InMemory.{EndsWithoutMemory};
+    ghost use Rattle.row_keeper.specs.StoreView.{tables_then};
 
     ghost told = { λ k. Some (tables_now k.store) };
 
     ghost began = { λ k. Some (tables_then k.store) };
 
+    ghost leaves = { λ _. None };
+
     ghost attached = { λ k. Some k.name };
 
-    ghost shaped = { λ k. k.store.schema };
+    ghost shaped = { λ k. shape_of k.store };
 
     ghost in_transaction = { λ k. k.store.is_begun };
 
@@ -230,7 +238,16 @@ impl Keeper for MemoryKeeper {
 
     ghost heard = { λ _ h. h };
 
-    fn attach(&mut self, name: &str) -> Result<(), KeeperEnd> {
+    fn attach(&mut self, name: &str) -> Result<(), KeeperEnd>
+        requires idle { self.old.store.is_begun ≡ false }
+        ensures attached { OnOk result (self.new.name ≡ Some name.now) }
+        ensures err { OnErr result (self.new.name ≡ self.old.name) }
+        ensures cause { HasCause (memory_marks self.old) (memory_marks self.new) result }
+        ensures ends { EndsByPlan EndsAsPlanned self.old.plan self.new.plan (end_of result) }
+        // Beside what each keeper ensures: what it keeps of tables stays, and no row is visited.
+        ensures store { self.new.store ≡ self.old.store }
+        ensures visited { self.new.visited ≡ self.old.visited }
+    {
         if self.plan.next_fails() {
             return Err(KeeperEnd::Failed);
         }
@@ -238,7 +255,25 @@ impl Keeper for MemoryKeeper {
         Ok(())
     }
 
-    fn shape(&mut self, schema: &Schema) -> Result<Option<Schema>, KeeperEnd> {
+    fn shape(&mut self, schema: &Schema) -> Result<Option<Schema>, KeeperEnd>
+        requires idle { self.old.store.is_begun ≡ false }
+        requires lawful { IsLawfulSchema schema.now }
+        ensures tables { IfOk result (λ other. Shapes schema.now other (tables_now self.old.store)
+            (tables_now self.new.store)) }
+        ensures another { IfOk result (λ other. IfSome other (λ s. s ≢ schema.now)) }
+        ensures sound { IfOk result (λ other. IfNone other
+            (AreStatesOf schema.now.tables self.new.store.now)) }
+        ensures shaped { IfOk result (λ other. IfNone other
+            (shape_of self.new.store ≡ by schema.now)) }
+        ensures idle { self.new.store.is_begun ≡ false }
+        ensures cause { HasCause (memory_marks self.old) (memory_marks self.new) result }
+        ensures ends { EndsByPlan EndsAsPlanned self.old.plan self.new.plan (end_of result) }
+        // Beside what each keeper ensures: where no schema comes to be kept all stays, and no row
+        // is visited.
+        ensures unshaped { IfOk result (λ other. IsSome other → self.new.store ≡ self.old.store) }
+        ensures err { OnErr result (self.new.store ≡ self.old.store) }
+        ensures around { (self.new.name ≡ self.old.name) × (self.new.visited ≡ self.old.visited) }
+    {
         if self.plan.next_fails() {
             return Err(KeeperEnd::Failed);
         }
@@ -272,6 +307,13 @@ impl Keeper for MemoryKeeper {
             return Err(KeeperEnd::Failed);
         }
         Ok(self.store.remove(table, id)?)
+    }
+
+    fn reshape(&mut self, schema: &Schema, moves: &[TableMove]) -> Result<Reshaped, KeeperEnd> {
+        if self.plan.next_fails() {
+            return Err(KeeperEnd::Failed);
+        }
+        Ok(self.store.reshape(schema, moves)?)
     }
 
     fn commit(&mut self) -> Result<(), KeeperEnd> {
@@ -314,5 +356,9 @@ impl Keeper for MemoryKeeper {
         let rows = give_rows(self.alloc, asked, query)?;
         let values = values_in(self.alloc, rows.as_slice(), column)?;
         Ok(totals(values.as_slice()))
+    }
+
+    fn fits(&self) {
+        self.store.fits();
     }
 }

@@ -32,3 +32,13 @@ pub enum Put {
     /// It breaks a rule.
     Refused(RowRefusal),
 }
+
+/// What became of tables that were to move to another schema.
+#[derive(Clone, Copy, Debug, PartialEq, Eq)]
+pub enum Reshaped {
+    /// They have moved.
+    Done,
+    /// A row of the new table of this number breaks a rule, which is never `Full`, and nothing has
+    /// changed.
+    Broken(u16, RowRefusal),
+}

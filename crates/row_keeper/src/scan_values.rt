@@ -6,6 +6,7 @@ ghost use Rattle.fx_types.specs.ValueView.{view};
 ghost use Rattle.fx_core.specs.Lawful.{IsLawfulSchema, IsLawfulTable};
 ghost use Rattle.row_keeper.specs.Over.{AttachedStays, Becomes, BeganStays, HasCause};
 ghost use Rattle.row_keeper.specs.Tables.{rows_told};
+ghost use Rattle.row_keeper.specs.Shaped.{by};
 ghost use Rattle.row_queries.specs.Answers.{IsScanValue, rows_counted, table_or_fault};
 ghost use Rattle.row_queries.specs.Queries.{IsQuery};
 ghost use Rattle.row_queries.specs.TableRows.{IsRowOf};
@@ -28,7 +29,7 @@ pub fn scan<K: Keeper>(
     query: &Query,
 ) -> Result<Value, KeeperEnd>
     requires lawful { IsLawfulSchema schema.now }
-    requires shaped { K.shaped keeper.old ≡ Some schema.now }
+    requires shaped { K.shaped keeper.old ≡ by schema.now }
     requires query { IsQuery schema.now.tables query.now }
     ensures value { IfOk result (λ v. IsScanValue schema.now.tables (rows_told (K.told keeper.new))
         query.now (view v)) }

@@ -1,6 +1,6 @@
 // The tables of a schema, with a transaction.
 ghost use Rattle.std.specs.Prelude.{◌≡◌, ◌≢◌, ◌≤◌, true, false, List, length, map, slice_get, None};
-ghost use Rattle.std.specs.Prelude.{IfNone, IfOk, IfSome, IsSome, IsSomeAnd, OnErr, OnOk};
+ghost use Rattle.std.specs.Prelude.{Some, IfNone, IfOk, IfSome, IsSome, IsSomeAnd, OnErr, OnOk};
 ghost use Rattle.std.specs.List.{AllByRecursion};
 ghost use Rattle.fx_core.specs.Lawful.{IsLawfulSchema};
 ghost use Rattle.fx_core.specs.declared.schema.TableShape.{TableShape as Shape};
@@ -10,14 +10,20 @@ ghost use Rattle.row_queries.specs.TableRows.{AreCellsOf, AreHeldRows, IsRowOf, 
 ghost use Rattle.row_queries.specs.declared.rows.Row.{Row as RowValue};
 ghost use Rattle.row_keeper.specs.Changes.{Inserts, IsInserted, IsReplaced, Removes, Replaces};
 ghost use Rattle.row_keeper.specs.Changes.{Shapes};
-ghost use Rattle.row_keeper.specs.Kept.{empty_table};
+ghost use Rattle.row_keeper.specs.Kept.{columns_kept, columns_shaped, empty_table, schema_then};
+ghost use Rattle.row_keeper.specs.Kept.{kept_then};
+ghost use Rattle.row_keeper.specs.MovedTables.{AreMoves, IsReshaped, Reshapes};
 ghost use Rattle.row_keeper.specs.Pages.{AreFirstRows};
+ghost use Rattle.row_keeper.specs.Shaped.{by, shaped_so};
 ghost use Rattle.row_keeper.specs.Skips.{numbers_passed};
-ghost use Rattle.row_keeper.specs.StoreView.{no_store, tables_now, tables_then};
+ghost use Rattle.row_keeper.specs.StoreView.{no_store, shape_of, tables_now, tables_then};
+ghost use Rattle.row_keeper.specs.TableView.{states_now};
 ghost use Rattle.row_keeper.specs.Tables.{AreStatesOf, columns_at, rows_of_tables, shapes_of};
 
+use crate::moved::{judge, moved_tables};
+use crate::moves::TableMove;
 use crate::puts::{are_sound, insert_at, remove_at, replace_at, restore_all, settle_all, skip_all};
-use crate::rows::Put;
+use crate::rows::{Put, Reshaped};
 use crate::scans::sort_rows;
 use crate::schemas::{copy_columns, copy_schema, is_same_schema};
 use crate::table::Table;
@@ -26,6 +32,15 @@ use fx_core::{Schema, TableShape};
 use row_queries::{Cells, Query, Row};
 use std::alloc::Global;
 use std::marker::Model;
+use std::mem;
+
+/// What was kept as a transaction began that moved the tables: the schema, and the tables with what
+/// that transaction had made of them.
+#[derive(Drop)]
+struct Aside {
+    schema: Option<Schema>,
+    tables: Vec<Table>,
+}
 
 #[derive(Drop)]
 pub struct Store {
@@ -34,12 +49,14 @@ pub struct Store {
     schema: Option<Schema>,
     /// A table for each of the schema.
     tables: Vec<Table>,
+    /// What was kept before the transaction moved the tables, if it did.
+    aside: Option<Aside>,
     /// Whether a transaction is begun.
     is_begun: bool,
 }
 
 impl Model for Store {
-    ghost use Rattle.row_keeper.specs.Kept.{IsKept};
+    ghost use Rattle.row_keeper.specs.Kept.{IsKept, schema_then, kept_then};
     ghost use Rattle.row_keeper.specs.StoreView.{StoreView};
     ghost use Rattle.row_keeper.specs.TableView.{states_now, states_then};
     ghost use Rattle.std.specs.Coded.{codes};
@@ -52,12 +69,13 @@ impl Model for Store {
 
     ghost view = { λ s. record {
       schema = s.schema;
+      was = schema_then s.schema s.aside;
       now = states_now s.tables.items;
-      then = states_then s.tables.items;
+      then = states_then (kept_then s.tables.items s.aside);
       is_begun = s.is_begun;
     } };
 
-    ghost invariant = { λ s. IsKept s.schema s.tables.items s.is_begun };
+    ghost invariant = { λ s. IsKept s.schema s.tables.items s.aside s.is_begun };
 }
 
 /// A table without rows for each of these shapes.
@@ -73,6 +91,33 @@ fn empty_tables(alloc: Global, shapes: &[TableShape]) -> Result<Vec<Table>, Memo
     Ok(tables)
 }
 
+/// What was put aside first.
+fn first_of(aside: Option<Aside>, now: Aside) -> Option<Aside>
+    ensures first { IfSome aside (λ a. result ≡ Some a) }
+    ensures now { IfNone aside (result ≡ Some now) }
+{
+    match aside {
+        Some(first) => Some(first),
+        None => Some(now),
+    }
+}
+
+/// What was put aside comes back, if something was.
+fn bring_back(schema: &mut Option<Schema>, tables: &mut Vec<Table>, aside: &mut Option<Aside>)
+    ensures schema { schema.new ≡ schema_then schema.old aside.old }
+    ensures tables { tables.new.items ≡ kept_then tables.old.items aside.old }
+    ensures none { aside.new ≡ None }
+{
+    if let Some(was) = aside.take() {
+        let Aside {
+            schema: kept,
+            tables: rows,
+        } = was;
+        *schema = kept;
+        *tables = rows;
+    }
+}
+
 impl Store {
     /// No schema and no transaction.
     pub fn new(alloc: Global) -> Store
@@ -82,6 +127,7 @@ impl Store {
             alloc,
             schema: None,
             tables: Vec::new(alloc),
+            aside: None,
             is_begun: false,
         }
     }
@@ -96,6 +142,8 @@ impl Store {
         ensures another { IfOk result (λ other. IfSome other (λ s. s ≢ schema.now)) }
         ensures sound { IfOk result (λ other. IfNone other
             (AreStatesOf schema.now.tables self.new.now)) }
+        ensures shaped { IfOk result (λ other. IfNone other (shape_of self.new ≡ by schema.now)) }
+        ensures unshaped { IfOk result (λ other. IsSome other → self.new ≡ self.old) }
         ensures idle { self.new.is_begun ≡ false }
         ensures err { OnErr result (self.new ≡ self.old) }
     {
@@ -117,7 +165,7 @@ impl Store {
     pub fn begin(&mut self)
         requires idle { self.old.is_begun ≡ false }
         ensures begun { self.new ≡ record self.old { is_begun = true } }
-        ensures still { self.old.then ≡ self.old.now }
+        ensures still { tables_then self.old ≡ tables_now self.old }
     {
         self.is_begun = true;
     }
@@ -168,6 +216,52 @@ impl Store {
         remove_at(&mut self.tables, table, id)
     }
 
+    /// Moves the tables to another schema, or names the first of the new tables in which a row
+    /// would break a rule. What was there goes aside, unless the transaction moved the tables
+    /// before.
+    pub fn reshape(&mut self, schema: &Schema, moves: &[TableMove]) -> Result<Reshaped, Memory>
+        requires begun { self.old.is_begun ≡ true }
+        requires lawful { IsLawfulSchema schema.now }
+        requires moves { AreMoves (shapes_of self.old.schema) schema.now.tables moves.now }
+        ensures moved { IfOk result (λ r. Reshapes schema.now moves.now r (tables_now self.old)
+            (tables_now self.new)) }
+        ensures sound { IfOk result (IsReshaped (columns_shaped schema.now.tables)) }
+        ensures shaped { IfOk result (λ r. shape_of self.new
+            ≡ shaped_so schema.now r (shape_of self.old)) }
+        ensures began { tables_then self.new ≡ tables_then self.old }
+        ensures begun { self.new.is_begun ≡ true }
+        ensures err { OnErr result (self.new ≡ self.old) }
+    {
+        let tables = moved_tables(self.alloc, &self.tables, schema.tables.as_slice(), moves)?;
+        let judged = judge(self.alloc, &tables)?;
+        match judged {
+            Reshaped::Broken(..) => Ok(judged),
+            Reshaped::Done => {
+                let kept = copy_schema(self.alloc, schema)?;
+                self.put_aside(kept, tables);
+                Ok(Reshaped::Done)
+            }
+        }
+    }
+
+    /// Keeps this schema and these tables. What was there goes aside, unless something is there
+    /// already.
+    fn put_aside(&mut self, schema: Schema, tables: Vec<Table>)
+        requires begun { self.old.is_begun ≡ true }
+        requires lawful { IsLawfulSchema schema }
+        requires columns { columns_kept tables.items ≡ columns_shaped schema.tables }
+        ensures now { tables_now self.new ≡ record {
+          kept = Some schema;
+          states = states_now tables.items;
+        } }
+        ensures then { tables_then self.new ≡ tables_then self.old }
+        ensures begun { self.new.is_begun ≡ true }
+    {
+        let tables = mem::replace(&mut self.tables, tables);
+        let schema = mem::replace(&mut self.schema, Some(schema));
+        self.aside = first_of(self.aside.take(), Aside { schema, tables });
+    }
+
     /// Passes over the numbers up to this one in all tables.
     pub fn skip_to(&mut self, number: u32)
         requires { self.old.is_begun ≡ true }
@@ -178,16 +272,26 @@ impl Store {
 
     /// Ends a transaction with its changes, and takes no memory.
     pub fn settle(&mut self)
-        ensures { self.new ≡ record self.old { then = self.old.now; is_begun = false } }
+        ensures { self.new ≡ record self.old {
+          was = self.old.schema;
+          then = self.old.now;
+          is_begun = false;
+        } }
     {
+        self.aside = None;
         settle_all(&mut self.tables);
         self.is_begun = false;
     }
 
     /// Ends a transaction without its changes, and takes no memory.
     pub fn restore(&mut self)
-        ensures { self.new ≡ record self.old { now = self.old.then; is_begun = false } }
+        ensures { self.new ≡ record self.old {
+          schema = self.old.was;
+          now = self.old.then;
+          is_begun = false;
+        } }
     {
+        bring_back(&mut self.schema, &mut self.tables, &mut self.aside);
         restore_all(&mut self.tables);
         self.is_begun = false;
     }
@@ -209,6 +313,13 @@ impl Store {
         let table = &self.tables[query.table as usize];
         table.is_sound();
         Ok(table.first(query.ranges.as_slice(), most as usize)?)
+    }
+
+    /// A fact about all tables, and no work.
+    pub fn fits(&self)
+        ensures { AreStatesOf (shapes_of self.now.schema) self.now.now }
+    {
+        are_sound(&self.tables);
     }
 
     /// A fact about the rows of a query's table, and no work.

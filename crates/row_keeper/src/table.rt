@@ -242,6 +242,13 @@ impl Table {
         }
     }
 
+    /// All rows, by rising numbers.
+    pub fn rows(&self) -> Result<Vec<Row>, Memory>
+        ensures { IfOk result (λ rows. rows.items ≡ self.now.now.rows) }
+    {
+        all_rows(self.alloc, &self.slots.by_id)
+    }
+
     /// The first rows, at most so many, by rising numbers, of those whose numbers have keys in
     /// ranges.
     pub fn first(&self, ranges: &[KeyRange], most: usize) -> Result<Vec<Row>, Memory>

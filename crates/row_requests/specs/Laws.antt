@@ -13,8 +13,8 @@ use Rattle.row_requests.specs.declared.bodies.Posted.{Posted}
 use Rattle.numbered_requests.specs.declared.directory.Named.{Named}
 
 -- this is kept of a desk: its last accepted request posted changes under the last number
-pub record IsLastPost (desks : List (Named LastRequest)) (name : List ℕ) (k : LastRequest)
-    : Type 0 where
+pub record IsLastPost (desks : List (Named LastRequest)) (name : List ℕ) (k : LastRequest) :
+    Type 0 where
   pub found : find name desks ≡ Some k
   pub value : json.Data
   pub is_json : json_of k.body ≡ Some value

@@ -4,6 +4,7 @@ ghost use Rattle.std.specs.List.{list_any};
 ghost use Rattle.fx_core.specs.Lawful.{IsLawfulSchema};
 ghost use Rattle.row_keeper.specs.Over.{Becomes, BeganStays, HasCause};
 ghost use Rattle.row_keeper.specs.Tables.{columns_at, has_id, state_at};
+ghost use Rattle.row_keeper.specs.Shaped.{by};
 ghost use Rattle.row_requests.specs.AnyKeeper.{MayAdd, MayChange, MayChangeIn, MayRemove};
 ghost use Rattle.row_requests.specs.AnyKeeper.{MayReplace};
 ghost use Rattle.row_requests.specs.Changes.{add_row, change_in_table, change_row};
@@ -72,7 +73,7 @@ fn insert_row<K: Keeper>(
     given: &Given,
 ) -> Result<Changed, KeeperEnd>
     requires begun { K.in_transaction keeper.old ≡ true }
-    requires shaped { K.shaped keeper.old ≡ Some schema.now }
+    requires shaped { K.shaped keeper.old ≡ by schema.now }
     requires lawful { IsLawfulSchema schema.now }
     requires table { table < length schema.now.tables }
     requires sound { AreSound schema.now (K.told keeper.old) }
@@ -111,7 +112,7 @@ fn replace_row<K: Keeper>(
     given: &Given,
 ) -> Result<Changed, KeeperEnd>
     requires begun { K.in_transaction keeper.old ≡ true }
-    requires shaped { K.shaped keeper.old ≡ Some schema.now }
+    requires shaped { K.shaped keeper.old ≡ by schema.now }
     requires lawful { IsLawfulSchema schema.now }
     requires table { table < length schema.now.tables }
     requires sound { AreSound schema.now (K.told keeper.old) }
@@ -151,7 +152,7 @@ fn remove_row<K: Keeper>(
     id: u32,
 ) -> Result<Changed, KeeperEnd>
     requires begun { K.in_transaction keeper.old ≡ true }
-    requires shaped { K.shaped keeper.old ≡ Some schema.now }
+    requires shaped { K.shaped keeper.old ≡ by schema.now }
     requires table { table < length schema.now.tables }
     requires sound { AreSound schema.now (K.told keeper.old) }
     ensures done { IfOk result (λ c. Becomes K.Keeper keeper.old keeper.new
@@ -202,7 +203,7 @@ fn change_table<K: Keeper>(
     change: &Change,
 ) -> Result<Changed, KeeperEnd>
     requires begun { K.in_transaction keeper.old ≡ true }
-    requires shaped { K.shaped keeper.old ≡ Some schema.now }
+    requires shaped { K.shaped keeper.old ≡ by schema.now }
     requires lawful { IsLawfulSchema schema.now }
     requires table { table < length schema.now.tables }
     requires sound { AreSound schema.now (K.told keeper.old) }
@@ -236,7 +237,7 @@ pub(crate) fn change_one<K: Keeper>(
     change: &Change,
 ) -> Result<Changed, KeeperEnd>
     requires begun { K.in_transaction keeper.old ≡ true }
-    requires shaped { K.shaped keeper.old ≡ Some schema.now }
+    requires shaped { K.shaped keeper.old ≡ by schema.now }
     requires lawful { IsLawfulSchema schema.now }
     requires sound { AreSound schema.now (K.told keeper.old) }
     ensures done { IfOk result (λ c. Becomes K.Keeper keeper.old keeper.new

@@ -7,6 +7,7 @@ ghost use Rattle.fx_base.specs.Telling.{Stays};
 ghost use Rattle.fx_core.specs.Lawful.{IsLawfulSchema};
 ghost use Rattle.row_keeper.specs.Over.{Becomes, HasCause};
 ghost use Rattle.row_keeper.specs.declared.keeper.KeeperEnd.TheVariants.{Failed};
+ghost use Rattle.row_keeper.specs.Shaped.{by};
 ghost use Rattle.row_requests.specs.Bodies.{IsSoundPost};
 ghost use Rattle.row_requests.specs.DeskRows.{KeepsRows, PostsRows, ReachesRows};
 ghost use Rattle.numbered_requests.specs.Replies.{IsReply, KeepReplies, said};
@@ -43,7 +44,7 @@ pub fn post_rows<K: Keeper>(
     wrote: &mut Vec<Source>,
 ) -> Result<Reply, KeeperEnd>
     requires idle { K.in_transaction keeper.old ≡ false }
-    requires shaped { K.shaped keeper.old ≡ Some schema.now }
+    requires shaped { K.shaped keeper.old ≡ by schema.now }
     requires lawful { IsLawfulSchema schema.now }
     requires sound { AreSound schema.now (K.told keeper.old) }
     requires kept { KeepReplies desks.old.items }
@@ -138,7 +139,7 @@ fn keep_rows<K: Keeper>(
     wrote: &mut Vec<Source>,
 ) -> Result<Reply, KeeperEnd>
     requires idle { K.in_transaction keeper.old ≡ false }
-    requires shaped { K.shaped keeper.old ≡ Some schema.now }
+    requires shaped { K.shaped keeper.old ≡ by schema.now }
     requires lawful { IsLawfulSchema schema.now }
     requires sound { AreSound schema.now (K.told keeper.old) }
     requires kept { KeepReplies desks.old.items }

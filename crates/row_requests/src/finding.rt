@@ -116,11 +116,11 @@ pub(crate) fn find_row<K: Keeper>(
     table: u16,
     id: u32,
 ) -> Result<Option<Row>, KeeperEnd>
-    requires { IsSome (slice_get (shapes_of (K.shaped keeper.old)) table) }
+    requires { IsSome (slice_get (shapes_of (K.shaped keeper.old).now) table) }
     ensures found { IfOk result (λ r. Becomes K.Keeper keeper.old keeper.new
         (FindsRow table id r)) }
     ensures fit { IfOk result (λ r. IfSome r (λ row. IsSomeAnd
-        (slice_get (shapes_of (K.shaped keeper.old)) table) (λ t. IsRowOf t row))) }
+        (slice_get (shapes_of (K.shaped keeper.old).now) table) (λ t. IsRowOf t row))) }
     ensures began { BeganStays K.Keeper keeper.old keeper.new }
     ensures cause { HasCause K.Keeper keeper.old keeper.new result }
     ensures mode { K.in_transaction keeper.new ≡ K.in_transaction keeper.old }
@@ -146,11 +146,11 @@ pub(crate) fn find_rows<K: Keeper>(
     table: u16,
     after: u32,
 ) -> Result<Vec<Row>, KeeperEnd>
-    requires { IsSome (slice_get (shapes_of (K.shaped keeper.old)) table) }
+    requires { IsSome (slice_get (shapes_of (K.shaped keeper.old).now) table) }
     ensures found { IfOk result (λ rows. Becomes K.Keeper keeper.old keeper.new
         (FindsRows table after rows.items)) }
-    ensures fit { IfOk result (λ rows. IsSomeAnd (slice_get (shapes_of (K.shaped keeper.old)) table)
-        (λ t. All (IsRowOf t) rows.items)) }
+    ensures fit { IfOk result (λ rows. IsSomeAnd
+        (slice_get (shapes_of (K.shaped keeper.old).now) table) (λ t. All (IsRowOf t) rows.items)) }
     ensures visits { VisitsPast table after (K.told keeper.old) (K.visited keeper.old)
         (K.visited keeper.new) }
     ensures err { OnErr result (Becomes K.Keeper keeper.old keeper.new Stays) }

@@ -10,6 +10,7 @@ ghost use Rattle.fx_core.specs.Lawful.{IsLawfulSchema};
 ghost use Rattle.row_queries.specs.TableRows.{AreCellsOf};
 ghost use Rattle.row_keeper.specs.Over.{Becomes, HasCause};
 ghost use Rattle.row_keeper.specs.declared.keeper.KeeperEnd.TheVariants.{Failed};
+ghost use Rattle.row_keeper.specs.Shaped.{by};
 ghost use Rattle.row_requests.specs.Page.{ReachesPage, ShowsPage, VisitsPage, page_data};
 ghost use Rattle.row_requests.specs.Page.{page_reply as page_bytes, row_shown, with_values};
 ghost use Rattle.row_requests.specs.PageRows.{AreShown};
@@ -95,7 +96,7 @@ pub fn show_page<K: Keeper>(
     after: u32,
 ) -> Result<Reply, KeeperEnd>
     requires idle { K.in_transaction keeper.old ≡ false }
-    requires shaped { K.shaped keeper.old ≡ Some schema.now }
+    requires shaped { K.shaped keeper.old ≡ by schema.now }
     requires lawful { IsLawfulSchema schema.now }
     requires sound { AreSound schema.now (K.told keeper.old) }
     ensures done { IfOk result (λ r. ShowsPage

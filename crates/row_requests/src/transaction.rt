@@ -13,6 +13,7 @@ ghost use Rattle.numbered_requests.specs.Replies.{IsReply, said};
 ghost use Rattle.row_requests.specs.Sound.{AreSound};
 ghost use Rattle.row_requests.specs.Steps.{AppliesChanges, HaveDetail};
 ghost use Rattle.row_keeper.specs.Over.{Becomes, BeganStays, HasCause};
+ghost use Rattle.row_keeper.specs.Shaped.{by};
 
 use crate::bodies::{Change, Posted};
 use crate::changes::{Changed, change_one};
@@ -44,7 +45,7 @@ fn change_rows<K: Keeper>(
     changes: &[Change],
 ) -> Result<Outcome, KeeperEnd>
     requires begun { K.in_transaction keeper.old ≡ true }
-    requires shaped { K.shaped keeper.old ≡ Some schema.now }
+    requires shaped { K.shaped keeper.old ≡ by schema.now }
     requires lawful { IsLawfulSchema schema.now }
     requires sound { AreSound schema.now (K.told keeper.old) }
     requires few { length changes.now ≤ 1000 }
@@ -134,7 +135,7 @@ fn prepare_rows<K: Keeper>(
     posted: &Posted,
 ) -> Result<Prepared, KeeperEnd>
     requires begun { K.in_transaction keeper.old ≡ true }
-    requires shaped { K.shaped keeper.old ≡ Some schema.now }
+    requires shaped { K.shaped keeper.old ≡ by schema.now }
     requires lawful { IsLawfulSchema schema.now }
     requires sound { AreSound schema.now (K.told keeper.old) }
     requires few { length posted.now.changes ≤ 1000 }
@@ -165,7 +166,7 @@ pub(crate) fn act_rows<K: Keeper>(
     posted: &Posted,
 ) -> Result<Prepared, KeeperEnd>
     requires idle { K.in_transaction keeper.old ≡ false }
-    requires shaped { K.shaped keeper.old ≡ Some schema.now }
+    requires shaped { K.shaped keeper.old ≡ by schema.now }
     requires lawful { IsLawfulSchema schema.now }
     requires sound { AreSound schema.now (K.told keeper.old) }
     requires few { length posted.now.changes ≤ 1000 }

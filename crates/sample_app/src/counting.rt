@@ -2,6 +2,7 @@
 ghost use Rattle.std.specs.Prelude.{◌≡◌, ◌∷◌, [], IfOk, IfSome, IsSome, Some, slice_get};
 ghost use Rattle.row_keeper.specs.Over.{Becomes, HasCause};
 ghost use Rattle.row_keeper.specs.Tables.{AreStatesOf, Tables, shapes_of};
+ghost use Rattle.row_keeper.specs.Shaped.{by};
 ghost use Rattle.sample_app.specs.Counts.{HasRowCount, every_row as every_row_of};
 
 use fx_base::{InOrder, Memory};
@@ -16,7 +17,7 @@ pub fn count_rows<K: Keeper>(
     keeper: &mut K,
     schema: &Schema,
 ) -> Result<u32, KeeperEnd>
-    requires shaped { K.shaped keeper.old ≡ Some schema.now }
+    requires shaped { K.shaped keeper.old ≡ by schema.now }
     requires sound { IfSome (K.told keeper.old)
         (λ (t : Tables). AreStatesOf schema.now.tables t.states) }
     ensures counted { IfOk result (λ n. Becomes K.Keeper keeper.old keeper.new (HasRowCount n)) }
@@ -32,7 +33,7 @@ pub fn count_rows<K: Keeper>(
 
 /// How many rows the first table has.
 fn count_first<K: Keeper>(alloc: Global, keeper: &mut K) -> Result<u32, KeeperEnd>
-    requires table { IsSome (slice_get (shapes_of (K.shaped keeper.old)) 0) }
+    requires table { IsSome (slice_get (shapes_of (K.shaped keeper.old).now) 0) }
     ensures counted { IfOk result (λ n. Becomes K.Keeper keeper.old keeper.new (HasRowCount n)) }
     ensures cause { HasCause K.Keeper keeper.old keeper.new result }
     ensures mode { K.in_transaction keeper.new ≡ K.in_transaction keeper.old }

@@ -15,6 +15,7 @@ use Rattle.recalc.specs.app_cells.declared.app.App.{App}
 use Rattle.row_keeper.specs.Changes.{Inserts, Removes, Replaces}
 use Rattle.row_keeper.specs.Tables.{Tables, columns_at, shapes_of}
 use Rattle.row_keeper.specs.declared.rows.Put.{Put}
+use Rattle.row_keeper.specs.Shaped.{Shaped, by}
 use Rattle.row_queries.specs.TableRows.{AreCellsOf}
 use Rattle.row_requests.proofs.Soundness.{sound_inserts, sound_removes, sound_replaces}
 use Rattle.row_requests.specs.Sound.{AreSound}
@@ -48,22 +49,22 @@ removed_sound s lost k id was x y there sound goes = by (slice_get s.tables k) r
     by None e h = absurd cc
 
 -- other cells in a row
-pub replaced : (lost : Type 0) (s : Schema) (shaped : Option Schema) (k id : ℕ) (cells : List Data) (put : Put) (day : Data) (a : App) (moment : ℕ) (r : SessionState) (values others : List Data) (ws us : List Source)
-    (b d x y : Option Tables) → shaped ≡ Some s → us ≡ ws ++ written_by put k → (IsSome y → IsSome d) → MayFallSilent lost (Replaces (columns_at (shapes_of shaped) k) k id cells put) x y → MayFallSilent lost Stays b d →
+pub replaced : (lost : Type 0) (s : Schema) (shaped : Shaped) (k id : ℕ) (cells : List Data) (put : Put) (day : Data) (a : App) (moment : ℕ) (r : SessionState) (values others : List Data) (ws us : List Source)
+    (b d x y : Option Tables) → shaped ≡ by s → us ≡ ws ++ written_by put k → (IsSome y → IsSome d) → MayFallSilent lost (Replaces (columns_at (shapes_of shaped.now) k) k id cells put) x y → MayFallSilent lost Stays b d →
     MayFallSilent lost (IsRowChanged (columns_at s.tables k) k id cells put) (told_state day (grounds a moment b) r values ws x) (told_state day (grounds a moment d) r others us y)
 replaced lost s shaped k id cells put day a moment r values others ws us b d x y e w heard h stays =
     subst (λ (zs : List Source). MayFallSilent lost (IsRowChanged (columns_at s.tables k) k id cells put) (told_state day (grounds a moment b) r values ws x) (told_state day (grounds a moment d) r others zs y)) (sym w)
     (state_goes lost (Replaces (columns_at s.tables k) k id cells put) (IsRowChanged (columns_at s.tables k) k id cells put) day a moment r values others ws (ws ++ written_by put k) b d x y
-    (λ g t u. row_changed (columns_at s.tables k) k id cells put g r ws t u) heard (subst (λ (o : Option Schema). MayFallSilent lost (Replaces (columns_at (shapes_of o) k) k id cells put) x y) e h) stays)
+    (λ g t u. row_changed (columns_at s.tables k) k id cells put g r ws t u) heard (subst (λ (o : Shaped). MayFallSilent lost (Replaces (columns_at (shapes_of o.now) k) k id cells put) x y) e h) stays)
 
 -- a new row
-pub inserted : (lost : Type 0) (s : Schema) (shaped : Option Schema) (k : ℕ) (cells : List Data) (put : Put) (day : Data) (a : App) (moment : ℕ) (r : SessionState) (values others : List Data) (ws us : List Source)
-    (b d x y : Option Tables) → shaped ≡ Some s → us ≡ ws ++ written_by put k → (IsSome y → IsSome d) → MayFallSilent lost (Inserts (columns_at (shapes_of shaped) k) k cells put) x y → MayFallSilent lost Stays b d →
+pub inserted : (lost : Type 0) (s : Schema) (shaped : Shaped) (k : ℕ) (cells : List Data) (put : Put) (day : Data) (a : App) (moment : ℕ) (r : SessionState) (values others : List Data) (ws us : List Source)
+    (b d x y : Option Tables) → shaped ≡ by s → us ≡ ws ++ written_by put k → (IsSome y → IsSome d) → MayFallSilent lost (Inserts (columns_at (shapes_of shaped.now) k) k cells put) x y → MayFallSilent lost Stays b d →
     MayFallSilent lost (IsRowMade (columns_at s.tables k) k cells put) (told_state day (grounds a moment b) r values ws x) (told_state day (grounds a moment d) r others us y)
 inserted lost s shaped k cells put day a moment r values others ws us b d x y e w heard h stays =
     subst (λ (zs : List Source). MayFallSilent lost (IsRowMade (columns_at s.tables k) k cells put) (told_state day (grounds a moment b) r values ws x) (told_state day (grounds a moment d) r others zs y)) (sym w)
     (state_goes lost (Inserts (columns_at s.tables k) k cells put) (IsRowMade (columns_at s.tables k) k cells put) day a moment r values others ws (ws ++ written_by put k) b d x y
-    (λ g t u. row_made (columns_at s.tables k) k cells put g r ws t u) heard (subst (λ (o : Option Schema). MayFallSilent lost (Inserts (columns_at (shapes_of o) k) k cells put) x y) e h) stays)
+    (λ g t u. row_made (columns_at s.tables k) k cells put g r ws t u) heard (subst (λ (o : Shaped). MayFallSilent lost (Inserts (columns_at (shapes_of o.now) k) k cells put) x y) e h) stays)
 
 -- a row is taken out
 pub removed : (lost : Type 0) (k id : ℕ) (was : Bool) (day : Data) (a : App) (moment : ℕ) (r : SessionState) (values others : List Data) (ws us : List Source)

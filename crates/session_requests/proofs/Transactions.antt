@@ -1,5 +1,5 @@
 -- A transaction of a session begins, goes on, and can be taken back.
-use Rattle.std.proofs.Common.{◌≡◌, ℕ, List, [], Option, None, Some, length, take, true, false, refl, subst, sym, ◌∙◌, arith}
+use Rattle.std.proofs.Common.{◌≡◌, ℕ, List, [], Option, None, Some, length, take, true, false, refl, subst, sym, ap, ◌∙◌, arith}
 use Rattle.std.proofs.Math.Seq.{take-length}
 use Rattle.std.specs.Prelude.{IsSome}
 use Rattle.fx_base.proofs.Silences.{goes_two}
@@ -22,6 +22,7 @@ use Rattle.session_state.specs.Changes.{FitsNames}
 use Rattle.session_state.specs.Sessions.{SessionState}
 use Rattle.session_requests.specs.Caching.{AreLater, SameSessionExcept, AreSources, GoesOnClean}
 use Rattle.row_keeper.specs.Over.{Becomes}
+use Rattle.row_keeper.specs.Shaped.{by, steady}
 use Rattle.session_requests.specs.Running.{Runs, RunsWriting}
 use Rattle.session_requests.specs.Scenes.{arrived, begun, quiet, scene}
 use Rattle.session_requests.specs.Transactions.{CanBegin, CanGoBack, GoesOn, HasEnded, IsAccepted, IsUnderWay}
@@ -38,10 +39,10 @@ use Rattle.session_requests.proofs.Written.{front_two, told_through}
 -- ---- it begins
 
 pub begins : {K : Type 0} (g : Ghosts K) (a : App) (m : ℕ) (before s : SessionState) (c : CacheState) (k i : K) (ws : List Source) (lost : Type 0) → CanBegin g a m before s c k ws →
-    MayFallSilent lost Stays (g.told k) (g.told i) → g.shaped i ≡ g.shaped k → g.in_transaction i ≡ true → g.began i ≡ g.told i → IsUnderWay g a m before s c i ws
+    MayFallSilent lost Stays (g.told k) (g.told i) → g.shaped i ≡ steady (g.shaped k) → g.in_transaction i ≡ true → g.began i ≡ g.told i → IsUnderWay g a m before s c i ws
 begins g a m before s c k i ws lost h same shaped begun began = record {
   fits = h.fits;
-  shaped = shaped ∙ h.shaped;
+  shaped = shaped ∙ ap steady h.shaped;
   rows = sound_stays lost a.names.schema (g.told k) (g.told i) same h.rows;
   begun = begun;
   cached = cached_stays a s lost (g.told k) (g.told i) m c same h.cached;
@@ -115,11 +116,11 @@ can_go_back g a m before s c k ws sound silent h = record {
 
 -- what its world knows of an app, a moment and a session that are those with which it was made
 pub left_under_way : {K : Type 0} (g : Ghosts K) (a b : App) (m n : ℕ) (before found s : SessionState) (c : CacheState) (k : K) (ws : List Source) → b ≡ a → n ≡ m → found ≡ before → FitsNames b.names s →
-    g.shaped k ≡ Some b.names.schema → AreSound b.names.schema (g.told k) → g.in_transaction k ≡ true → IsInOrder b c → ∥ IsRightOver b s (g.told k) n c ∥₁ → ∥ IsToday n c.values.day ∥₁ →
+    g.shaped k ≡ by b.names.schema → AreSound b.names.schema (g.told k) → g.in_transaction k ≡ true → IsInOrder b c → ∥ IsRightOver b s (g.told k) n c ∥₁ → ∥ IsToday n c.values.day ∥₁ →
     SameSessionExcept b.names ws found s → AreSources b.names ws → AreLater ws (g.began k) (g.told k) → IsUnderWay g a m before s c k ws
 left_under_way g a b m n before found s c k ws app moment first fits shaped rows begun order right day but sources later = record {
   fits = subst (λ (z : App). FitsNames z.names s) app fits;
-  shaped = subst (λ (z : App). g.shaped k ≡ Some z.names.schema) app shaped;
+  shaped = subst (λ (z : App). g.shaped k ≡ by z.names.schema) app shaped;
   rows = subst (λ (z : App). AreSound z.names.schema (g.told k)) app rows;
   begun = begun;
   cached = cached_from a b s (g.told k) m n c app moment order right day;

@@ -31,8 +31,8 @@ outermost_scope item = record { rows = []; item = item; caught = None }
 -- session to others, with a value, and writes these sources. The tables as the transaction began
 -- are nothing to it.
 pub record PerformsCell (a : App) (moment : ℕ) (c : CellInfo) (item : Option Data) (t : Tables)
-    (s : SessionState) (value : Data) (u : Tables) (r : SessionState) (wrote : List Source)
-    : Type 0 where
+    (s : SessionState) (value : Data) (u : Tables) (r : SessionState) (wrote : List Source) :
+    Type 0 where
   pub began : Option Tables
   pub performs : Performs (ground_of a) c.core (outermost_scope item) value
       (state_on (grounds a moment began) t s []) (state_on (grounds a moment began) u r wrote)

@@ -125,8 +125,8 @@ ReachesInput name body sessions = (i : Input)
 -- ---- events
 
 -- the control is visible for the item at this position of the gallery
-pub record IsVisibleFor (p : Present) (values : ℕ → Data) (k gallery at : ℕ) (b : Bool)
-    : Type 0 where
+pub record IsVisibleFor (p : Present) (values : ℕ → Data) (k gallery at : ℕ) (b : Bool) :
+    Type 0 where
   pub row : Fields
   pub there : row_at_position at (rows_in (items_of p.app.names values gallery)) ≡ Some row
   pub value : Data

@@ -15,6 +15,7 @@ use Rattle.session_state.specs.Sessions.{SessionState}
 use Rattle.session_requests.specs.Caching.{AreLater, SameSessionExcept, AreSources, IsCached}
 use Rattle.session_requests.specs.Caching.{IsPending, GoesOnClean}
 use Rattle.row_keeper.specs.Over.{Becomes, BeganStays}
+use Rattle.row_keeper.specs.Shaped.{by}
 use Rattle.session_requests.specs.Requests.{Accepts, AcceptsWriting}
 use Rattle.session_requests.specs.declared.transaction.Accepted.{Accepted}
 use Rattle.session_requests.specs.declared.trigger.Trigger.{Trigger}
@@ -25,7 +26,7 @@ use Rattle.session_requests.specs.declared.trigger.Trigger.{Trigger}
 pub record CanBegin {K : Type 0} (g : Ghosts K) (a : App) (m : ℕ) (before now : SessionState)
     (cache : CacheState) (keeper : K) (wrote : List Source) : Type 0 where
   pub fits : FitsNames a.names now
-  pub shaped : g.shaped keeper ≡ Some a.names.schema
+  pub shaped : g.shaped keeper ≡ by a.names.schema
   pub rows : AreSound a.names.schema (g.told keeper)
   pub idle : g.in_transaction keeper ≡ false
   pub cached : IsCached a now (g.told keeper) m cache
@@ -37,7 +38,7 @@ pub record CanBegin {K : Type 0} (g : Ghosts K) (a : App) (m : ℕ) (before now 
 pub record IsUnderWay {K : Type 0} (g : Ghosts K) (a : App) (m : ℕ) (before now : SessionState)
     (cache : CacheState) (keeper : K) (wrote : List Source) : Type 0 where
   pub fits : FitsNames a.names now
-  pub shaped : g.shaped keeper ≡ Some a.names.schema
+  pub shaped : g.shaped keeper ≡ by a.names.schema
   pub rows : AreSound a.names.schema (g.told keeper)
   pub begun : g.in_transaction keeper ≡ true
   pub cached : IsCached a now (g.told keeper) m cache
@@ -59,7 +60,7 @@ pub record GoesOn {K : Type 0} (g : Ghosts K) (a : App) (cache cache' : CacheSta
 -- it began, the cache stands but for what was written.
 pub record CanGoBack {K : Type 0} (g : Ghosts K) (a : App) (m : ℕ) (before : SessionState)
     (cache : CacheState) (keeper : K) (wrote : List Source) : Type 0 where
-  pub shaped : g.shaped keeper ≡ Some a.names.schema
+  pub shaped : g.shaped keeper ≡ by a.names.schema
   pub rows : AreSound a.names.schema (g.told keeper)
   pub begun : g.in_transaction keeper ≡ true
   pub pending : IsPending a before (g.began keeper) m wrote cache
@@ -70,7 +71,7 @@ pub record CanGoBack {K : Type 0} (g : Ghosts K) (a : App) (m : ℕ) (before : S
 -- those that were written.
 pub record HasEnded {K : Type 0} (g : Ghosts K) (a : App) (cache cache' : CacheState)
     (keeper keeper' : K) (wrote wrote' : List Source) : Type 0 where
-  pub shaped : g.shaped keeper' ≡ Some a.names.schema
+  pub shaped : g.shaped keeper' ≡ by a.names.schema
   pub rows : AreSound a.names.schema (g.told keeper')
   pub idle : g.in_transaction keeper' ≡ false
   pub tables : Becomes g keeper keeper' (SameTablesExcept wrote')

@@ -38,6 +38,7 @@ ghost use Rattle.session_requests.specs.Writable.{TargetMayWrite};
 ghost use Rattle.session_requests.specs.declared.input.Input.{Input as Asked};
 ghost use Rattle.view_text.specs.RefusalText.{Fits};
 ghost use Rattle.row_keeper.specs.Over.{Becomes, HasCause};
+ghost use Rattle.row_keeper.specs.Shaped.{by};
 
 use crate::app_cells::App;
 use crate::input::Given;
@@ -199,7 +200,7 @@ pub(crate) fn end_input<K: Keeper, L: Ledger>(
     requires detail { IfErr verdict (λ r. Fits r.code r.detail) }
     requires fit { SessionsFit app.now.names sessions.old.items }
     requires kept { SessionsKeepReplies sessions.old.items }
-    requires shaped { K.shaped keeper.old ≡ Some app.now.names.schema }
+    requires shaped { K.shaped keeper.old ≡ by app.now.names.schema }
     requires rows { AreSound app.now.names.schema (K.told keeper.old) }
     requires idle { K.in_transaction keeper.old ≡ false }
     requires found { find name.now sessions.old.items ≡ Some session }
@@ -215,7 +216,7 @@ pub(crate) fn end_input<K: Keeper, L: Ledger>(
     ensures fit { SessionsFit app.now.names sessions.new.items }
     ensures kept { SessionsKeepReplies sessions.new.items }
     ensures rows { AreSound app.now.names.schema (K.told keeper.new) }
-    ensures shaped { K.shaped keeper.new ≡ Some app.now.names.schema }
+    ensures shaped { K.shaped keeper.new ≡ by app.now.names.schema }
     ensures idle { K.in_transaction keeper.new ≡ false }
     ensures cause { HasCause K.Keeper keeper.old keeper.new result }
     ensures cached { (s : SessionState) → find name.now sessions.new.items ≡ Some s
@@ -271,7 +272,7 @@ pub(crate) fn end_event<K: Keeper, L: Ledger>(
     requires detail { IfErr verdict (λ r. Fits r.code r.detail) }
     requires fit { SessionsFit app.now.names sessions.old.items }
     requires kept { SessionsKeepReplies sessions.old.items }
-    requires shaped { K.shaped keeper.old ≡ Some app.now.names.schema }
+    requires shaped { K.shaped keeper.old ≡ by app.now.names.schema }
     requires rows { AreSound app.now.names.schema (K.told keeper.old) }
     requires idle { K.in_transaction keeper.old ≡ false }
     requires found { find name.now sessions.old.items ≡ Some session }
@@ -287,7 +288,7 @@ pub(crate) fn end_event<K: Keeper, L: Ledger>(
     ensures fit { SessionsFit app.now.names sessions.new.items }
     ensures kept { SessionsKeepReplies sessions.new.items }
     ensures rows { AreSound app.now.names.schema (K.told keeper.new) }
-    ensures shaped { K.shaped keeper.new ≡ Some app.now.names.schema }
+    ensures shaped { K.shaped keeper.new ≡ by app.now.names.schema }
     ensures idle { K.in_transaction keeper.new ≡ false }
     ensures cause { HasCause K.Keeper keeper.old keeper.new result }
     ensures cached { (s : SessionState) → find name.now sessions.new.items ≡ Some s
@@ -395,7 +396,7 @@ fn take_effect<K: Keeper, L: Ledger>(
     requires item { ItemFits app.now trigger (option_map view item) }
     requires fit { SessionsFit app.now.names sessions.old.items }
     requires kept { SessionsKeepReplies sessions.old.items }
-    requires shaped { K.shaped keeper.old ≡ Some app.now.names.schema }
+    requires shaped { K.shaped keeper.old ≡ by app.now.names.schema }
     requires rows { AreSound app.now.names.schema (K.told keeper.old) }
     requires idle { K.in_transaction keeper.old ≡ false }
     requires before { IsBefore app.now name.now (option_to_list given) session (K.told keeper.old)
@@ -412,7 +413,7 @@ fn take_effect<K: Keeper, L: Ledger>(
     ensures fit { SessionsFit app.now.names sessions.new.items }
     ensures kept { SessionsKeepReplies sessions.new.items }
     ensures rows { AreSound app.now.names.schema (K.told keeper.new) }
-    ensures shaped { K.shaped keeper.new ≡ Some app.now.names.schema }
+    ensures shaped { K.shaped keeper.new ≡ by app.now.names.schema }
     ensures idle { K.in_transaction keeper.new ≡ false }
     ensures cause { HasCause K.Keeper keeper.old keeper.new result }
     ensures cached { (s : SessionState) → find name.now sessions.new.items ≡ Some s

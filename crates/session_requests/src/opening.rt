@@ -4,6 +4,7 @@ ghost use Rattle.fx_base.specs.Silence.{SilenceCause};
 ghost use Rattle.fx_base.specs.Telling.{Stays};
 ghost use Rattle.recalc.specs.app_semantics.Sound.{IsSoundApp};
 ghost use Rattle.row_keeper.specs.Over.{Becomes, HasCause};
+ghost use Rattle.row_keeper.specs.Shaped.{by};
 ghost use Rattle.row_requests.specs.Sound.{AreSound};
 ghost use Rattle.row_requests.specs.Written.{SameTablesExcept};
 ghost use Rattle.session_state.specs.Sessions.{opened};
@@ -33,7 +34,7 @@ fn prepare_session<K: Keeper, L: Ledger>(
 ) -> Result<Session, KeeperEnd>
     requires sound { IsSoundApp app.now }
     requires opens { CanOpen app.now.names }
-    requires shaped { K.shaped keeper.old ≡ Some app.now.names.schema }
+    requires shaped { K.shaped keeper.old ≡ by app.now.names.schema }
     requires rows { AreSound app.now.names.schema (K.told keeper.old) }
     requires begun { K.in_transaction keeper.old ≡ true }
     requires cached { IsCached app.now (opened app.now.names) (K.told keeper.old) moment cache.old }
@@ -83,7 +84,7 @@ pub fn open_session<K: Keeper, L: Ledger>(
 ) -> Result<Session, KeeperEnd>
     requires sound { IsSoundApp app.now }
     requires opens { CanOpen app.now.names }
-    requires shaped { K.shaped keeper.old ≡ Some app.now.names.schema }
+    requires shaped { K.shaped keeper.old ≡ by app.now.names.schema }
     requires rows { AreSound app.now.names.schema (K.told keeper.old) }
     requires idle { K.in_transaction keeper.old ≡ false }
     requires cached { IsCached app.now (opened app.now.names) (K.told keeper.old) moment cache.old }
@@ -96,7 +97,7 @@ pub fn open_session<K: Keeper, L: Ledger>(
         (K.told keeper.new) s wrote.new.items) }
     ensures stopped { OnErr result (Becomes K.Keeper keeper.old keeper.new Stays) }
     ensures rows { AreSound app.now.names.schema (K.told keeper.new) }
-    ensures shaped { K.shaped keeper.new ≡ Some app.now.names.schema }
+    ensures shaped { K.shaped keeper.new ≡ by app.now.names.schema }
     ensures idle { K.in_transaction keeper.new ≡ false }
     ensures cached { IfOk result (λ s. IsCached app.now s (K.told keeper.new) moment cache.new) }
     ensures tables { Becomes K.Keeper keeper.old keeper.new (SameTablesExcept wrote.new.items) }

@@ -13,6 +13,7 @@ ghost use Rattle.numbered_requests.specs.Directory.{find};
 ghost use Rattle.numbered_requests.specs.Replies.{IsReply, said};
 ghost use Rattle.row_keeper.specs.Over.{Becomes, HasCause};
 ghost use Rattle.row_keeper.specs.Tables.{rows_told};
+ghost use Rattle.row_keeper.specs.Shaped.{by};
 ghost use Rattle.row_requests.specs.Sound.{AreSound};
 ghost use Rattle.row_requests.specs.Written.{SameTablesExcept};
 ghost use Rattle.recalc.specs.Changes.{StaysCleanExcept};
@@ -75,7 +76,7 @@ pub fn send_input<K: Keeper, L: Ledger>(
     requires live { IsSome (find name.now sessions.old.items) }
     requires fit { SessionsFit app.now.names sessions.old.items }
     requires kept { SessionsKeepReplies sessions.old.items }
-    requires shaped { K.shaped keeper.old ≡ Some app.now.names.schema }
+    requires shaped { K.shaped keeper.old ≡ by app.now.names.schema }
     requires rows { AreSound app.now.names.schema (K.told keeper.old) }
     requires idle { K.in_transaction keeper.old ≡ false }
     requires cached { (s : SessionState) → find name.now sessions.old.items ≡ Some s
@@ -91,7 +92,7 @@ pub fn send_input<K: Keeper, L: Ledger>(
     ensures fit { SessionsFit app.now.names sessions.new.items }
     ensures kept { SessionsKeepReplies sessions.new.items }
     ensures rows { AreSound app.now.names.schema (K.told keeper.new) }
-    ensures shaped { K.shaped keeper.new ≡ Some app.now.names.schema }
+    ensures shaped { K.shaped keeper.new ≡ by app.now.names.schema }
     ensures idle { K.in_transaction keeper.new ≡ false }
     ensures cause { HasCause K.Keeper keeper.old keeper.new result }
     ensures cached { (s : SessionState) → find name.now sessions.new.items ≡ Some s
@@ -137,7 +138,7 @@ fn look_for_input<K: Keeper, L: Ledger>(
     requires sound { IsSoundApp app.now }
     requires fits { FitsNames app.now.names session.now }
     requires cached { IsCached app.now session.now (K.told keeper.old) moment cache.old }
-    requires shaped { K.shaped keeper.old ≡ Some app.now.names.schema }
+    requires shaped { K.shaped keeper.old ≡ by app.now.names.schema }
     ensures cached { IsCached app.now session.now (K.told keeper.new) moment cache.new }
     ensures clean { StaysCleanExcept app.now [] cache.old cache.new }
     ensures fresh { OnOk result ∥ ((tables : ToldRows) → IsHeardOf (K.told keeper.new) tables
@@ -177,7 +178,7 @@ fn act_input<K: Keeper, L: Ledger>(
     requires fits { FitsNames app.now.names session }
     requires fit { SessionsFit app.now.names sessions.old.items }
     requires kept { SessionsKeepReplies sessions.old.items }
-    requires shaped { K.shaped keeper.old ≡ Some app.now.names.schema }
+    requires shaped { K.shaped keeper.old ≡ by app.now.names.schema }
     requires rows { AreSound app.now.names.schema (K.told keeper.old) }
     requires idle { K.in_transaction keeper.old ≡ false }
     requires cached { IsCached app.now session (K.told keeper.old) moment cache.old }
@@ -192,7 +193,7 @@ fn act_input<K: Keeper, L: Ledger>(
     ensures fit { SessionsFit app.now.names sessions.new.items }
     ensures kept { SessionsKeepReplies sessions.new.items }
     ensures rows { AreSound app.now.names.schema (K.told keeper.new) }
-    ensures shaped { K.shaped keeper.new ≡ Some app.now.names.schema }
+    ensures shaped { K.shaped keeper.new ≡ by app.now.names.schema }
     ensures idle { K.in_transaction keeper.new ≡ false }
     ensures cause { HasCause K.Keeper keeper.old keeper.new result }
     ensures cached { (s : SessionState) → find name.now sessions.new.items ≡ Some s
@@ -248,7 +249,7 @@ pub fn send_event<K: Keeper, L: Ledger>(
     requires live { IsSome (find name.now sessions.old.items) }
     requires fit { SessionsFit app.now.names sessions.old.items }
     requires kept { SessionsKeepReplies sessions.old.items }
-    requires shaped { K.shaped keeper.old ≡ Some app.now.names.schema }
+    requires shaped { K.shaped keeper.old ≡ by app.now.names.schema }
     requires rows { AreSound app.now.names.schema (K.told keeper.old) }
     requires idle { K.in_transaction keeper.old ≡ false }
     requires cached { (s : SessionState) → find name.now sessions.old.items ≡ Some s
@@ -264,7 +265,7 @@ pub fn send_event<K: Keeper, L: Ledger>(
     ensures fit { SessionsFit app.now.names sessions.new.items }
     ensures kept { SessionsKeepReplies sessions.new.items }
     ensures rows { AreSound app.now.names.schema (K.told keeper.new) }
-    ensures shaped { K.shaped keeper.new ≡ Some app.now.names.schema }
+    ensures shaped { K.shaped keeper.new ≡ by app.now.names.schema }
     ensures idle { K.in_transaction keeper.new ≡ false }
     ensures cause { HasCause K.Keeper keeper.old keeper.new result }
     ensures cached { (s : SessionState) → find name.now sessions.new.items ≡ Some s
@@ -310,7 +311,7 @@ fn look_for_event<K: Keeper, L: Ledger>(
     requires sound { IsSoundApp app.now }
     requires fits { FitsNames app.now.names session.now }
     requires cached { IsCached app.now session.now (K.told keeper.old) moment cache.old }
-    requires shaped { K.shaped keeper.old ≡ Some app.now.names.schema }
+    requires shaped { K.shaped keeper.old ≡ by app.now.names.schema }
     ensures cached { IsCached app.now session.now (K.told keeper.new) moment cache.new }
     ensures clean { StaysCleanExcept app.now [] cache.old cache.new }
     ensures fresh { OnOk result ∥ ((tables : ToldRows) → IsHeardOf (K.told keeper.new) tables
@@ -350,7 +351,7 @@ fn act_event<K: Keeper, L: Ledger>(
     requires fits { FitsNames app.now.names session }
     requires fit { SessionsFit app.now.names sessions.old.items }
     requires kept { SessionsKeepReplies sessions.old.items }
-    requires shaped { K.shaped keeper.old ≡ Some app.now.names.schema }
+    requires shaped { K.shaped keeper.old ≡ by app.now.names.schema }
     requires rows { AreSound app.now.names.schema (K.told keeper.old) }
     requires idle { K.in_transaction keeper.old ≡ false }
     requires cached { IsCached app.now session (K.told keeper.old) moment cache.old }
@@ -365,7 +366,7 @@ fn act_event<K: Keeper, L: Ledger>(
     ensures fit { SessionsFit app.now.names sessions.new.items }
     ensures kept { SessionsKeepReplies sessions.new.items }
     ensures rows { AreSound app.now.names.schema (K.told keeper.new) }
-    ensures shaped { K.shaped keeper.new ≡ Some app.now.names.schema }
+    ensures shaped { K.shaped keeper.new ≡ by app.now.names.schema }
     ensures idle { K.in_transaction keeper.new ≡ false }
     ensures cause { HasCause K.Keeper keeper.old keeper.new result }
     ensures cached { (s : SessionState) → find name.now sessions.new.items ≡ Some s
@@ -410,7 +411,7 @@ fn judge_event<K: Keeper, L: Ledger>(
     requires fits { FitsNames app.now.names session.now }
     requires cells { CellsFit app.now (value_of_cells valued.now) }
     requires day { (moment : ℕ) × IsToday moment valued.now.day }
-    requires shaped { K.shaped keeper.old ≡ Some app.now.names.schema }
+    requires shaped { K.shaped keeper.old ≡ by app.now.names.schema }
     ensures judged { IfOk result (λ v. (moment : ℕ) → IsToday moment valued.now.day →
         IsVerdict (present app.now session.now (rows_told (K.told keeper.new)) moment)
         (value_of_cells valued.now) (event_target_of app.now.names session.now

@@ -17,6 +17,7 @@ ghost use Rattle.recalc.specs.Kept.{IsInOrder, cached_value};
 ghost use Rattle.recalc.specs.Outcomes.{IsRightOver};
 ghost use Rattle.session_requests.specs.WorldContext.{IsFreshBehind};
 ghost use Rattle.row_keeper.specs.Over.{HasCause};
+ghost use Rattle.row_keeper.specs.Shaped.{by};
 
 use crate::app_cells::App;
 use fx_base::Memory;
@@ -88,7 +89,7 @@ pub(crate) fn refresh_behind<K: Keeper, L: Ledger>(
 ) -> Result<(), KeeperEnd>
     requires sound { IsSoundApp app.now }
     requires holds { HoldsFitting app.now.names session.now }
-    requires shaped { K.shaped keeper.old ≡ Some app.now.names.schema }
+    requires shaped { K.shaped keeper.old ≡ by app.now.names.schema }
     requires order { IsInOrder app.now cache.old }
     requires day { IsToday moment cache.old.values.day }
     ensures order { IsInOrder app.now cache.new }

@@ -19,6 +19,7 @@ ghost use Rattle.session_requests.specs.Propositions.{sessions_prop, sound_prop,
 ghost use Rattle.session_requests.specs.WorldContext.{WorldContext, source_gives, grounds};
 ghost use Rattle.session_requests.specs.WorldLaws.{collections_told, rows_are, state_told};
 ghost use Rattle.session_requests.specs.Worlds.{fixed_in, told_in};
+ghost use Rattle.row_keeper.specs.Shaped.{by};
 
 use crate::accepted::SoundApp;
 use crate::refresh_inputs::refresh_behind;
@@ -59,7 +60,7 @@ pub(crate) struct SessionWorld<'a, A: SoundApp, K: Keeper, S: Start> {
     pub(crate) start: PhantomData<S>,
     ghost today: { ∥ IsToday moment (view day.now) ∥₁ },
     ghost lawful: { IsLawfulSchema (A.app app.now).names.schema } by { schema_prop (A.app app.now).names.schema },
-    ghost shaped: { K.shaped keeper.now ≡ Some (A.app app.now).names.schema } by { shaped_prop (K.shaped keeper.now) (Some (A.app app.now).names.schema) },
+    ghost shaped: { K.shaped keeper.now ≡ by (A.app app.now).names.schema } by { shaped_prop (K.shaped keeper.now) (by (A.app app.now).names.schema) },
     ghost begun: { K.in_transaction keeper.now ≡ true } by { Bool-set (K.in_transaction keeper.now) true },
     ghost sound: { AreSound (A.app app.now).names.schema (K.told keeper.now) } by { sound_prop (A.app app.now).names.schema (K.told keeper.now) },
     ghost fits: { FitsNames (A.app app.now).names session.now } by { names_prop (A.app app.now).names session.now },

@@ -15,6 +15,7 @@ ghost use Rattle.session_requests.specs.Posting.{IsShownToUser, IsVisibleFor};
 ghost use Rattle.session_requests.specs.Posting.{gallery_around as gallery_around_of};
 ghost use Rattle.session_requests.specs.Targets.{IsTarget};
 ghost use Rattle.row_keeper.specs.Over.{HasCause};
+ghost use Rattle.row_keeper.specs.Shaped.{by};
 
 use crate::app_cells::App;
 use crate::shown::item_row;
@@ -42,7 +43,7 @@ pub(crate) fn is_shown_for<K: Keeper, L: Ledger>(
     requires fits { CellsFit app.now (value_of valued.now) }
     requires day { (moment : ℕ) × IsToday moment valued.now.day }
     requires target { IsTarget app.now.names (value_of valued.now) target }
-    requires shaped { K.shaped keeper.old ≡ Some app.now.names.schema }
+    requires shaped { K.shaped keeper.old ≡ by app.now.names.schema }
     ensures shows { IfOk result (λ b. (moment : ℕ) (tables : ToldRows)
         → IsToday moment valued.now.day → IsHeardOf (K.told keeper.new) tables →
         IsShownToUser (present app.now session.now tables moment) (value_of valued.now)
@@ -93,7 +94,7 @@ fn is_visible_at<K: Keeper, L: Ledger>(
     requires stands { StandsIn app.now.names control item.gallery }
     requires there { (row : Row) × (row_at_position item.at
         (rows_in (items_of app.now.names (value_of valued.now) item.gallery)) ≡ Some row) }
-    requires shaped { K.shaped keeper.old ≡ Some app.now.names.schema }
+    requires shaped { K.shaped keeper.old ≡ by app.now.names.schema }
     ensures shows { IfOk result (λ b. (moment : ℕ) (tables : ToldRows)
         → IsToday moment valued.now.day → IsHeardOf (K.told keeper.new) tables →
         IsVisibleFor (present app.now session.now tables moment) (value_of valued.now) control

@@ -64,8 +64,8 @@ control_steps n k false = 0
 
 -- THE STEPS: one at most for each cell that is needed for what is looked at, wasn't clean, and
 -- isn't cut off; and these beside
-pub record AreSteps (a : App) (of : ℕ → Bool) (start after : CacheState) (beside old new : ℕ)
-    : Type 0 where
+pub record AreSteps (a : App) (of : ℕ → Bool) (start after : CacheState) (beside old new : ℕ) :
+    Type 0 where
   pub roots : List ℕ
   pub looked : AreLookedAt a of roots
   pub between : ℕ

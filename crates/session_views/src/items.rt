@@ -29,6 +29,7 @@ ghost use Rattle.recalc.specs.Kept.{HasNumbersLeft, IsInOrder};
 ghost use Rattle.recalc.specs.Outcomes.{IsRightOver};
 ghost use Rattle.recalc.specs.Steps.{KeepsClean};
 ghost use Rattle.row_keeper.specs.Over.{HasCause};
+ghost use Rattle.row_keeper.specs.Shaped.{by};
 
 use crate::app_cells::App;
 use crate::displaying::is_seen;
@@ -63,7 +64,7 @@ fn item_view<K: Keeper, L: Ledger>(
 ) -> Result<ItemView, KeeperEnd>
     requires ready { CanShow app.now session.now valued.now }
     requires row { IsItemOf app.now.names gallery row.now }
-    requires shaped { K.shaped keeper.old ≡ Some app.now.names.schema }
+    requires shaped { K.shaped keeper.old ≡ by app.now.names.schema }
     ensures shows { IfOk result (λ i. (moment : ℕ) (tables : ToldRows)
         → IsToday moment valued.now.day → IsHeardOf (K.told keeper.new) tables
         → IsItemAt (present app.now session.now tables moment) (value_of valued.now) gallery at
@@ -100,7 +101,7 @@ fn item_views<K: Keeper, L: Ledger>(
     requires rows { (i : ℕ) (r : Row) → slice_get rows.now i ≡ Some r
         → IsItemOf app.now.names gallery r }
     requires few { first + length rows.now < 2 ^ 64 }
-    requires shaped { K.shaped keeper.old ≡ Some app.now.names.schema }
+    requires shaped { K.shaped keeper.old ≡ by app.now.names.schema }
     ensures shows { IfOk result (λ l. (moment : ℕ) (tables : ToldRows)
         → IsToday moment valued.now.day → IsHeardOf (K.told keeper.new) tables
         → AreEachGiven (IsItemAt (present app.now session.now tables moment) (value_of valued.now)
@@ -150,7 +151,7 @@ fn table_items<K: Keeper, L: Ledger>(
     requires ready { CanShow app.now session.now valued.now }
     requires rows { (i : ℕ) (r : Row) → slice_get rows.now i ≡ Some r
         → IsItemOf app.now.names gallery r }
-    requires shaped { K.shaped keeper.old ≡ Some app.now.names.schema }
+    requires shaped { K.shaped keeper.old ≡ by app.now.names.schema }
     ensures shows { IfOk result (λ i. (moment : ℕ) (tables : ToldRows)
         → IsToday moment valued.now.day → IsHeardOf (K.told keeper.new) tables
         → AreRowItems (present app.now session.now tables moment) (value_of valued.now) gallery from
@@ -199,7 +200,7 @@ pub(crate) fn items_from<K: Keeper, L: Ledger>(
 ) -> Result<Items, KeeperEnd>
     requires ready { CanShow app.now session.now valued.now }
     requires gallery { IsGalleryOf app.now.names gallery }
-    requires shaped { K.shaped keeper.old ≡ Some app.now.names.schema }
+    requires shaped { K.shaped keeper.old ≡ by app.now.names.schema }
     ensures shows { IfOk result (λ i. (moment : ℕ) (tables : ToldRows)
         → IsToday moment valued.now.day → IsHeardOf (K.told keeper.new) tables
         → AreItemsFrom (present app.now session.now tables moment) (value_of valued.now) gallery
@@ -288,7 +289,7 @@ pub fn items_of<K: Keeper, L: Ledger>(
     requires sound { IsSoundApp app.now }
     requires holds { HoldsFitting app.now.names session.now }
     requires gallery { IsGalleryOf app.now.names gallery }
-    requires shaped { K.shaped keeper.old ≡ Some app.now.names.schema }
+    requires shaped { K.shaped keeper.old ≡ by app.now.names.schema }
     requires day { IsToday moment cache.old.values.day }
     requires order { IsInOrder app.now cache.old }
     ensures shows { IfOk result (λ o. IsRightOver app.now session.now (K.told keeper.old) moment
@@ -340,7 +341,7 @@ fn items_by<K: Keeper, L: Ledger>(
 ) -> Result<Option<Items>, KeeperEnd>
     requires ready { CanShow app.now session.now valued.now }
     requires gallery { IsGalleryOf app.now.names gallery }
-    requires shaped { K.shaped keeper.old ≡ Some app.now.names.schema }
+    requires shaped { K.shaped keeper.old ≡ by app.now.names.schema }
     ensures shows { IfOk result (λ o. (moment : ℕ) (tables : ToldRows)
         → IsToday moment valued.now.day → IsHeardOf (K.told keeper.new) tables
         → AreSeenItems (present app.now session.now tables moment) (value_of valued.now) gallery

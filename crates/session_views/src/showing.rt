@@ -22,6 +22,7 @@ ghost use Rattle.numbered_requests.specs.Replies.{IsReply, said};
 ghost use Rattle.row_keeper.specs.Over.{HasCause};
 ghost use Rattle.row_keeper.specs.Tables.{rows_told};
 ghost use Rattle.row_keeper.specs.declared.keeper.KeeperEnd.TheVariants.{Failed};
+ghost use Rattle.row_keeper.specs.Shaped.{by};
 ghost use Rattle.session_state.specs.Changes.{FitsNames};
 ghost use Rattle.view_text.specs.ViewText.{view_text};
 
@@ -54,7 +55,7 @@ pub fn show_view<K: Keeper, L: Ledger>(
 ) -> Result<Reply, KeeperEnd>
     requires sound { IsSoundApp app.now }
     requires fits { FitsNames app.now.names session.now }
-    requires shaped { K.shaped keeper.old ≡ Some app.now.names.schema }
+    requires shaped { K.shaped keeper.old ≡ by app.now.names.schema }
     requires day { IsToday moment cache.old.values.day }
     requires order { IsInOrder app.now cache.old }
     requires right { ∥ IsRightOver app.now session.now (K.told keeper.old) moment cache.old ∥₁ }
@@ -110,7 +111,7 @@ pub fn show_items<K: Keeper, L: Ledger>(
 ) -> Result<Reply, KeeperEnd>
     requires sound { IsSoundApp app.now }
     requires fits { FitsNames app.now.names session.now }
-    requires shaped { K.shaped keeper.old ≡ Some app.now.names.schema }
+    requires shaped { K.shaped keeper.old ≡ by app.now.names.schema }
     requires day { IsToday moment cache.old.values.day }
     requires order { IsInOrder app.now cache.old }
     requires right { ∥ IsRightOver app.now session.now (K.told keeper.old) moment cache.old ∥₁ }
@@ -159,7 +160,7 @@ fn show_items_of<K: Keeper, L: Ledger>(
     requires sound { IsSoundApp app.now }
     requires fits { FitsNames app.now.names session.now }
     requires gallery { IsGalleryOf app.now.names gallery }
-    requires shaped { K.shaped keeper.old ≡ Some app.now.names.schema }
+    requires shaped { K.shaped keeper.old ≡ by app.now.names.schema }
     requires day { IsToday moment cache.old.values.day }
     requires order { IsInOrder app.now cache.old }
     requires right { ∥ IsRightOver app.now session.now (K.told keeper.old) moment cache.old ∥₁ }

@@ -22,6 +22,7 @@ ghost use Rattle.recalc.specs.app_cells.Leaning.{cell_of_property};
 ghost use Rattle.session_views.specs.Bounds.{control_steps, formulas_for};
 ghost use Rattle.session_views.specs.Looking.{is_it};
 ghost use Rattle.row_keeper.specs.Over.{HasCause};
+ghost use Rattle.row_keeper.specs.Shaped.{by};
 
 use crate::app_cells::App;
 use crate::displaying::{no_text, text_alone};
@@ -73,7 +74,7 @@ fn text_for<K: Keeper, L: Ledger>(
     requires control { slice_get app.now.names.controls number ≡ Some control.now }
     requires within { is_in_of gallery control.now.gallery ≡ true }
     requires row { IsItemOf app.now.names gallery row.now }
-    requires shaped { K.shaped keeper.old ≡ Some app.now.names.schema }
+    requires shaped { K.shaped keeper.old ≡ by app.now.names.schema }
     ensures shows { IfOk result (λ v. (moment : ℕ) (tables : ToldRows)
         → IsToday moment valued.now.day → IsHeardOf (K.told keeper.new) tables →
         IsPropertyForItem (present app.now session.now tables moment) (value_of valued.now)
@@ -127,7 +128,7 @@ fn template_control<K: Keeper, L: Ledger>(
     requires control { slice_get app.now.names.controls number ≡ Some control.now }
     requires within { is_in_of gallery control.now.gallery ≡ true }
     requires row { IsItemOf app.now.names gallery row.now }
-    requires shaped { K.shaped keeper.old ≡ Some app.now.names.schema }
+    requires shaped { K.shaped keeper.old ≡ by app.now.names.schema }
     ensures shows { IfOk result (λ o. (moment : ℕ) (tables : ToldRows)
         → IsToday moment valued.now.day → IsHeardOf (K.told keeper.new) tables
         → IsItemControlShown (present app.now session.now tables moment) (value_of valued.now)
@@ -172,7 +173,7 @@ fn item_control<K: Keeper, L: Ledger>(
     requires ready { CanShow app.now session.now valued.now }
     requires control { slice_get app.now.names.controls number ≡ Some control.now }
     requires row { IsItemOf app.now.names gallery row.now }
-    requires shaped { K.shaped keeper.old ≡ Some app.now.names.schema }
+    requires shaped { K.shaped keeper.old ≡ by app.now.names.schema }
     ensures shows { IfOk result (λ o. (moment : ℕ) (tables : ToldRows)
         → IsToday moment valued.now.day → IsHeardOf (K.told keeper.new) tables
         → IsItemControlShown (present app.now session.now tables moment) (value_of valued.now)
@@ -209,7 +210,7 @@ pub(crate) fn item_controls<K: Keeper, L: Ledger>(
 ) -> Result<ItemControlList, KeeperEnd>
     requires ready { CanShow app.now session.now valued.now }
     requires row { IsItemOf app.now.names gallery row.now }
-    requires shaped { K.shaped keeper.old ≡ Some app.now.names.schema }
+    requires shaped { K.shaped keeper.old ≡ by app.now.names.schema }
     ensures shows { IfOk result (λ l. (moment : ℕ) (tables : ToldRows)
         → IsToday moment valued.now.day → IsHeardOf (K.told keeper.new) tables
         → AreEachGiven (IsItemControlShown (present app.now session.now tables moment)

@@ -23,6 +23,7 @@ ghost use Rattle.recalc.specs.Kept.{HasNumbersLeft, IsInOrder};
 ghost use Rattle.recalc.specs.Outcomes.{IsRightOver};
 ghost use Rattle.recalc.specs.Steps.{KeepsClean};
 ghost use Rattle.row_keeper.specs.Over.{HasCause};
+ghost use Rattle.row_keeper.specs.Shaped.{by};
 
 use crate::app_cells::App;
 use crate::displaying::{display, is_seen};
@@ -56,7 +57,7 @@ pub fn view_of<K: Keeper, L: Ledger>(
     requires sound { IsSoundApp app.now }
     requires holds { HoldsFitting app.now.names session.now }
     requires screen { session.now.screen < length app.now.names.screens }
-    requires shaped { K.shaped keeper.old ≡ Some app.now.names.schema }
+    requires shaped { K.shaped keeper.old ≡ by app.now.names.schema }
     requires day { IsToday moment cache.old.values.day }
     requires order { IsInOrder app.now cache.old }
     ensures shows { IfOk result (λ v. IsRightOver app.now session.now (K.told keeper.old) moment
@@ -100,7 +101,7 @@ fn view_by<K: Keeper, L: Ledger>(
 ) -> Result<View, KeeperEnd>
     requires ready { CanShow app.now session.now valued.now }
     requires screen { session.now.screen < length app.now.names.screens }
-    requires shaped { K.shaped keeper.old ≡ Some app.now.names.schema }
+    requires shaped { K.shaped keeper.old ≡ by app.now.names.schema }
     ensures shows { IfOk result (λ v. (moment : ℕ) (tables : ToldRows)
         → IsToday moment valued.now.day → IsHeardOf (K.told keeper.new) tables
         → IsView (present app.now session.now tables moment) (value_of valued.now) v) }
@@ -134,7 +135,7 @@ fn all_shown<K: Keeper, L: Ledger>(
     steps: &mut Steps<L>,
 ) -> Result<ShownList, KeeperEnd>
     requires ready { CanShow app.now session.now valued.now }
-    requires shaped { K.shaped keeper.old ≡ Some app.now.names.schema }
+    requires shaped { K.shaped keeper.old ≡ by app.now.names.schema }
     ensures shows { IfOk result (λ l. (moment : ℕ) (tables : ToldRows)
         → IsToday moment valued.now.day → IsHeardOf (K.told keeper.new) tables
         → AreEachGiven (IsShown (present app.now session.now tables moment) (value_of valued.now)) 0
@@ -185,7 +186,7 @@ fn shown_control<K: Keeper, L: Ledger>(
 ) -> Result<Option<Shown>, KeeperEnd>
     requires ready { CanShow app.now session.now valued.now }
     requires control { slice_get app.now.names.controls number ≡ Some control.now }
-    requires shaped { K.shaped keeper.old ≡ Some app.now.names.schema }
+    requires shaped { K.shaped keeper.old ≡ by app.now.names.schema }
     ensures shows { IfOk result (λ o. (moment : ℕ) (tables : ToldRows)
         → IsToday moment valued.now.day → IsHeardOf (K.told keeper.new) tables
         → IsShown (present app.now session.now tables moment) (value_of valued.now) number
@@ -221,7 +222,7 @@ fn shown_with<K: Keeper, L: Ledger>(
 ) -> Result<Shown, KeeperEnd>
     requires ready { CanShow app.now session.now valued.now }
     requires control { slice_get app.now.names.controls number ≡ Some control.now }
-    requires shaped { K.shaped keeper.old ≡ Some app.now.names.schema }
+    requires shaped { K.shaped keeper.old ≡ by app.now.names.schema }
     ensures shows { IfOk result (λ s. (moment : ℕ) (tables : ToldRows)
         → IsToday moment valued.now.day → IsHeardOf (K.told keeper.new) tables
         → IsShownControl (present app.now session.now tables moment) (value_of valued.now) number
@@ -260,7 +261,7 @@ fn shown_items<K: Keeper, L: Ledger>(
 ) -> Result<Option<Items>, KeeperEnd>
     requires ready { CanShow app.now session.now valued.now }
     requires control { slice_get app.now.names.controls number ≡ Some control.now }
-    requires shaped { K.shaped keeper.old ≡ Some app.now.names.schema }
+    requires shaped { K.shaped keeper.old ≡ by app.now.names.schema }
     ensures shows { IfOk result (λ o. (moment : ℕ) (tables : ToldRows)
         → IsToday moment valued.now.day → IsHeardOf (K.told keeper.new) tables
         → ShowsFirstItems (present app.now session.now tables moment) (value_of valued.now) number

@@ -15,7 +15,7 @@ use row_queries::{Query, Row};
 use std::alloc::Global;
 
 /// Whether the numbers of rows rise.
-fn ids_rise(rows: &[Row]) -> bool
+pub fn ids_rise(rows: &[Row]) -> bool
     ensures { result ≡ true → AreInIdOrder rows.now }
 {
     let mut last = 0;

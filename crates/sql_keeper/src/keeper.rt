@@ -1,10 +1,15 @@
 //! A keeper over SQLite.
-ghost use Rattle.std.specs.Prelude.{◌≡◌, ◌≢◌, ◌≤◌, false, length, slice_get, None, Some, IfNone};
-ghost use Rattle.std.specs.Prelude.{IfOk, IfSome, IsSome, IsErrOf, IsSomeAnd, OnErr, OnOk};
+ghost use Rattle.std.specs.Prelude.{◌≡◌, ◌≢◌, ◌≤◌, cond, true, false, length, slice_get, None};
+ghost use Rattle.std.specs.Prelude.{Some, IfNone, IfOk, IfSome, IsSome, IsErrOf, IsSomeAnd, OnErr};
+ghost use Rattle.std.specs.Prelude.{OnOk};
 ghost use Rattle.std.specs.List.{All, AllByRecursion};
 ghost use Rattle.fx_base.specs.Faults.{Rose};
+ghost use Rattle.fx_core.specs.Lawful.{IsLawfulSchema};
 ghost use Rattle.row_keeper.specs.Causes.{end_of};
 ghost use Rattle.row_keeper.specs.Changes.{IsInserted, IsReplaced};
+ghost use Rattle.row_keeper.specs.Kept.{columns_shaped};
+ghost use Rattle.row_keeper.specs.MovedTables.{AreMoves, IsReshaped};
+ghost use Rattle.row_keeper.specs.Shaped.{gone_back, shaped_so, steady};
 ghost use Rattle.row_keeper.specs.Tables.{columns_at, shapes_of};
 ghost use Rattle.row_keeper.specs.declared.keeper.KeeperEnd.TheVariants.{Failed as CallFailed};
 ghost use Rattle.row_queries.specs.Answers.{IsCountAnswer, IsScanAnswer, IsTotalAnswer, OfRows};
@@ -13,11 +18,15 @@ ghost use Rattle.row_queries.specs.RowTests.{HasNoFaults};
 ghost use Rattle.row_queries.specs.TableRows.{AreCellsOf, IsRowOf};
 ghost use Rattle.row_queries.specs.Visits.{VisitsAtLeast};
 ghost use Rattle.sql_keeper.specs.Given.{IsGivenOf};
-ghost use Rattle.sql_keeper.specs.View.{faults_after};
+ghost use Rattle.sql_keeper.specs.View.{faults_after, sql_shape};
 
 use crate::changes::Changes;
 use crate::changing::{insert_row, remove_row, replace_row};
 use crate::database::Database;
+use crate::moving::{
+    Ground, come_back, keep_first, moved_tables, new_ground, schema_after, schema_before,
+    write_moved,
+};
 use crate::reading::ask;
 use crate::shaping::{kept_body, kept_tallies, new_tallies, other_schema};
 use crate::tallies::{Tally, end};
@@ -26,11 +35,13 @@ use fx_core::Schema;
 use fx_tables::totals;
 use fx_types::Totals;
 use row_keeper::answers::{answer, give_rows, values_in};
+use row_keeper::moved::judge;
 use row_keeper::schemas::copy_schema;
-use row_keeper::{Keeper, KeeperEnd, Put};
+use row_keeper::{Keeper, KeeperEnd, Put, Reshaped, TableMove};
 use row_lines::schemas::body_of;
 use row_queries::{Cells, Query, Row, RowList};
 use std::marker::Model;
+use std::mem;
 use std::rt::HostRuntime;
 
 /// Rows in a SQLite database: a new one in memory where the name attached is empty or `:memory:`,
@@ -44,6 +55,10 @@ pub struct SqlKeeper {
     tallies: Vec<Tally>,
     /// What the transaction has changed, where one is begun.
     changes: Option<Changes>,
+    /// The schema as the transaction began, and what it went over then, where it has moved the
+    /// tables.
+    was: Option<Option<Schema>>,
+    aside: Option<Ground>,
     visited: u64,
     faults: u64,
 }
@@ -58,6 +73,8 @@ impl Drop for SqlKeeper {
             schema: _,
             tallies: _,
             changes: _,
+            was: _,
+            aside: _,
             visited: _,
             faults: _,
         } = self;
@@ -68,7 +85,7 @@ impl Model for SqlKeeper {
     ghost use Rattle.std.specs.Prelude.{is_some};
     ghost use Rattle.std.specs.Coded.{codes};
     ghost use Rattle.fx_core.specs.contracts.schema.Schema.{the_row as schema_row};
-    ghost use Rattle.sql_keeper.specs.View.{SqlView};
+    ghost use Rattle.sql_keeper.specs.View.{SqlView, schema_then};
 
     ghost Value = { SqlView };
 
@@ -76,6 +93,7 @@ impl Model for SqlKeeper {
 
     ghost view = { λ k. record {
       schema = k.schema;
+      was = schema_then k.schema k.was;
       is_begun = is_some k.changes;
       visited = k.visited;
       faults = k.faults;
@@ -85,7 +103,13 @@ impl Model for SqlKeeper {
 impl SqlKeeper {
     /// No database, no schema and no transaction. Files are opened by the runtime.
     pub fn new(rt: HostRuntime) -> SqlKeeper
-        ensures { result ≡ record { schema = None; is_begun = false; visited = 0; faults = 0 } }
+        ensures { result ≡ record {
+          schema = None;
+          was = None;
+          is_begun = false;
+          visited = 0;
+          faults = 0;
+        } }
     {
         SqlKeeper {
             rt,
@@ -93,6 +117,8 @@ impl SqlKeeper {
             schema: None,
             tallies: Vec::new(rt.alloc()),
             changes: None,
+            was: None,
+            aside: None,
             visited: 0,
             faults: 0,
         }
@@ -143,12 +169,13 @@ impl SqlKeeper {
 
     /// Opens the database of a name. It is shaped by no schema then.
     fn open(&mut self, name: &str) -> Result<(), KeeperEnd>
-        ensures ok { OnOk result (self.new ≡ record self.old { schema = None }) }
+        ensures ok { OnOk result (self.new ≡ record self.old { schema = None; was = None }) }
         ensures err { OnErr result (self.new ≡ self.old) }
     {
         let database = Database::open(&self.rt, name)?;
         self.database = Some(database);
         self.schema = None;
+        self.was = None;
         Ok(())
     }
 
@@ -156,7 +183,7 @@ impl SqlKeeper {
     fn keep(&mut self, schema: &Schema) -> Result<Option<Schema>, KeeperEnd>
         ensures another { IfOk result (λ other. IfSome other (λ s. s ≢ schema.now)) }
         ensures shaped { IfOk result (λ other. IfNone other
-            (self.new ≡ record self.old { schema = Some schema.now })) }
+            (self.new ≡ record self.old { schema = Some schema.now; was = Some schema.now })) }
         ensures unshaped { IfOk result (λ other. IsSome other → self.new ≡ self.old) }
         ensures err { OnErr result (self.new ≡ self.old) }
     {
@@ -175,6 +202,7 @@ impl SqlKeeper {
         };
         self.tallies = tallies;
         self.schema = Some(copy);
+        self.was = None;
         Ok(None)
     }
 
@@ -250,15 +278,78 @@ impl SqlKeeper {
         )
     }
 
-    /// Writes what the transaction has made of the rows.
-    fn play(&mut self) -> Result<(), KeeperEnd>
-        ensures { self.new ≡ self.old }
+    /// Moves the tables to another schema, or names the first of the new tables in which a row
+    /// would break a rule.
+    fn move_tables(&mut self, schema: &Schema, moves: &[TableMove]) -> Result<Reshaped, KeeperEnd>
+        requires begun { self.old.is_begun ≡ true }
+        requires lawful { IsLawfulSchema schema.now }
+        requires moves { AreMoves (shapes_of self.old.schema) schema.now.tables moves.now }
+        ensures sound { IfOk result (IsReshaped (columns_shaped schema.now.tables)) }
+        ensures shaped { IfOk result (λ r. sql_shape self.new
+            ≡ shaped_so schema.now r (sql_shape self.old)) }
+        ensures same { self.new ≡ record self.old { schema = self.new.schema } }
     {
-        let (Some(schema), Some(database), Some(changes)) = (
+        let alloc = self.rt.alloc();
+        let (Some(olds), Some(database), Some(changes)) = (
             &self.schema,
             &mut self.database,
             &self.changes,
         ) else {
+            return Err(KeeperEnd::Failed);
+        };
+        let tables = moved_tables(
+            alloc,
+            database,
+            changes,
+            olds.tables.as_slice(),
+            &self.tallies,
+            schema.tables.as_slice(),
+            moves,
+        )?;
+        let judged = judge(alloc, &tables)?;
+        match judged {
+            Reshaped::Broken(..) => Ok(judged),
+            Reshaped::Done => {
+                let copy = copy_schema(alloc, schema)?;
+                let mut made = Changes::new(alloc);
+                let ground = new_ground(&self.rt, schema, &tables, &mut made)?;
+                self.go_over(copy, ground, made);
+                Ok(Reshaped::Done)
+            }
+        }
+    }
+
+    /// Goes on over tables that have moved. What it went over before goes aside, unless something
+    /// is there already.
+    fn go_over(&mut self, schema: Schema, mut ground: Ground, made: Changes)
+        ensures { self.new ≡ record self.old { schema = Some schema; is_begun = true } }
+    {
+        mem::swap(&mut self.database, &mut ground.database);
+        mem::swap(&mut self.tallies, &mut ground.tallies);
+        keep_first(&mut self.aside, ground);
+        let was = schema_before(self.schema.take(), self.was.take());
+        self.was = Some(was);
+        self.schema = Some(schema);
+        self.changes = Some(made);
+    }
+
+    /// Writes what the transaction has made of the rows.
+    fn play(&mut self) -> Result<(), KeeperEnd>
+        ensures { self.new ≡ self.old }
+    {
+        let (Some(schema), Some(changes)) = (&self.schema, &self.changes) else {
+            return Err(KeeperEnd::Failed);
+        };
+        if let Some(before) = &mut self.aside {
+            return write_moved(
+                self.rt.alloc(),
+                &mut before.database,
+                schema,
+                changes,
+                &self.tallies,
+            );
+        }
+        let Some(database) = &mut self.database else {
             return Err(KeeperEnd::Failed);
         };
         database.write(&Writing::Rows {
@@ -266,6 +357,26 @@ impl SqlKeeper {
             changes,
             tallies: &self.tallies,
         })
+    }
+
+    /// Ends a transaction, with its changes or without, and takes no memory.
+    fn end(&mut self, with_changes: bool)
+        ensures shaped { sql_shape self.new ≡ cond with_changes (steady (sql_shape self.old))
+            (gone_back (sql_shape self.old)) }
+        ensures same { self.new ≡ record self.old
+            { schema = self.new.schema; was = self.new.was; is_begun = false } }
+    {
+        come_back(
+            &mut self.database,
+            &mut self.tallies,
+            &mut self.aside,
+            with_changes,
+        );
+        let schema = self.schema.take();
+        let was = self.was.take();
+        self.schema = schema_after(schema, was, with_changes);
+        end(&mut self.tallies, with_changes);
+        self.changes = None;
     }
 
     /// The rows that a query asks, in its order. They are counted as visited.
@@ -360,7 +471,7 @@ impl SqlKeeper {
 
 impl Keeper for SqlKeeper {
     ghost use Rattle.std.specs.Prelude.{◌≡◌, None, refl};
-    ghost use Rattle.sql_keeper.specs.View.{CountsFailures, sql_marks};
+    ghost use Rattle.sql_keeper.specs.View.{CountsFailures, sql_marks, sql_shape};
 
     ghost told = { λ _. None };
 
@@ -368,7 +479,9 @@ impl Keeper for SqlKeeper {
 
     ghost attached = { λ _. None };
 
-    ghost shaped = { λ k. k.schema };
+    ghost leaves = { λ _. None };
+
+    ghost shaped = { sql_shape };
 
     ghost in_transaction = { λ k. k.is_begun };
 
@@ -386,7 +499,7 @@ impl Keeper for SqlKeeper {
 
     ghost backs = { λ k l. l.faults ≡ k.faults };
 
-    ghost quiet = { λ _ _. refl };
+    ghost quiet = { λ _ _. (refl, refl) };
 
     ghost heard = { λ _ h. h };
 
@@ -402,6 +515,7 @@ impl Keeper for SqlKeeper {
 
     fn begin(&mut self) -> Result<(), KeeperEnd> {
         self.changes = Some(Changes::new(self.rt.alloc()));
+        self.was = None;
         Ok(())
     }
 
@@ -420,16 +534,19 @@ impl Keeper for SqlKeeper {
         self.count_fault(was)
     }
 
+    fn reshape(&mut self, schema: &Schema, moves: &[TableMove]) -> Result<Reshaped, KeeperEnd> {
+        let moved = self.move_tables(schema, moves);
+        self.count_fault(moved)
+    }
+
     fn commit(&mut self) -> Result<(), KeeperEnd> {
         let played = self.play();
-        end(&mut self.tallies, played.is_ok());
-        self.changes = None;
+        self.end(played.is_ok());
         self.count_fault(played)
     }
 
     fn back(&mut self) {
-        end(&mut self.tallies, false);
-        self.changes = None;
+        self.end(false);
     }
 
     fn scan(&mut self, query: &Query) -> Result<RowList, KeeperEnd> {
@@ -448,4 +565,6 @@ impl Keeper for SqlKeeper {
             Err(end) => Err(self.counted_end(end)),
         }
     }
+
+    fn fits(&self) {}
 }

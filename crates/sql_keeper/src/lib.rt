@@ -6,6 +6,7 @@ mod changes;
 mod changing;
 mod database;
 pub mod keeper;
+mod moving;
 mod ranges;
 mod reading;
 mod rules;

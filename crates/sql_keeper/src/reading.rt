@@ -13,6 +13,7 @@ use crate::statements::{self, bytes_in, number_in};
 use fx_base::Memory;
 use fx_core::{Column, TableShape};
 use row_keeper::KeeperEnd;
+use row_keeper::scans::sort_rows;
 use row_lines::lines::row_of;
 use row_queries::{KeyRange, Query, Row, TestNode};
 use sqlite::Row as Answer;
@@ -360,6 +361,22 @@ pub fn ask(
         push_keyed(alloc, &mut rows, database, changes, table, query)?;
     }
     arrange(alloc, rows, table, query)
+}
+
+/// All rows of a table, by rising numbers.
+pub fn all_rows(
+    alloc: Global,
+    database: &mut Database,
+    changes: Option<&Changes>,
+    table: &TableShape,
+    tab: u16,
+) -> Result<Vec<Row>, KeeperEnd>
+    ensures { IfOk result (λ rows. AllByRecursion (IsRowOf table.now) rows.items) }
+{
+    let mut rows = Vec::new(alloc);
+    push_between(alloc, &mut rows, database, changes, table, tab, 1, u32::MAX)?;
+    sort_rows(&mut rows, None)?;
+    Ok(rows)
 }
 
 /// The body of a row's line, if there is one now.

@@ -227,3 +227,12 @@ pub fn take_mark<S: Alter>(
         params![u32::from(tab), u32::from(column), key, id],
     )
 }
+
+/// Takes out all that the database keeps: the schema, the tables, and the lines and marks of their
+/// rows.
+pub fn take_all<S: Alter>(tx: &mut Transaction<'_, S>) -> Result<(), KeeperEnd> {
+    write(tx, "DELETE FROM shape", &[])?;
+    write(tx, "DELETE FROM tabs", &[])?;
+    write(tx, "DELETE FROM lines", &[])?;
+    write(tx, "DELETE FROM marks", &[])
+}

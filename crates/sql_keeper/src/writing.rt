@@ -2,8 +2,8 @@
 
 use crate::changes::{Change, Changes};
 use crate::statements::{
-    commit, make_tables, put_line, put_mark, put_shape, put_tab, set_last, set_line, take_line,
-    take_mark,
+    commit, make_tables, put_line, put_mark, put_shape, put_tab, set_last, set_line, take_all,
+    take_line, take_mark,
 };
 use crate::tallies::Tally;
 use fx_core::{Column, Schema};
@@ -22,6 +22,15 @@ pub enum Writing<'a> {
     },
     /// What a transaction has made of the rows.
     Rows {
+        schema: &'a Schema,
+        changes: &'a Changes,
+        tallies: &'a [Tally],
+    },
+    /// The body of another schema with its tables in the place of all that is kept. All their rows
+    /// are what the transaction has made, and the numbers that they have given.
+    Moved {
+        body: &'a [u8],
+        tables: u16,
         schema: &'a Schema,
         changes: &'a Changes,
         tallies: &'a [Tally],
@@ -51,6 +60,18 @@ fn play<S: Alter>(tx: &mut Transaction<'_, S>, writing: &Writing<'_>) -> Result<
             changes,
             tallies,
         } => {
+            play_changes(tx, schema, changes)?;
+            play_lasts(tx, tallies)
+        }
+        Writing::Moved {
+            body,
+            tables,
+            schema,
+            changes,
+            tallies,
+        } => {
+            take_all(tx)?;
+            play_schema(tx, true, body, *tables)?;
             play_changes(tx, schema, changes)?;
             play_lasts(tx, tallies)
         }

@@ -4,6 +4,7 @@ use Rattle.fx_types.specs.declared.types.Ty.TheVariants.{Number, Text}
 use Rattle.fx_core.specs.declared.schema.Column.{Column}
 use Rattle.fx_core.specs.declared.schema.Schema.{Schema}
 use Rattle.fx_core.specs.declared.schema.TableShape.{TableShape}
+use Rattle.row_keeper.specs.Shaped.{Shaped}
 
 -- a column of texts, and an indexed one of numbers
 abbrev pub AreStockColumns : List Column → Type 0
@@ -19,8 +20,9 @@ abbrev pub IsStock : Option Schema → Type 0
 IsStock None = ⊥
 IsStock (Some s) = AreStockTables s.tables
 
--- a keeper stands where the cases say: whether it has the table, and whether a transaction is begun
-pub record IsInStep (is_shaped is_begun : Bool) (shaped : Option Schema) (in_transaction : Bool) :
+-- a keeper stands where the cases say: whether it has the table, as the transaction began too, and
+-- whether one is begun
+pub record IsInStep (is_shaped is_begun : Bool) (shaped : Shaped) (in_transaction : Bool) :
     Type 0 where
-  pub stocked : is_shaped ≡ true → IsStock shaped
+  pub stocked : is_shaped ≡ true → IsStock shaped.now × (shaped.then ≡ shaped.now)
   pub begun : in_transaction ≡ is_begun

@@ -30,6 +30,8 @@ struct Rows {
 pub struct PlainKeeper {
     alloc: Global,
     plan: FaultPlan,
+    /// Whether the table is kept, and whether the last call that was to shape the keeper by it did.
+    is_kept: bool,
     is_shaped: bool,
     now: Rows,
     /// The rows as the transaction began, where one is begun.
@@ -43,6 +45,7 @@ impl Drop for PlainKeeper {
         let PlainKeeper {
             alloc: _,
             plan: _,
+            is_kept: _,
             is_shaped: _,
             now: _,
             then: _,
@@ -56,6 +59,7 @@ impl PlainKeeper {
         PlainKeeper {
             alloc,
             plan: FaultPlan::new(fails),
+            is_kept: false,
             is_shaped: false,
             now: Rows {
                 rows: Vec::new(alloc),
@@ -90,8 +94,10 @@ impl PlainKeeper {
             return self.say("not now");
         }
         if self.plan.next_fails() {
+            self.is_shaped = false;
             return end(self.alloc, KeeperEnd::Failed);
         }
+        self.is_kept = true;
         self.is_shaped = true;
         self.say("kept")
     }
@@ -101,9 +107,10 @@ impl PlainKeeper {
             return self.say("not now");
         }
         if self.plan.next_fails() {
+            self.is_shaped = false;
             return end(self.alloc, KeeperEnd::Failed);
         }
-        if self.is_shaped {
+        if self.is_kept {
             self.say("another is kept: Stock.Name.Qty")
         } else {
             self.say("kept")
@@ -125,6 +132,9 @@ impl PlainKeeper {
     }
 
     fn commit(&mut self) -> Result<String, Memory> {
+        if !self.is_shaped {
+            return self.say("not now");
+        }
         let Some(then) = self.then.take() else {
             return self.say("not now");
         };

@@ -1,5 +1,7 @@
 // The same calls over each keeper.
 ghost use Rattle.std.specs.Prelude.{IfOk};
+ghost use Rattle.row_keeper.specs.StoreView.{shape_of};
+ghost use Rattle.sql_keeper.specs.View.{sql_shape};
 ghost use Rattle.test_keeper.specs.Played.{AreInStep};
 ghost use Rattle.test_keeper.specs.Stock.{IsInStep};
 
@@ -47,7 +49,7 @@ impl Drop for Played {
 
 /// A keeper in memory, whose calls of these numbers fail.
 fn in_memory(alloc: Global, fails: Vec<u64>) -> Case<MemoryKeeper>
-    ensures { IsInStep result.stage.is_shaped result.stage.is_begun result.keeper.store.schema
+    ensures { IsInStep result.stage.is_shaped result.stage.is_begun (shape_of result.keeper.store)
         result.keeper.store.is_begun }
 {
     Case::new(alloc, MemoryKeeper::new(alloc, FaultPlan::new(fails)))
@@ -55,7 +57,7 @@ fn in_memory(alloc: Global, fails: Vec<u64>) -> Case<MemoryKeeper>
 
 /// A keeper over the database of a name. Where it can't be opened, each call of the keeper fails.
 fn over_sql(rt: HostRuntime, name: &str) -> Case<SqlKeeper>
-    ensures { IsInStep result.stage.is_shaped result.stage.is_begun result.keeper.schema
+    ensures { IsInStep result.stage.is_shaped result.stage.is_begun (sql_shape result.keeper)
         result.keeper.is_begun }
 {
     let mut keeper = SqlKeeper::new(rt);

@@ -99,7 +99,10 @@ pub fn shape<K: Keeper>(alloc: Global, keeper: &mut K, stage: &mut Stage) -> Res
             Ok(String::from_str(alloc, "kept")?)
         }
         Ok(Some(other)) => say_schema(alloc, &other),
-        Err(why) => end(alloc, why),
+        Err(why) => {
+            stage.is_shaped = false;
+            end(alloc, why)
+        }
     }
 }
 
@@ -124,7 +127,10 @@ pub fn shape_other<K: Keeper>(
             Ok(String::from_str(alloc, "kept")?)
         }
         Ok(Some(other)) => say_schema(alloc, &other),
-        Err(why) => end(alloc, why),
+        Err(why) => {
+            stage.is_shaped = false;
+            end(alloc, why)
+        }
     }
 }
 
@@ -150,7 +156,7 @@ pub fn commit<K: Keeper>(alloc: Global, keeper: &mut K, stage: &mut Stage) -> Re
     ensures { IsInStep stage.new.is_shaped stage.new.is_begun (K.shaped keeper.new)
         (K.in_transaction keeper.new) }
 {
-    if !stage.is_begun {
+    if !stage.is_shaped || !stage.is_begun {
         return Ok(String::from_str(alloc, "not now")?);
     }
     let ended = keeper.commit();

@@ -3,7 +3,7 @@ ghost use Rattle.std.specs.Prelude.{◌≡◌};
 
 use fx_core::Schema;
 use fx_types::Totals;
-use row_keeper::{Keeper, KeeperEnd, Put};
+use row_keeper::{Keeper, KeeperEnd, Put, Reshaped, TableMove};
 use row_queries::{Cells, Query, RowList};
 use std::alloc::{AllocError, Global};
 
@@ -58,6 +58,8 @@ impl<K: Keeper> Keeper for AskedKeeper<K> {
 
     ghost began = { λ k. K.began k.keeper };
 
+    ghost leaves = { λ k. K.leaves k.keeper };
+
     ghost attached = { λ k. K.attached k.keeper };
 
     ghost shaped = { λ k. K.shaped k.keeper };
@@ -106,6 +108,10 @@ impl<K: Keeper> Keeper for AskedKeeper<K> {
         self.keeper.remove(table, id)
     }
 
+    fn reshape(&mut self, schema: &Schema, moves: &[TableMove]) -> Result<Reshaped, KeeperEnd> {
+        self.keeper.reshape(schema, moves)
+    }
+
     fn commit(&mut self) -> Result<(), KeeperEnd> {
         self.keeper.commit()
     }
@@ -127,5 +133,9 @@ impl<K: Keeper> Keeper for AskedKeeper<K> {
     fn total(&mut self, query: &Query, column: u16) -> Result<Totals, KeeperEnd> {
         self.write_down("total", query.table);
         self.keeper.total(query, column)
+    }
+
+    fn fits(&self) {
+        self.keeper.fits()
     }
 }

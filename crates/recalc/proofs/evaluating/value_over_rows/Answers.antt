@@ -90,7 +90,7 @@ returns-in-Ok-clause-read g c =
     carried (λ (k : g.row.K.Denot). HasRead (keeps c.args.keeper.now) (keeps k)) env.keeper.now _ (search rules)
     (has_read c.args.app.now.names env.names.now c.as_slice.result.now env.reads.now (view c.args.day.now) (view env.today.now) c.args.session.now env.session.now (map view c.args.values.now) (map view env.values.now)
     c.args.app.now.limit env.limit _ _ _ _ _ _ _ _ _ _ _ _ _ _ _ _ c.requires.shaped env.shaped c.eval.ensures.fixed c.eval.ensures.told c.eval.ensures.marks c.eval.ensures.visited
-    (g.met.K.Keeper.quiet c.args.keeper.now) (g.met.K.Keeper.quiet env.keeper.now))
+    (λ e. (g.met.K.Keeper.quiet c.args.keeper.now e).0) (λ e. (g.met.K.Keeper.quiet env.keeper.now e).0))
 
 pub returns-clause-read : goal.returns-clause-read
 returns-clause-read g c =
@@ -99,7 +99,7 @@ returns-clause-read g c =
     carried (λ (k : g.row.K.Denot). HasRead (keeps c.args.keeper.now) (keeps k)) env.keeper.now _ (search rules)
     (has_read c.args.app.now.names env.names.now c.as_slice.result.now env.reads.now (view c.args.day.now) (view env.today.now) c.args.session.now env.session.now (map view c.args.values.now) (map view env.values.now)
     c.args.app.now.limit env.limit _ _ _ _ _ _ _ _ _ _ _ _ _ _ _ _ c.requires.shaped env.shaped c.eval.ensures.fixed c.eval.ensures.told c.eval.ensures.marks c.eval.ensures.visited
-    (g.met.K.Keeper.quiet c.args.keeper.now) (g.met.K.Keeper.quiet env.keeper.now))
+    (λ e. (g.met.K.Keeper.quiet c.args.keeper.now e).0) (λ e. (g.met.K.Keeper.quiet env.keeper.now e).0))
 
 pub returns-in-Ok-clause-visits : goal.returns-in-Ok-clause-visits
 returns-in-Ok-clause-visits g c =

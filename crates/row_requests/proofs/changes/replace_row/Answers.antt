@@ -10,6 +10,7 @@ use Rattle.row_queries.specs.TableRows.{IsRowOf}
 use Rattle.row_queries.specs.declared.rows.Row.{Row}
 use Rattle.row_keeper.specs.Changes.{IsReplaced, Replaces}
 use Rattle.row_keeper.specs.Tables.{columns_at, shapes_of}
+use Rattle.row_keeper.specs.Shaped.{Shaped}
 use Rattle.row_requests.specs.Changes.{cells_with, first_refusal}
 use Rattle.row_requests.specs.Steps.{came}
 use Rattle.row_requests.proofs.AnyKeepers.{replaced_may, unjudged_replace}
@@ -43,8 +44,8 @@ cells_with-requires g c =
     let columns = columns_at tables c.args.table in
     let row_fits : AreCellsOf columns c.in-Some.row.cells = fits_columns tables c.args.table c.in-Some.row.cells
     (row_cells (slice_get tables c.args.table) c.in-Some.row
-    (subst (λ o. IsSomeAnd (slice_get (shapes_of o) c.args.table) (λ (t : TableShape). IsRowOf t c.in-Some.row)) c.requires.shaped
-    (subst (λ o. IfSome o (λ (r : Row). IsSomeAnd (slice_get (shapes_of (g.K.Keeper.shaped c.args.keeper.now)) c.args.table) (λ (t : TableShape). IsRowOf t r))) c.in-Some.is c.in_ok-row.ensures.fit))) in
+    (subst (λ (o : Shaped). IsSomeAnd (slice_get (shapes_of o.now) c.args.table) (λ (t : TableShape). IsRowOf t c.in-Some.row)) c.requires.shaped
+    (subst (λ o. IfSome o (λ (r : Row). IsSomeAnd (slice_get (shapes_of (g.K.Keeper.shaped c.args.keeper.now).now) c.args.table) (λ (t : TableShape). IsRowOf t r))) c.in-Some.is c.in_ok-row.ensures.fit))) in
     sym (view_length c.as_slice.result.now) ∙ ap length c.as_slice.ensures ∙ same_length columns c.in-Some.row.cells row_fits ∙ ap length (sym c.columns_of-columns.ensures)
 
 pub replace-requires-clause-fit : goal.replace-requires-clause-fit
@@ -56,11 +57,11 @@ replace-requires-clause-fit g c =
     c.in_ok-cells.ensures ∙ ap (λ cs. cells_with c.args.given.now cs (map view c.as_slice.result.now)) c.columns_of-columns.ensures ∙ ap (cells_with c.args.given.now columns) c.as_slice.ensures in
     let row_fits : AreCellsOf columns c.in-Some.row.cells = fits_columns tables c.args.table c.in-Some.row.cells
     (row_cells (slice_get tables c.args.table) c.in-Some.row
-    (subst (λ o. IsSomeAnd (slice_get (shapes_of o) c.args.table) (λ (t : TableShape). IsRowOf t c.in-Some.row)) c.requires.shaped
-    (subst (λ o. IfSome o (λ (r : Row). IsSomeAnd (slice_get (shapes_of (g.K.Keeper.shaped c.args.keeper.now)) c.args.table) (λ (t : TableShape). IsRowOf t r))) c.in-Some.is c.in_ok-row.ensures.fit))) in
+    (subst (λ (o : Shaped). IsSomeAnd (slice_get (shapes_of o.now) c.args.table) (λ (t : TableShape). IsRowOf t c.in-Some.row)) c.requires.shaped
+    (subst (λ o. IfSome o (λ (r : Row). IsSomeAnd (slice_get (shapes_of (g.K.Keeper.shaped c.args.keeper.now).now) c.args.table) (λ (t : TableShape). IsRowOf t r))) c.in-Some.is c.in_ok-row.ensures.fit))) in
     let fit : AreCellsOf columns c.in_ok-cells.cells = subst (AreCellsOf columns) (sym cells_are)
     (cells_fit c.args.at columns c.args.given.now c.in-Some.row.cells passed c.in_ok-judged.ensures.scalars (are_apart c.args.schema.now c.args.table c.requires.lawful c.requires.table) row_fits) in
-    subst (λ o. IsSomeAnd (slice_get (shapes_of o) c.args.table) (λ (t : TableShape). AreCellsOf t.columns c.in_ok-cells.cells)) (sym (c.in_ok-row.ensures.shaped ∙ c.requires.shaped))
+    subst (λ (o : Shaped). IsSomeAnd (slice_get (shapes_of o.now) c.args.table) (λ (t : TableShape). AreCellsOf t.columns c.in_ok-cells.cells)) (sym (c.in_ok-row.ensures.shaped ∙ c.requires.shaped))
     (fits_there tables c.args.table c.in_ok-cells.cells c.requires.table fit)
 
 pub returns-clause-done : goal.returns-clause-done
@@ -77,7 +78,7 @@ returns-clause-done g c =
     c.in_ok-row.field-0 c.in-Some.row c.in_ok-cells.cells c.in_ok-put.put c.in_ok-changed.changed c.in-Some.is passed cells_are
     (c.in_ok-changed.ensures ∙ ap (λ (cs : List Column). came c.args.at cs c.in_ok-put.put) c.columns_of-columns.ensures)
     c.in_ok-row.ensures.cause.later c.in_ok-put.ensures.cause.later (rows_in_order c.args.schema.now c.args.table c.requires.table before c.requires.sound) c.in_ok-row.ensures.found
-    (subst (λ o. MayFallSilent (SilenceCause (g.K.Keeper.marks c.find_row.new.keeper) (g.K.Keeper.marks c.replace.new.self)) (Replaces (columns_at (shapes_of o) c.args.table) c.args.table c.args.id c.in_ok-cells.cells c.in_ok-put.put) between now) (c.in_ok-row.ensures.shaped ∙ c.requires.shaped) c.in_ok-put.ensures.put)
+    (subst (λ (o : Shaped). MayFallSilent (SilenceCause (g.K.Keeper.marks c.find_row.new.keeper) (g.K.Keeper.marks c.replace.new.self)) (Replaces (columns_at (shapes_of o.now) c.args.table) c.args.table c.args.id c.in_ok-cells.cells c.in_ok-put.put) between now) (c.in_ok-row.ensures.shaped ∙ c.requires.shaped) c.in_ok-put.ensures.put)
 
 pub returns-clause-sound : goal.returns-clause-sound
 returns-clause-sound g c =
@@ -89,11 +90,11 @@ returns-clause-sound g c =
     c.in_ok-cells.ensures ∙ ap (λ cs. cells_with c.args.given.now cs (map view c.as_slice.result.now)) c.columns_of-columns.ensures ∙ ap (cells_with c.args.given.now columns) c.as_slice.ensures in
     let row_fits : AreCellsOf columns c.in-Some.row.cells = fits_columns tables c.args.table c.in-Some.row.cells
     (row_cells (slice_get tables c.args.table) c.in-Some.row
-    (subst (λ o. IsSomeAnd (slice_get (shapes_of o) c.args.table) (λ (t : TableShape). IsRowOf t c.in-Some.row)) c.requires.shaped
-    (subst (λ o. IfSome o (λ (r : Row). IsSomeAnd (slice_get (shapes_of (g.K.Keeper.shaped c.args.keeper.now)) c.args.table) (λ (t : TableShape). IsRowOf t r))) c.in-Some.is c.in_ok-row.ensures.fit))) in
+    (subst (λ (o : Shaped). IsSomeAnd (slice_get (shapes_of o.now) c.args.table) (λ (t : TableShape). IsRowOf t c.in-Some.row)) c.requires.shaped
+    (subst (λ o. IfSome o (λ (r : Row). IsSomeAnd (slice_get (shapes_of (g.K.Keeper.shaped c.args.keeper.now).now) c.args.table) (λ (t : TableShape). IsRowOf t r))) c.in-Some.is c.in_ok-row.ensures.fit))) in
     let fit : AreCellsOf columns c.in_ok-cells.cells = subst (AreCellsOf columns) (sym cells_are)
     (cells_fit c.args.at columns c.args.given.now c.in-Some.row.cells passed c.in_ok-judged.ensures.scalars (are_apart c.args.schema.now c.args.table c.requires.lawful c.requires.table) row_fits) in
-    replaces_sound c.args.schema.now (SilenceCause (g.K.Keeper.marks c.find_row.new.keeper) (g.K.Keeper.marks c.replace.new.self)) (columns_at (shapes_of (g.K.Keeper.shaped c.find_row.new.keeper)) c.args.table) c.args.table c.args.id c.in_ok-cells.cells c.in_ok-put.put c.requires.table fit
+    replaces_sound c.args.schema.now (SilenceCause (g.K.Keeper.marks c.find_row.new.keeper) (g.K.Keeper.marks c.replace.new.self)) (columns_at (shapes_of (g.K.Keeper.shaped c.find_row.new.keeper).now) c.args.table) c.args.table c.args.id c.in_ok-cells.cells c.in_ok-put.put c.requires.table fit
     between (g.K.Keeper.told c.replace.new.self)
     (found_sound c.args.schema.now c.args.table c.args.id (SilenceCause (g.K.Keeper.marks c.args.keeper.now) (g.K.Keeper.marks c.find_row.new.keeper)) c.in_ok-row.field-0 (g.K.Keeper.told c.args.keeper.now) between c.requires.sound c.in_ok-row.ensures.found)
     c.in_ok-put.ensures.put
@@ -108,5 +109,5 @@ returns-clause-may g c =
     let columns = columns_at c.args.schema.now.tables c.args.table in
     let passed : first_refusal c.args.at columns c.args.given.now ≡ None = ap (λ cs. first_refusal c.args.at cs c.args.given.now) (sym c.columns_of-columns.ensures) ∙ sym c.in_ok-judged.ensures.is ∙ c.in-None-judged.is in
     replaced_may c.args.at columns c.args.id c.args.given.now c.in_ok-put.put c.in_ok-changed.changed passed
-    (subst (λ o. IsReplaced (columns_at (shapes_of o) c.args.table) c.args.id c.in_ok-put.put) (c.in_ok-row.ensures.shaped ∙ c.requires.shaped) c.in_ok-put.ensures.sound)
+    (subst (λ (o : Shaped). IsReplaced (columns_at (shapes_of o.now) c.args.table) c.args.id c.in_ok-put.put) (c.in_ok-row.ensures.shaped ∙ c.requires.shaped) c.in_ok-put.ensures.sound)
     (c.in_ok-changed.ensures ∙ ap (λ (cs : List Column). came c.args.at cs c.in_ok-put.put) c.columns_of-columns.ensures)

@@ -22,6 +22,6 @@ returns-in-Ok-clause-found g c =
 
 pub returns-in-Ok-clause-fit : goal.returns-in-Ok-clause-fit
 returns-in-Ok-clause-fit g c =
-    fits_popped (slice_get (shapes_of (g.K.Keeper.shaped c.args.keeper.now)) c.args.table) c.in-Ok.answer.rows c.pop.new.self.items c.pop.result
+    fits_popped (slice_get (shapes_of (g.K.Keeper.shaped c.args.keeper.now).now) c.args.table) c.in-Ok.answer.rows c.pop.new.self.items c.pop.result
     (sym c.into_items-rows.ensures ∙ c.pop.ensures.items)
-    (subst (λ (q : Query). IsSomeAnd (slice_get (shapes_of (g.K.Keeper.shaped c.args.keeper.now)) q.table) (λ (t : TableShape). All (IsRowOf t) c.in-Ok.answer.rows)) c.in_ok-query.ensures c.in-Ok.ensures.fit)
+    (subst (λ (q : Query). IsSomeAnd (slice_get (shapes_of (g.K.Keeper.shaped c.args.keeper.now).now) q.table) (λ (t : TableShape). All (IsRowOf t) c.in-Ok.answer.rows)) c.in_ok-query.ensures c.in-Ok.ensures.fit)

@@ -27,7 +27,7 @@ returns-in-Ok-clause-found g c =
 
 pub returns-in-Ok-clause-fit : goal.returns-in-Ok-clause-fit
 returns-in-Ok-clause-fit g c =
-    let shapes = shapes_of (g.K.Keeper.shaped c.args.keeper.now) in
+    let shapes = shapes_of (g.K.Keeper.shaped c.args.keeper.now).now in
     subst (λ (rows : List Row). IsSomeAnd (slice_get shapes c.args.table) (λ (t : TableShape). All (IsRowOf t) rows)) (sym c.into_items.ensures)
     (subst (λ (q : Query). IsSomeAnd (slice_get shapes q.table) (λ (t : TableShape). All (IsRowOf t) c.in-Ok.answer.rows)) c.in_ok-query.ensures c.in-Ok.ensures.fit)
 

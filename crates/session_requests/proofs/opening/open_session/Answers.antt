@@ -1,6 +1,7 @@
-use Rattle.std.proofs.Common.{Option, refl, subst}
+use Rattle.std.proofs.Common.{Option, ap, refl, subst, ◌∙◌}
 use Rattle.fx_base.specs.Silence.{MayFallSilent, SilenceCause}
 use Rattle.fx_base.specs.Telling.{Stays}
+use Rattle.row_keeper.specs.Shaped.{gone_back, steady}
 use Rattle.row_keeper.specs.Tables.{Tables}
 use Rattle.session_state.specs.Sessions.{opened}
 use Rattle.session_requests.specs.Running.{Opens, OpensWriting}
@@ -77,3 +78,18 @@ returns-in-Ok-settle-clause-wrote g c =
           (told old) (told first) (told second) (told third) c.begin.ensures.cause.later c.prepare_session.ensures.cause.later c.settle.ensures.cause.later
           c.begin.ensures.tables h.1 (c.in-Ok-settle.ensures.kept refl),
     )
+
+pub prepare_session-requires-clause-shaped : goal.prepare_session-requires-clause-shaped
+prepare_session-requires-clause-shaped g c = c.in-Ok.ensures.shaped ∙ ap steady c.requires.shaped
+
+pub settle-requires-clause-shaped : goal.settle-requires-clause-shaped
+settle-requires-clause-shaped g c = (c.args.app.now.names.schema, c.prepare_session.ensures.undoable.shaped)
+
+pub returns-in-Ok-settle-clause-shaped : goal.returns-in-Ok-settle-clause-shaped
+returns-in-Ok-settle-clause-shaped g c = c.settle.ensures.shaped ∙ c.prepare_session.ensures.undoable.shaped
+
+pub returns-in-Err-settle-clause-shaped : goal.returns-in-Err-settle-clause-shaped
+returns-in-Err-settle-clause-shaped g c = c.settle.ensures.shaped ∙ c.prepare_session.ensures.undoable.shaped
+
+pub returns-in-Err-prepare_session-clause-shaped : goal.returns-in-Err-prepare_session-clause-shaped
+returns-in-Err-prepare_session-clause-shaped g c = c.back.ensures.shaped ∙ ap gone_back c.prepare_session.ensures.undoable.shaped

@@ -58,12 +58,12 @@ returns-clause-cached g c =
 pub returns-clause-undoable : goal.returns-clause-undoable
 returns-clause-undoable g c =
     subst (λ (s : SessionState). CanGoBack g.K.Keeper c.args.app.now c.args.moment s c.open.new.cache c.open.new.keeper c.open.new.wrote.items) c.in_ok-before.ensures.opened
-    (can_go_back g.K.Keeper c.args.app.now c.args.moment c.in_ok-before.before c.open.new.session c.open.new.cache c.open.new.keeper c.open.new.wrote.items c.requires.sound (g.met.K.Keeper.quiet c.open.new.keeper) c.open.ensures.under_way)
+    (can_go_back g.K.Keeper c.args.app.now c.args.moment c.in_ok-before.before c.open.new.session c.open.new.cache c.open.new.keeper c.open.new.wrote.items c.requires.sound (λ e. (g.met.K.Keeper.quiet c.open.new.keeper e).0) c.open.ensures.under_way)
 
 pub returns-in_err-open-clause-undoable : goal.returns-in_err-open-clause-undoable
 returns-in_err-open-clause-undoable g c =
     subst (λ (s : SessionState). CanGoBack g.K.Keeper c.args.app.now c.args.moment s c.open.new.cache c.open.new.keeper c.open.new.wrote.items) c.in_ok-before.ensures.opened
-    (can_go_back g.K.Keeper c.args.app.now c.args.moment c.in_ok-before.before c.open.new.session c.open.new.cache c.open.new.keeper c.open.new.wrote.items c.requires.sound (g.met.K.Keeper.quiet c.open.new.keeper) c.open.ensures.under_way)
+    (can_go_back g.K.Keeper c.args.app.now c.args.moment c.in_ok-before.before c.open.new.session c.open.new.cache c.open.new.keeper c.open.new.wrote.items c.requires.sound (λ e. (g.met.K.Keeper.quiet c.open.new.keeper e).0) c.open.ensures.under_way)
 
 pub returns-in_err-before-clause-undoable : goal.returns-in_err-before-clause-undoable
 returns-in_err-before-clause-undoable g c =

@@ -82,7 +82,7 @@ returns-in-Ok-clause-acted g c =
     let w = c.act.new.world in
     let old = c.args.keeper.now in
     let now = w.keeper.now in
-    let f = lent_same (anchor (g.A.SoundApp.app w.app.now) w.moment w.before.now (take w.earlier w.wrote.now.items)) (anchor (g.A.SoundApp.app c.args.app.now) c.args.moment c.args.before.now (take c.args.earlier c.args.wrote.now.items)) _ _ _ _ _ _ _ _ _ _ _ _ c.act.ensures.passed.fixed in
+    let f = lent_same (anchor (g.A.SoundApp.app w.app.now) w.moment w.before.now (take w.earlier w.wrote.now.items)) (anchor (g.A.SoundApp.app c.args.app.now) c.args.moment c.args.before.now (take c.args.earlier c.args.wrote.now.items)) _ _ _ _ _ _ _ _ _ _ _ _ c.act.ensures.attempt.passed.fixed in
     let front : take c.args.earlier c.args.wrote.now.items ≡ c.args.wrote.now.items = ap (λ n. take n c.args.wrote.now.items) c.requires.earlier ∙ take-length c.args.wrote.now.items in
     let count : w.earlier ≡ length c.args.wrote.now.items = count_same w.earlier w.wrote.now.items c.args.wrote.now.items w.counted (f.one.earlier ∙ front) in
     let none : drop c.args.earlier c.args.wrote.now.items ≡ [] = ap (λ n. drop n c.args.wrote.now.items) c.requires.earlier ∙ drop-length c.args.wrote.now.items in
@@ -91,7 +91,7 @@ returns-in-Ok-clause-acted g c =
     now _ w.session.now _ w.wrote.now.items _ (search (rules, f.keeper)) (search (rules, f.session)) (search (rules, f.wrote))
     (subst (λ n. MayFallSilent (SilenceCause (g.K.Keeper.marks old) (g.K.Keeper.marks now)) (λ t u. PerformsCell (g.A.SoundApp.app c.args.app.now) c.args.moment c.args.info.now (option_map view c.args.item) t c.args.session.now (view c.in-Ok.value) u w.session.now (drop n w.wrote.now.items)) (g.K.Keeper.told old) (g.K.Keeper.told now)) count
     (acts_from (SilenceCause (g.K.Keeper.marks old) (g.K.Keeper.marks now)) (g.A.SoundApp.app c.args.app.now) (g.A.SoundApp.app c.args.app.now) c.args.moment c.args.info.now (option_map view c.args.item) (scope_values c.new.result.items c.args.item None) (view c.in-Ok.value) (g.K.Keeper.began old) (view c.args.day.now) (view w.day.now) (grounds (g.A.SoundApp.app w.app.now) w.moment (g.K.Keeper.began now)) c.args.session.now w.session.now c.args.cache.now.values.cells w.cache.now.values.cells (drop c.args.earlier c.args.wrote.now.items) (drop w.earlier w.wrote.now.items) (g.K.Keeper.told old) (g.K.Keeper.told now)
-    refl none empty c.act.ensures.passed.state c.in-Ok.ensures.done))
+    refl none empty c.act.ensures.attempt.passed.state c.in-Ok.ensures.done))
 
 pub returns-in-Ok-clause-value : goal.returns-in-Ok-clause-value
 returns-in-Ok-clause-value g c =
@@ -110,7 +110,7 @@ returns-clause-cut g c =
     let now = w.keeper.now in
     let a = g.A.SoundApp.app c.args.app.now in
     let item = option_map view c.args.item in
-    let f = lent_same (anchor (g.A.SoundApp.app w.app.now) w.moment w.before.now (take w.earlier w.wrote.now.items)) (anchor (g.A.SoundApp.app c.args.app.now) c.args.moment c.args.before.now (take c.args.earlier c.args.wrote.now.items)) _ _ _ _ _ _ _ _ _ _ _ _ c.act.ensures.passed.fixed in
+    let f = lent_same (anchor (g.A.SoundApp.app w.app.now) w.moment w.before.now (take w.earlier w.wrote.now.items)) (anchor (g.A.SoundApp.app c.args.app.now) c.args.moment c.args.before.now (take c.args.earlier c.args.wrote.now.items)) _ _ _ _ _ _ _ _ _ _ _ _ c.act.ensures.attempt.passed.fixed in
     let front : take c.args.earlier c.args.wrote.now.items ≡ c.args.wrote.now.items = ap (λ n. take n c.args.wrote.now.items) c.requires.earlier ∙ take-length c.args.wrote.now.items in
     let count : w.earlier ≡ length c.args.wrote.now.items = count_same w.earlier w.wrote.now.items c.args.wrote.now.items w.counted (f.one.earlier ∙ front) in
     let none : drop c.args.earlier c.args.wrote.now.items ≡ [] = ap (λ n. drop n c.args.wrote.now.items) c.requires.earlier ∙ drop-length c.args.wrote.now.items in
@@ -120,7 +120,7 @@ returns-clause-cut g c =
     (subst (λ n. MayFallSilent (SilenceCause (marks old) (marks now)) (λ (t u : Tables). AllSources (IsInAll (FormulaWrites a c.args.moment c.args.info.now item t c.args.session.now)) (drop n w.wrote.now.items)) (told old) (told now)) count
     (cut_from c.cuts_go_on.ensures c.one_source_value.ensures (SilenceCause (marks old) (marks now)) a c.args.moment c.args.info.now item (scope_values c.new.result.items c.args.item None) (g.K.Keeper.began old) (view c.args.day.now) (view w.day.now) (grounds (g.A.SoundApp.app w.app.now) w.moment (g.K.Keeper.began now))
     c.args.session.now w.session.now c.args.cache.now.values.cells w.cache.now.values.cells (drop c.args.earlier c.args.wrote.now.items) (drop w.earlier w.wrote.now.items) (told old) (told now)
-    none empty c.act.ensures.passed.state c.in-Err.ensures.cut))
+    none empty c.act.ensures.attempt.passed.state c.in-Err.ensures.cut))
 
 pub returns-in-Ok-clause-only : goal.returns-in-Ok-clause-only
 returns-in-Ok-clause-only g c =
@@ -130,14 +130,14 @@ returns-in-Ok-clause-only g c =
     let old = c.args.keeper.now in
     let now = w.keeper.now in
     let may = MayWrite c.args.info.now.core in
-    let f = lent_same (anchor (g.A.SoundApp.app w.app.now) w.moment w.before.now (take w.earlier w.wrote.now.items)) (anchor (g.A.SoundApp.app c.args.app.now) c.args.moment c.args.before.now (take c.args.earlier c.args.wrote.now.items)) _ _ _ _ _ _ _ _ _ _ _ _ c.act.ensures.passed.fixed in
+    let f = lent_same (anchor (g.A.SoundApp.app w.app.now) w.moment w.before.now (take w.earlier w.wrote.now.items)) (anchor (g.A.SoundApp.app c.args.app.now) c.args.moment c.args.before.now (take c.args.earlier c.args.wrote.now.items)) _ _ _ _ _ _ _ _ _ _ _ _ c.act.ensures.attempt.passed.fixed in
     let front : take c.args.earlier c.args.wrote.now.items ≡ c.args.wrote.now.items = ap (λ n. take n c.args.wrote.now.items) c.requires.earlier ∙ take-length c.args.wrote.now.items in
     let count : w.earlier ≡ length c.args.wrote.now.items = count_same w.earlier w.wrote.now.items c.args.wrote.now.items w.counted (f.one.earlier ∙ front) in
     let none : drop c.args.earlier c.args.wrote.now.items ≡ [] = ap (λ n. drop n c.args.wrote.now.items) c.requires.earlier ∙ drop-length c.args.wrote.now.items in
     carried_both (λ (k : g.row.K.Denot) (zs : List Source). MayFallSilent (SilenceCause (marks old) (marks k)) (λ (t u : Tables). AllSources may (drop (length c.args.wrote.now.items) zs)) (told old) (told k)) now _ w.wrote.now.items _ (search (rules, f.keeper)) (search (rules, f.wrote))
     (subst (λ n. MayFallSilent (SilenceCause (marks old) (marks now)) (λ (t u : Tables). AllSources may (drop n w.wrote.now.items)) (told old) (told now)) count
     (only_from (SilenceCause (marks old) (marks now)) may (view c.args.day.now) (view w.day.now) (grounds (g.A.SoundApp.app c.args.app.now) c.args.moment (g.K.Keeper.began old)) (grounds (g.A.SoundApp.app w.app.now) w.moment (g.K.Keeper.began now)) c.args.session.now w.session.now
-    c.args.cache.now.values.cells w.cache.now.values.cells (drop c.args.earlier c.args.wrote.now.items) (drop w.earlier w.wrote.now.items) (told old) (told now) none c.act.ensures.only))
+    c.args.cache.now.values.cells w.cache.now.values.cells (drop c.args.earlier c.args.wrote.now.items) (drop w.earlier w.wrote.now.items) (told old) (told now) none c.act.ensures.attempt.only))
 
 pub returns-clause-only : goal.returns-clause-only
 returns-clause-only g c =
@@ -147,38 +147,38 @@ returns-clause-only g c =
     let old = c.args.keeper.now in
     let now = w.keeper.now in
     let may = MayWrite c.args.info.now.core in
-    let f = lent_same (anchor (g.A.SoundApp.app w.app.now) w.moment w.before.now (take w.earlier w.wrote.now.items)) (anchor (g.A.SoundApp.app c.args.app.now) c.args.moment c.args.before.now (take c.args.earlier c.args.wrote.now.items)) _ _ _ _ _ _ _ _ _ _ _ _ c.act.ensures.passed.fixed in
+    let f = lent_same (anchor (g.A.SoundApp.app w.app.now) w.moment w.before.now (take w.earlier w.wrote.now.items)) (anchor (g.A.SoundApp.app c.args.app.now) c.args.moment c.args.before.now (take c.args.earlier c.args.wrote.now.items)) _ _ _ _ _ _ _ _ _ _ _ _ c.act.ensures.attempt.passed.fixed in
     let front : take c.args.earlier c.args.wrote.now.items ≡ c.args.wrote.now.items = ap (λ n. take n c.args.wrote.now.items) c.requires.earlier ∙ take-length c.args.wrote.now.items in
     let count : w.earlier ≡ length c.args.wrote.now.items = count_same w.earlier w.wrote.now.items c.args.wrote.now.items w.counted (f.one.earlier ∙ front) in
     let none : drop c.args.earlier c.args.wrote.now.items ≡ [] = ap (λ n. drop n c.args.wrote.now.items) c.requires.earlier ∙ drop-length c.args.wrote.now.items in
     carried_both (λ (k : g.row.K.Denot) (zs : List Source). MayFallSilent (SilenceCause (marks old) (marks k)) (λ (t u : Tables). AllSources may (drop (length c.args.wrote.now.items) zs)) (told old) (told k)) now _ w.wrote.now.items _ (search (rules, f.keeper)) (search (rules, f.wrote))
     (subst (λ n. MayFallSilent (SilenceCause (marks old) (marks now)) (λ (t u : Tables). AllSources may (drop n w.wrote.now.items)) (told old) (told now)) count
     (only_from (SilenceCause (marks old) (marks now)) may (view c.args.day.now) (view w.day.now) (grounds (g.A.SoundApp.app c.args.app.now) c.args.moment (g.K.Keeper.began old)) (grounds (g.A.SoundApp.app w.app.now) w.moment (g.K.Keeper.began now)) c.args.session.now w.session.now
-    c.args.cache.now.values.cells w.cache.now.values.cells (drop c.args.earlier c.args.wrote.now.items) (drop w.earlier w.wrote.now.items) (told old) (told now) none c.act.ensures.only))
+    c.args.cache.now.values.cells w.cache.now.values.cells (drop c.args.earlier c.args.wrote.now.items) (drop w.earlier w.wrote.now.items) (told old) (told now) none c.act.ensures.attempt.only))
 
 pub returns-in-Ok-clause-leaves : goal.returns-in-Ok-clause-leaves
 returns-in-Ok-clause-leaves g c =
     let w = c.act.new.world in
     let old = c.args.keeper.now in
     let now = w.keeper.now in
-    let f = lent_same (anchor (g.A.SoundApp.app w.app.now) w.moment w.before.now (take w.earlier w.wrote.now.items)) (anchor (g.A.SoundApp.app c.args.app.now) c.args.moment c.args.before.now (take c.args.earlier c.args.wrote.now.items)) _ _ _ _ _ _ _ _ _ _ _ _ c.act.ensures.passed.fixed in
+    let f = lent_same (anchor (g.A.SoundApp.app w.app.now) w.moment w.before.now (take w.earlier w.wrote.now.items)) (anchor (g.A.SoundApp.app c.args.app.now) c.args.moment c.args.before.now (take c.args.earlier c.args.wrote.now.items)) _ _ _ _ _ _ _ _ _ _ _ _ c.act.ensures.attempt.passed.fixed in
     let none : drop c.args.earlier c.args.wrote.now.items ≡ [] = ap (λ n. drop n c.args.wrote.now.items) c.requires.earlier ∙ drop-length c.args.wrote.now.items in
     carried_both (λ (k : g.row.K.Denot) (r : SessionState). MayFallSilent (SilenceCause (g.K.Keeper.marks old) (g.K.Keeper.marks k)) (λ t u. ChangesOnlyWritten (g.A.SoundApp.app c.args.app.now) c.args.moment t c.args.session.now u r) (g.K.Keeper.told old) (g.K.Keeper.told k))
     now _ w.session.now _ (search (rules, f.keeper)) (search (rules, f.session))
     (leaves_from (SilenceCause (g.K.Keeper.marks old) (g.K.Keeper.marks now)) (g.A.SoundApp.app c.args.app.now) (g.A.SoundApp.app c.args.app.now) c.args.moment (g.K.Keeper.began old) (view c.args.day.now) (view w.day.now) (grounds (g.A.SoundApp.app w.app.now) w.moment (g.K.Keeper.began now)) c.args.session.now w.session.now c.args.cache.now.values.cells w.cache.now.values.cells (drop c.args.earlier c.args.wrote.now.items) (drop w.earlier w.wrote.now.items) (g.K.Keeper.told old) (g.K.Keeper.told now)
-    refl none c.act.ensures.passed.state)
+    refl none c.act.ensures.attempt.passed.state)
 
 pub returns-clause-leaves : goal.returns-clause-leaves
 returns-clause-leaves g c =
     let w = c.act.new.world in
     let old = c.args.keeper.now in
     let now = w.keeper.now in
-    let f = lent_same (anchor (g.A.SoundApp.app w.app.now) w.moment w.before.now (take w.earlier w.wrote.now.items)) (anchor (g.A.SoundApp.app c.args.app.now) c.args.moment c.args.before.now (take c.args.earlier c.args.wrote.now.items)) _ _ _ _ _ _ _ _ _ _ _ _ c.act.ensures.passed.fixed in
+    let f = lent_same (anchor (g.A.SoundApp.app w.app.now) w.moment w.before.now (take w.earlier w.wrote.now.items)) (anchor (g.A.SoundApp.app c.args.app.now) c.args.moment c.args.before.now (take c.args.earlier c.args.wrote.now.items)) _ _ _ _ _ _ _ _ _ _ _ _ c.act.ensures.attempt.passed.fixed in
     let none : drop c.args.earlier c.args.wrote.now.items ≡ [] = ap (λ n. drop n c.args.wrote.now.items) c.requires.earlier ∙ drop-length c.args.wrote.now.items in
     carried_both (λ (k : g.row.K.Denot) (r : SessionState). MayFallSilent (SilenceCause (g.K.Keeper.marks old) (g.K.Keeper.marks k)) (λ t u. ChangesOnlyWritten (g.A.SoundApp.app c.args.app.now) c.args.moment t c.args.session.now u r) (g.K.Keeper.told old) (g.K.Keeper.told k))
     now _ w.session.now _ (search (rules, f.keeper)) (search (rules, f.session))
     (leaves_from (SilenceCause (g.K.Keeper.marks old) (g.K.Keeper.marks now)) (g.A.SoundApp.app c.args.app.now) (g.A.SoundApp.app c.args.app.now) c.args.moment (g.K.Keeper.began old) (view c.args.day.now) (view w.day.now) (grounds (g.A.SoundApp.app w.app.now) w.moment (g.K.Keeper.began now)) c.args.session.now w.session.now c.args.cache.now.values.cells w.cache.now.values.cells (drop c.args.earlier c.args.wrote.now.items) (drop w.earlier w.wrote.now.items) (g.K.Keeper.told old) (g.K.Keeper.told now)
-    refl none c.act.ensures.passed.state)
+    refl none c.act.ensures.attempt.passed.state)
 
 pub returns-in-Ok-clause-under_way : goal.returns-in-Ok-clause-under_way
 returns-in-Ok-clause-under_way g c =
@@ -186,12 +186,12 @@ returns-in-Ok-clause-under_way g c =
     let a = g.A.SoundApp.app c.args.app.now in
     let old = c.args.keeper.now in
     let now = w.keeper.now in
-    let f = lent_same (anchor (g.A.SoundApp.app w.app.now) w.moment w.before.now (take w.earlier w.wrote.now.items)) (anchor (g.A.SoundApp.app c.args.app.now) c.args.moment c.args.before.now (take c.args.earlier c.args.wrote.now.items)) _ _ _ _ _ _ _ _ _ _ _ _ c.act.ensures.passed.fixed in
+    let f = lent_same (anchor (g.A.SoundApp.app w.app.now) w.moment w.before.now (take w.earlier w.wrote.now.items)) (anchor (g.A.SoundApp.app c.args.app.now) c.args.moment c.args.before.now (take c.args.earlier c.args.wrote.now.items)) _ _ _ _ _ _ _ _ _ _ _ _ c.act.ensures.attempt.passed.fixed in
     let front : take c.args.earlier c.args.wrote.now.items ≡ c.args.wrote.now.items = ap (λ n. take n c.args.wrote.now.items) c.requires.earlier ∙ take-length c.args.wrote.now.items in
     let count : w.earlier ≡ length c.args.wrote.now.items = count_same w.earlier w.wrote.now.items c.args.wrote.now.items w.counted (f.one.earlier ∙ front) in
     let none : drop c.args.earlier c.args.wrote.now.items ≡ [] = ap (λ n. drop n c.args.wrote.now.items) c.requires.earlier ∙ drop-length c.args.wrote.now.items in
     let later = later_from (SilenceCause (g.K.Keeper.marks old) (g.K.Keeper.marks now)) (view c.args.day.now) (view w.day.now) (grounds a c.args.moment (g.K.Keeper.began old)) (grounds (g.A.SoundApp.app w.app.now) w.moment (g.K.Keeper.began now)) c.args.session.now w.session.now c.args.cache.now.values.cells w.cache.now.values.cells c.args.wrote.now.items w.wrote.now.items (drop c.args.earlier c.args.wrote.now.items) w.earlier (g.K.Keeper.told old) (g.K.Keeper.told now)
-    count (f.one.earlier ∙ front) none c.act.ensures.passed.state c.requires.under_way.later in
+    count (f.one.earlier ∙ front) none c.act.ensures.attempt.passed.state c.requires.under_way.later in
     carried_four (λ (s : SessionState) (z : CacheState) (k : g.row.K.Denot) (zs : List Source). IsUnderWay g.K.Keeper a c.args.moment c.args.before.now s z k zs) w.session.now w.cache.now now w.wrote.now.items _ _ _ _
     (search (rules, f.session)) (search (rules, f.cache)) (search (rules, f.keeper)) (search (rules, f.wrote))
     (left_under_way g.K.Keeper a (g.A.SoundApp.app w.app.now) c.args.moment w.moment c.args.before.now w.before.now w.session.now w.cache.now now w.wrote.now.items f.one.app f.one.moment f.one.before
@@ -203,12 +203,12 @@ returns-clause-under_way g c =
     let a = g.A.SoundApp.app c.args.app.now in
     let old = c.args.keeper.now in
     let now = w.keeper.now in
-    let f = lent_same (anchor (g.A.SoundApp.app w.app.now) w.moment w.before.now (take w.earlier w.wrote.now.items)) (anchor (g.A.SoundApp.app c.args.app.now) c.args.moment c.args.before.now (take c.args.earlier c.args.wrote.now.items)) _ _ _ _ _ _ _ _ _ _ _ _ c.act.ensures.passed.fixed in
+    let f = lent_same (anchor (g.A.SoundApp.app w.app.now) w.moment w.before.now (take w.earlier w.wrote.now.items)) (anchor (g.A.SoundApp.app c.args.app.now) c.args.moment c.args.before.now (take c.args.earlier c.args.wrote.now.items)) _ _ _ _ _ _ _ _ _ _ _ _ c.act.ensures.attempt.passed.fixed in
     let front : take c.args.earlier c.args.wrote.now.items ≡ c.args.wrote.now.items = ap (λ n. take n c.args.wrote.now.items) c.requires.earlier ∙ take-length c.args.wrote.now.items in
     let count : w.earlier ≡ length c.args.wrote.now.items = count_same w.earlier w.wrote.now.items c.args.wrote.now.items w.counted (f.one.earlier ∙ front) in
     let none : drop c.args.earlier c.args.wrote.now.items ≡ [] = ap (λ n. drop n c.args.wrote.now.items) c.requires.earlier ∙ drop-length c.args.wrote.now.items in
     let later = later_from (SilenceCause (g.K.Keeper.marks old) (g.K.Keeper.marks now)) (view c.args.day.now) (view w.day.now) (grounds a c.args.moment (g.K.Keeper.began old)) (grounds (g.A.SoundApp.app w.app.now) w.moment (g.K.Keeper.began now)) c.args.session.now w.session.now c.args.cache.now.values.cells w.cache.now.values.cells c.args.wrote.now.items w.wrote.now.items (drop c.args.earlier c.args.wrote.now.items) w.earlier (g.K.Keeper.told old) (g.K.Keeper.told now)
-    count (f.one.earlier ∙ front) none c.act.ensures.passed.state c.requires.under_way.later in
+    count (f.one.earlier ∙ front) none c.act.ensures.attempt.passed.state c.requires.under_way.later in
     carried_four (λ (s : SessionState) (z : CacheState) (k : g.row.K.Denot) (zs : List Source). IsUnderWay g.K.Keeper a c.args.moment c.args.before.now s z k zs) w.session.now w.cache.now now w.wrote.now.items _ _ _ _
     (search (rules, f.session)) (search (rules, f.cache)) (search (rules, f.keeper)) (search (rules, f.wrote))
     (left_under_way g.K.Keeper a (g.A.SoundApp.app w.app.now) c.args.moment w.moment c.args.before.now w.before.now w.session.now w.cache.now now w.wrote.now.items f.one.app f.one.moment f.one.before
@@ -220,7 +220,7 @@ returns-in-Ok-clause-goes_on g c =
     let a = g.A.SoundApp.app c.args.app.now in
     let old = c.args.keeper.now in
     let now = w.keeper.now in
-    let f = lent_same (anchor (g.A.SoundApp.app w.app.now) w.moment w.before.now (take w.earlier w.wrote.now.items)) (anchor (g.A.SoundApp.app c.args.app.now) c.args.moment c.args.before.now (take c.args.earlier c.args.wrote.now.items)) _ _ _ _ _ _ _ _ _ _ _ _ c.act.ensures.passed.fixed in
+    let f = lent_same (anchor (g.A.SoundApp.app w.app.now) w.moment w.before.now (take w.earlier w.wrote.now.items)) (anchor (g.A.SoundApp.app c.args.app.now) c.args.moment c.args.before.now (take c.args.earlier c.args.wrote.now.items)) _ _ _ _ _ _ _ _ _ _ _ _ c.act.ensures.attempt.passed.fixed in
     let front : take c.args.earlier c.args.wrote.now.items ≡ c.args.wrote.now.items = ap (λ n. take n c.args.wrote.now.items) c.requires.earlier ∙ take-length c.args.wrote.now.items in
     let count : w.earlier ≡ length c.args.wrote.now.items = count_same w.earlier w.wrote.now.items c.args.wrote.now.items w.counted (f.one.earlier ∙ front) in
     let prefix : take (length c.args.wrote.now.items) w.wrote.now.items ≡ c.args.wrote.now.items = ap (λ n. take n w.wrote.now.items) (sym count) ∙ f.one.earlier ∙ front in
@@ -229,9 +229,9 @@ returns-in-Ok-clause-goes_on g c =
     (record {
       prefix = prefix;
       began = began_goes (SilenceCause (g.K.Keeper.marks old) (g.K.Keeper.marks now)) (view c.args.day.now) (view w.day.now) (grounds a c.args.moment (g.K.Keeper.began old)) (grounds (g.A.SoundApp.app w.app.now) w.moment (g.K.Keeper.began now)) c.args.session.now w.session.now c.args.cache.now.values.cells w.cache.now.values.cells (drop c.args.earlier c.args.wrote.now.items) (drop w.earlier w.wrote.now.items)
-          (g.K.Keeper.told old) (g.K.Keeper.told now) (g.met.K.Keeper.quiet old) (g.met.K.Keeper.quiet now) c.act.ensures.passed.state;
+          (g.K.Keeper.told old) (g.K.Keeper.told now) (λ e. (g.met.K.Keeper.quiet old e).0) (λ e. (g.met.K.Keeper.quiet now e).0) c.act.ensures.attempt.passed.state;
       loan = f.loan;
-      visited = c.act.ensures.passed.visited;
+      visited = c.act.ensures.attempt.passed.visited;
       clean = leaves_but a c.args.wrote.now.items w.wrote.now.items c.args.cache.now w.cache.now prefix
           (subst (λ (z : CacheState). StaysCleanExcept a w.wrote.now.items z w.cache.now) c.requires.start (subst (λ (z : App). StaysCleanExcept z w.wrote.now.items g.S.Start.start w.cache.now) f.one.app w.left));
     })
@@ -242,7 +242,7 @@ returns-clause-goes_on g c =
     let a = g.A.SoundApp.app c.args.app.now in
     let old = c.args.keeper.now in
     let now = w.keeper.now in
-    let f = lent_same (anchor (g.A.SoundApp.app w.app.now) w.moment w.before.now (take w.earlier w.wrote.now.items)) (anchor (g.A.SoundApp.app c.args.app.now) c.args.moment c.args.before.now (take c.args.earlier c.args.wrote.now.items)) _ _ _ _ _ _ _ _ _ _ _ _ c.act.ensures.passed.fixed in
+    let f = lent_same (anchor (g.A.SoundApp.app w.app.now) w.moment w.before.now (take w.earlier w.wrote.now.items)) (anchor (g.A.SoundApp.app c.args.app.now) c.args.moment c.args.before.now (take c.args.earlier c.args.wrote.now.items)) _ _ _ _ _ _ _ _ _ _ _ _ c.act.ensures.attempt.passed.fixed in
     let front : take c.args.earlier c.args.wrote.now.items ≡ c.args.wrote.now.items = ap (λ n. take n c.args.wrote.now.items) c.requires.earlier ∙ take-length c.args.wrote.now.items in
     let count : w.earlier ≡ length c.args.wrote.now.items = count_same w.earlier w.wrote.now.items c.args.wrote.now.items w.counted (f.one.earlier ∙ front) in
     let prefix : take (length c.args.wrote.now.items) w.wrote.now.items ≡ c.args.wrote.now.items = ap (λ n. take n w.wrote.now.items) (sym count) ∙ f.one.earlier ∙ front in
@@ -251,9 +251,9 @@ returns-clause-goes_on g c =
     (record {
       prefix = prefix;
       began = began_goes (SilenceCause (g.K.Keeper.marks old) (g.K.Keeper.marks now)) (view c.args.day.now) (view w.day.now) (grounds a c.args.moment (g.K.Keeper.began old)) (grounds (g.A.SoundApp.app w.app.now) w.moment (g.K.Keeper.began now)) c.args.session.now w.session.now c.args.cache.now.values.cells w.cache.now.values.cells (drop c.args.earlier c.args.wrote.now.items) (drop w.earlier w.wrote.now.items)
-          (g.K.Keeper.told old) (g.K.Keeper.told now) (g.met.K.Keeper.quiet old) (g.met.K.Keeper.quiet now) c.act.ensures.passed.state;
+          (g.K.Keeper.told old) (g.K.Keeper.told now) (λ e. (g.met.K.Keeper.quiet old e).0) (λ e. (g.met.K.Keeper.quiet now e).0) c.act.ensures.attempt.passed.state;
       loan = f.loan;
-      visited = c.act.ensures.passed.visited;
+      visited = c.act.ensures.attempt.passed.visited;
       clean = leaves_but a c.args.wrote.now.items w.wrote.now.items c.args.cache.now w.cache.now prefix
           (subst (λ (z : CacheState). StaysCleanExcept a w.wrote.now.items z w.cache.now) c.requires.start (subst (λ (z : App). StaysCleanExcept z w.wrote.now.items g.S.Start.start w.cache.now) f.one.app w.left));
     })
@@ -263,9 +263,9 @@ returns-in-Ok-clause-cause g c =
     let w = c.act.new.world in
     let old = c.args.keeper.now in
     let now = w.keeper.now in
-    let f = lent_same (anchor (g.A.SoundApp.app w.app.now) w.moment w.before.now (take w.earlier w.wrote.now.items)) (anchor (g.A.SoundApp.app c.args.app.now) c.args.moment c.args.before.now (take c.args.earlier c.args.wrote.now.items)) _ _ _ _ _ _ _ _ _ _ _ _ c.act.ensures.passed.fixed in
+    let f = lent_same (anchor (g.A.SoundApp.app w.app.now) w.moment w.before.now (take w.earlier w.wrote.now.items)) (anchor (g.A.SoundApp.app c.args.app.now) c.args.moment c.args.before.now (take c.args.earlier c.args.wrote.now.items)) _ _ _ _ _ _ _ _ _ _ _ _ c.act.ensures.attempt.passed.fixed in
     record {
-      later = carried (λ (k : g.row.K.Denot). IsLater (g.K.Keeper.marks old) (g.K.Keeper.marks k)) now _ (search (rules, f.keeper)) c.act.ensures.passed.later;
+      later = carried (λ (k : g.row.K.Denot). IsLater (g.K.Keeper.marks old) (g.K.Keeper.marks k)) now _ (search (rules, f.keeper)) c.act.ensures.attempt.passed.later;
       failed = λ e. absurd (no_error _ _ e);
     }
 
@@ -274,8 +274,8 @@ returns-clause-cause g c =
     let w = c.act.new.world in
     let old = c.args.keeper.now in
     let now = w.keeper.now in
-    let f = lent_same (anchor (g.A.SoundApp.app w.app.now) w.moment w.before.now (take w.earlier w.wrote.now.items)) (anchor (g.A.SoundApp.app c.args.app.now) c.args.moment c.args.before.now (take c.args.earlier c.args.wrote.now.items)) _ _ _ _ _ _ _ _ _ _ _ _ c.act.ensures.passed.fixed in
+    let f = lent_same (anchor (g.A.SoundApp.app w.app.now) w.moment w.before.now (take w.earlier w.wrote.now.items)) (anchor (g.A.SoundApp.app c.args.app.now) c.args.moment c.args.before.now (take c.args.earlier c.args.wrote.now.items)) _ _ _ _ _ _ _ _ _ _ _ _ c.act.ensures.attempt.passed.fixed in
     record {
-      later = carried (λ (k : g.row.K.Denot). IsLater (g.K.Keeper.marks old) (g.K.Keeper.marks k)) now _ (search (rules, f.keeper)) c.act.ensures.passed.later;
+      later = carried (λ (k : g.row.K.Denot). IsLater (g.K.Keeper.marks old) (g.K.Keeper.marks k)) now _ (search (rules, f.keeper)) c.act.ensures.attempt.passed.later;
       failed = λ e. carried (λ (k : g.row.K.Denot). Rose (g.K.Keeper.marks old).faults (g.K.Keeper.marks k).faults) now _ (search (rules, f.keeper)) (c.in-Err.ensures.keeper (ap Err (failed_by c.in-Err.stop _ (ap Err c.end_of.ensures) e)));
     }

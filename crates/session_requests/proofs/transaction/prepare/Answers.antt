@@ -51,15 +51,15 @@ returns-clause-accepted g c =
 
 pub returns-clause-undoable : goal.returns-clause-undoable
 returns-clause-undoable g c =
-    can_go_back g.K.Keeper c.args.app.now c.args.moment c.args.before.now c.run.new.session c.run.new.cache c.run.new.keeper c.run.new.wrote.items c.requires.sound (g.met.K.Keeper.quiet c.run.new.keeper) c.run.ensures.under_way
+    can_go_back g.K.Keeper c.args.app.now c.args.moment c.args.before.now c.run.new.session c.run.new.cache c.run.new.keeper c.run.new.wrote.items c.requires.sound (λ e. (g.met.K.Keeper.quiet c.run.new.keeper e).0) c.run.ensures.under_way
 
 pub returns-in_err-value-clause-undoable : goal.returns-in_err-value-clause-undoable
 returns-in_err-value-clause-undoable g c =
-    can_go_back g.K.Keeper c.args.app.now c.args.moment c.args.before.now c.run.new.session c.run.new.cache c.run.new.keeper c.run.new.wrote.items c.requires.sound (g.met.K.Keeper.quiet c.run.new.keeper) c.run.ensures.under_way
+    can_go_back g.K.Keeper c.args.app.now c.args.moment c.args.before.now c.run.new.session c.run.new.cache c.run.new.keeper c.run.new.wrote.items c.requires.sound (λ e. (g.met.K.Keeper.quiet c.run.new.keeper e).0) c.run.ensures.under_way
 
 pub returns-in_err-accept_reply-clause-undoable : goal.returns-in_err-accept_reply-clause-undoable
 returns-in_err-accept_reply-clause-undoable g c =
-    can_go_back g.K.Keeper c.args.app.now c.args.moment c.args.before.now c.run.new.session c.run.new.cache c.run.new.keeper c.run.new.wrote.items c.requires.sound (g.met.K.Keeper.quiet c.run.new.keeper) c.run.ensures.under_way
+    can_go_back g.K.Keeper c.args.app.now c.args.moment c.args.before.now c.run.new.session c.run.new.cache c.run.new.keeper c.run.new.wrote.items c.requires.sound (λ e. (g.met.K.Keeper.quiet c.run.new.keeper e).0) c.run.ensures.under_way
 
 pub returns-in_err-value-clause-cut : goal.returns-in_err-value-clause-cut
 returns-in_err-value-clause-cut g c =

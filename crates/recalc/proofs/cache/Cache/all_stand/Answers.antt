@@ -1,4 +1,4 @@
-use Rattle.std.proofs.Common.{◌≡◌, ◌<◌, ℕ, List, arith, get_or, inl, inr, subst, sym}
+use Rattle.std.proofs.Common.{arith, get_or, inl, inr, subst, sym}
 use Rattle.std.proofs.lemmas.Bool.{cases_eq}
 use Rattle.recalc.proofs.Marking.{at_place}
 use Rattle.recalc.specs.Kept.{IsClean}

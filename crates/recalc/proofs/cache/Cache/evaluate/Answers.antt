@@ -18,7 +18,7 @@ use Rattle.recalc.proofs.Places.{alone_at}
 use Rattle.recalc.proofs.Setting.{evaluated_brought, evaluated_order, evaluated_right, right_on}
 use Rattle.recalc.specs.Kept.{IsInOrder, CacheState}
 use Rattle.recalc.specs.Outcomes.{IsRightOver}
-use Rattle.recalc.specs.Steps.{IsBrought, kept_with}
+use Rattle.recalc.specs.Steps.{IsBrought}
 use Rattle.recalc.proofs.cache.Cache.evaluate.Goals as goal
 
 within : (a : App) (c : CacheState) (k : ℕ) (i : CellInfo) → slice_get a.cells k ≡ Some i → IsInOrder a c → k < length c.values.cells

@@ -1,7 +1,6 @@
-use Rattle.std.proofs.Common.{◌≡◌, ◌∙◌, ◌+◌, ◌≤◌, ℕ, List, [], refl, subst, sym}
+use Rattle.std.proofs.Common.{◌∙◌, ◌+◌, ◌≤◌, [], subst, sym}
 use Rattle.std.proofs.lemmas.Result.{on_ok_weaker}
 use Rattle.std.specs.Prelude.{OnOk}
-use Rattle.recalc.specs.Asking.{IsHeardOf, ToldRows}
 use Rattle.fx_scalar.specs.ScalarFunctions.{IsToday}
 use Rattle.recalc.proofs.CellVisits.{no_visits}
 use Rattle.recalc.specs.Visits.{VisitsPerCell, WhereTold}
@@ -10,7 +9,6 @@ use Rattle.recalc.proofs.Freshening.{clean_fresh}
 use Rattle.recalc.proofs.Leaving.{brought_left, left_same, left_then, made_left}
 use Rattle.recalc.proofs.Turns.{leaves_start, no_ticks}
 use Rattle.recalc.specs.Kept.{CacheState}
-use Rattle.recalc.specs.Outcomes.{HasNumbers}
 use Rattle.recalc.specs.Steps.{KeepsClean, OncePerCell}
 use Rattle.recalc.proofs.cache.Cache.refresh.Goals as goal
 

@@ -1,4 +1,4 @@
-use Rattle.std.proofs.Common.{◌≡◌, ◌<◌, ℕ, ap, arith, inl, inr, length, refl, subst, sym}
+use Rattle.std.proofs.Common.{ℕ, ap, arith, inl, inr, refl, subst, sym}
 use Rattle.std.proofs.lemmas.Option.{slice_get_within}
 use Rattle.std.proofs.lemmas.Result.{on_ok_weaker}
 use Rattle.recalc.proofs.CellVisits.{ok_two}

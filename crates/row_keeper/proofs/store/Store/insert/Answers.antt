@@ -6,7 +6,7 @@ use Rattle.std.proofs.lemmas.Result.{IfOk-weaker}
 use Rattle.fx_core.specs.declared.schema.TableShape.{TableShape}
 use Rattle.row_queries.specs.TableRows.{AreCellsOf}
 use Rattle.row_keeper.specs.Changes.{Inserts, IsInserted}
-use Rattle.row_keeper.specs.Kept.{IsKept}
+use Rattle.row_keeper.specs.Kept.{IsKept, kept_then, schema_then}
 use Rattle.row_keeper.specs.OneTable.{ChangesAt, PutsNew}
 use Rattle.row_keeper.specs.StoreView.{StoreView, tables_now, tables_then}
 use Rattle.row_keeper.specs.TableView.{TableView, states_now, states_then}
@@ -28,8 +28,8 @@ invariant_of-self c =
     let ok = subst (λ (d : List TableView). IfOk c.insert_at.result (λ put. ChangesAt c.args.table (PutsNew (all_rows (states_now d)) c.args.cells.now put) d c.insert_at.new.tables)) c.deref_mut.ensures.value c.insert_at.ensures.ok in
     let err = subst (λ (d : List TableView). OnErr c.insert_at.result (c.insert_at.new.tables ≡ d)) c.deref_mut.ensures.value c.insert_at.ensures.err in
     let begun : c.self.inside.is_begun ≡ true = ap (λ (w : StoreView). w.is_begun) c.self.view_is ∙ c.requires.begun in
-    let kept = insert_kept (all_rows (states_now tables)) c.args.cells.now c.self.inside.schema c.args.table tables c.insert_at.new.tables c.self.inside.is_begun c.insert_at.result ok err begun c.self.invariant in
-    subst (λ (l : List TableView). IsKept c.self.inside.schema l c.self.inside.is_begun) (sym items) kept.0
+    let kept = insert_kept (all_rows (states_now tables)) c.args.cells.now c.self.inside.schema c.args.table tables c.insert_at.new.tables c.self.inside.aside c.self.inside.is_begun c.insert_at.result ok err begun c.self.invariant in
+    subst (λ (l : List TableView). IsKept c.self.inside.schema l c.self.inside.aside c.self.inside.is_begun) (sym items) kept.0
 
 pub returns-clause-put : goal.returns-clause-put
 returns-clause-put c =
@@ -59,6 +59,6 @@ returns-clause-began c =
     let ok = subst (λ (d : List TableView). IfOk c.insert_at.result (λ put. ChangesAt c.args.table (PutsNew (all_rows (states_now d)) c.args.cells.now put) d c.insert_at.new.tables)) c.deref_mut.ensures.value c.insert_at.ensures.ok in
     let err = subst (λ (d : List TableView). OnErr c.insert_at.result (c.insert_at.new.tables ≡ d)) c.deref_mut.ensures.value c.insert_at.ensures.err in
     let begun : c.self.inside.is_begun ≡ true = ap (λ (w : StoreView). w.is_begun) c.self.view_is ∙ c.requires.begun in
-    let kept = insert_kept (all_rows (states_now tables)) c.args.cells.now c.self.inside.schema c.args.table tables c.insert_at.new.tables c.self.inside.is_begun c.insert_at.result ok err begun c.self.invariant in
-    let then : List TableState → Tables = λ l. record { kept = c.self.inside.schema; states = l } in
-    ap then (ap states_then items ∙ kept.1) ∙ ap tables_then c.self.view_is
+    let kept = insert_kept (all_rows (states_now tables)) c.args.cells.now c.self.inside.schema c.args.table tables c.insert_at.new.tables c.self.inside.aside c.self.inside.is_begun c.insert_at.result ok err begun c.self.invariant in
+    let then : List TableState → Tables = λ l. record { kept = schema_then c.self.inside.schema c.self.inside.aside; states = l } in
+    ap then (ap (λ (l : List TableView). states_then (kept_then l c.self.inside.aside)) items ∙ kept.1) ∙ ap tables_then c.self.view_is

@@ -4,7 +4,7 @@ use Rattle.std.specs.Vec.{with_items}
 use Rattle.std.proofs.lemmas.List.{with_items_is}
 use Rattle.std.proofs.lemmas.Result.{IfOk-weaker}
 use Rattle.row_keeper.specs.Changes.{Removes}
-use Rattle.row_keeper.specs.Kept.{IsKept}
+use Rattle.row_keeper.specs.Kept.{IsKept, kept_then, schema_then}
 use Rattle.row_keeper.specs.OneTable.{ChangesAt, TakesOut}
 use Rattle.row_keeper.specs.StoreView.{StoreView, tables_now, tables_then}
 use Rattle.row_keeper.specs.TableView.{TableView, states_now, states_then}
@@ -20,8 +20,8 @@ invariant_of-self c =
     let ok = subst (λ (d : List TableView). IfOk c.remove_at.result (λ put. ChangesAt c.args.table (TakesOut c.args.id put) d c.remove_at.new.tables)) c.deref_mut.ensures.value c.remove_at.ensures.ok in
     let err = subst (λ (d : List TableView). OnErr c.remove_at.result (c.remove_at.new.tables ≡ d)) c.deref_mut.ensures.value c.remove_at.ensures.err in
     let begun : c.self.inside.is_begun ≡ true = ap (λ (w : StoreView). w.is_begun) c.self.view_is ∙ c.requires.begun in
-    let kept = remove_kept c.args.id c.self.inside.schema c.args.table tables c.remove_at.new.tables c.self.inside.is_begun c.remove_at.result ok err begun c.self.invariant in
-    subst (λ (l : List TableView). IsKept c.self.inside.schema l c.self.inside.is_begun) (sym items) kept.0
+    let kept = remove_kept c.args.id c.self.inside.schema c.args.table tables c.remove_at.new.tables c.self.inside.aside c.self.inside.is_begun c.remove_at.result ok err begun c.self.invariant in
+    subst (λ (l : List TableView). IsKept c.self.inside.schema l c.self.inside.aside c.self.inside.is_begun) (sym items) kept.0
 
 pub returns-clause-was : goal.returns-clause-was
 returns-clause-was c =
@@ -43,6 +43,6 @@ returns-clause-began c =
     let ok = subst (λ (d : List TableView). IfOk c.remove_at.result (λ put. ChangesAt c.args.table (TakesOut c.args.id put) d c.remove_at.new.tables)) c.deref_mut.ensures.value c.remove_at.ensures.ok in
     let err = subst (λ (d : List TableView). OnErr c.remove_at.result (c.remove_at.new.tables ≡ d)) c.deref_mut.ensures.value c.remove_at.ensures.err in
     let begun : c.self.inside.is_begun ≡ true = ap (λ (w : StoreView). w.is_begun) c.self.view_is ∙ c.requires.begun in
-    let kept = remove_kept c.args.id c.self.inside.schema c.args.table tables c.remove_at.new.tables c.self.inside.is_begun c.remove_at.result ok err begun c.self.invariant in
-    let then : List TableState → Tables = λ l. record { kept = c.self.inside.schema; states = l } in
-    ap then (ap states_then items ∙ kept.1) ∙ ap tables_then c.self.view_is
+    let kept = remove_kept c.args.id c.self.inside.schema c.args.table tables c.remove_at.new.tables c.self.inside.aside c.self.inside.is_begun c.remove_at.result ok err begun c.self.invariant in
+    let then : List TableState → Tables = λ l. record { kept = schema_then c.self.inside.schema c.self.inside.aside; states = l } in
+    ap then (ap (λ (l : List TableView). states_then (kept_then l c.self.inside.aside)) items ∙ kept.1) ∙ ap tables_then c.self.view_is

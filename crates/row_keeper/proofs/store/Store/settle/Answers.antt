@@ -1,4 +1,4 @@
-use Rattle.std.proofs.Common.{◌≡◌, ◌∙◌, ap, sym, subst, map, false, length, arith}
+use Rattle.std.proofs.Common.{◌≡◌, ◌∙◌, ap, sym, subst, map, false, length, arith, None}
 use Rattle.std.specs.Vec.{with_items}
 use Rattle.std.proofs.lemmas.List.{with_items_is}
 use Rattle.row_keeper.specs.Kept.{IsKept}
@@ -12,7 +12,7 @@ pub invariant_of-self : goal.invariant_of-self
 invariant_of-self c =
     let len : length c.settle_all.new.tables ≡ c.self.inside.tables.len = omega (arith, c.settle_all.auto.tables, c.deref_mut.ensures.len) in
     let items = with_items_is c.self.inside.tables c.settle_all.new.tables len ∙ c.settle_all.ensures ∙ ap (map view_settled) c.deref_mut.ensures.value in
-    subst (λ l. IsKept c.self.inside.schema l false) (sym items) (settled_kept c.self.inside.schema c.self.inside.tables.items c.self.inside.is_begun false c.self.invariant)
+    subst (λ l. IsKept c.self.inside.schema l None false) (sym items) (settled_kept c.self.inside.schema c.self.inside.tables.items c.self.inside.aside c.self.inside.is_begun false c.self.invariant)
 
 pub returns : goal.returns
 returns c =
@@ -20,5 +20,5 @@ returns c =
     let items = with_items_is c.self.inside.tables c.settle_all.new.tables len ∙ c.settle_all.ensures ∙ ap (map view_settled) c.deref_mut.ensures.value in
     let now : states_now (with_items c.self.inside.tables c.settle_all.new.tables).items ≡ states_now c.self.inside.tables.items = ap states_now items ∙ settled_now c.self.inside.tables.items in
     let then : states_then (with_items c.self.inside.tables c.settle_all.new.tables).items ≡ states_now c.self.inside.tables.items = ap states_then items ∙ settled_then c.self.inside.tables.items in
-    let ended : StoreView → StoreView = λ w. record { schema = w.schema; now = w.now; then = w.now; is_begun = false } in
-    (λ k. record { schema = c.self.inside.schema; now = now k; then = then k; is_begun = false }) ∙ ap ended c.self.view_is
+    let ended : StoreView → StoreView = λ w. record { schema = w.schema; was = w.schema; now = w.now; then = w.now; is_begun = false } in
+    (λ k. record { schema = c.self.inside.schema; was = c.self.inside.schema; now = now k; then = then k; is_begun = false }) ∙ ap ended c.self.view_is

@@ -3,9 +3,9 @@ use Rattle.std.specs.List.{AllByRecursion}
 use Rattle.fx_core.specs.declared.schema.Schema.{Schema}
 use Rattle.fx_core.specs.declared.schema.TableShape.{TableShape}
 use Rattle.row_keeper.specs.Changes.{Shapes}
-use Rattle.row_keeper.specs.Kept.{IsKept, columns_shaped, empty_table}
+use Rattle.row_keeper.specs.Kept.{IsKept, columns_shaped, empty_table, schema_then}
 use Rattle.row_keeper.specs.Sound.{IsSoundTable}
-use Rattle.row_keeper.specs.StoreView.{StoreView, tables_now}
+use Rattle.row_keeper.specs.StoreView.{StoreView, shape_of, tables_now}
 use Rattle.row_keeper.specs.TableView.{TableView, states_now}
 use Rattle.row_keeper.specs.Tables.{AreStatesOf, TableState, Tables, shapes_of}
 use Rattle.row_keeper.proofs.StoreLemmas.{empty_kept, empty_states, narrow, shapes_none, shapes_same, states_of}
@@ -40,8 +40,8 @@ pub invariant_of-self : goal.invariant_of-self
 invariant_of-self c =
     let s = c.args.schema.now in
     let items = c.in_ok-tables.ensures ∙ ap (map empty_table) c.as_slice.ensures in
-    let kept = subst (λ (k : Schema). IsKept (Some k) (map empty_table s.tables) c.self.inside.is_begun) (sym c.in_ok-kept.ensures) (empty_kept s c.self.inside.is_begun c.requires.lawful) in
-    subst (λ (l : List TableView). IsKept (Some c.in_ok-kept.kept) l c.self.inside.is_begun) (sym items) kept
+    let kept = subst (λ (k : Schema). IsKept (Some k) (map empty_table s.tables) c.self.inside.aside c.self.inside.is_begun) (sym c.in_ok-kept.ensures) (empty_kept s c.self.inside.aside c.self.inside.is_begun c.requires.lawful (c.self.invariant.alone (ap (λ (w : StoreView). w.is_begun) c.self.view_is ∙ c.requires.idle))) in
+    subst (λ (l : List TableView). IsKept (Some c.in_ok-kept.kept) l c.self.inside.aside c.self.inside.is_begun) (sym items) kept
 
 pub returns-clause-shapes : goal.returns-clause-shapes
 returns-clause-shapes c =
@@ -58,3 +58,18 @@ returns-clause-sound c =
     let s = c.args.schema.now in
     let items = c.in_ok-tables.ensures ∙ ap (map empty_table) c.as_slice.ensures in
     subst (λ (l : List TableView). AreStatesOf s.tables (states_now l)) (sym items) (empty_states s.tables)
+
+pub returns-then-is_same_schema-clause-shaped : goal.returns-then-is_same_schema-clause-shaped
+returns-then-is_same_schema-clause-shaped c =
+    let schema = c.self.inside.schema in
+    let none = c.self.invariant.alone (ap (λ (w : StoreView). w.is_begun) c.self.view_is ∙ c.requires.idle) in
+    let same : schema ≡ Some c.args.schema.now = c.in-Some.is ∙ ap (λ (k : Schema). Some k) c.if-is_same_schema.ensures in
+    let then : schema_then schema c.self.inside.aside ≡ Some c.args.schema.now = ap (schema_then schema) none ∙ same in
+    ap shape_of (sym c.self.view_is) ∙ (λ k. record { now = same k; then = then k })
+
+pub returns-clause-shaped : goal.returns-clause-shaped
+returns-clause-shaped c =
+    let none = c.self.invariant.alone (ap (λ (w : StoreView). w.is_begun) c.self.view_is ∙ c.requires.idle) in
+    let same = ap (λ (k : Schema). Some k) c.in_ok-kept.ensures in
+    let then : schema_then (Some c.in_ok-kept.kept) c.self.inside.aside ≡ Some c.args.schema.now = ap (schema_then (Some c.in_ok-kept.kept)) none ∙ same in
+    λ k. record { now = same k; then = then k }

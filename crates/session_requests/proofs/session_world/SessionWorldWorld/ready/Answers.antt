@@ -18,6 +18,7 @@ use Rattle.session_requests.proofs.Caches.{day_of}
 use Rattle.session_requests.proofs.Readying.{AreFreshBehind, ready_now, sound_stays}
 use Rattle.session_requests.proofs.WorldTelling.{holding}
 use Rattle.session_requests.proofs.session_world.SessionWorldWorld.ready.Goals as goal
+use Rattle.row_keeper.specs.Shaped.{by}
 
 pub refresh_behind-requires : goal.refresh_behind-requires
 refresh_behind-requires g c =
@@ -26,7 +27,7 @@ refresh_behind-requires g c =
     record {
       sound = subst (λ (a : App). IsSoundApp a) same c.is_sound.ensures;
       holds = subst (λ (a : App). HoldsFitting a.names w.session.now) same (holding (g.A.SoundApp.app w.app.now).names w.session.now w.fits);
-      shaped = subst (λ (a : App). g.K.Keeper.shaped w.keeper.now ≡ Some a.names.schema) same w.shaped;
+      shaped = subst (λ (a : App). g.K.Keeper.shaped w.keeper.now ≡ by a.names.schema) same w.shaped;
       order = subst (λ (a : App). IsInOrder a w.cache.now) same w.order;
       day = day_of (g.A.SoundApp.app w.app.now) w.session.now w.moment w.cache.now.values.day w.dated;
     }

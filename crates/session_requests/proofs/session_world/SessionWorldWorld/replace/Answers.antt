@@ -31,8 +31,8 @@ invariant_of-self-in-Ok-clause-right g c =
     let w = c.args.self.now in
     let n = table_noted (g.A.SoundApp.app w.app.now) c.written_by.result w.session.now w.wrote.now.items c.reserve.new.self.items c.note.new.wrote.items w.cache.now c.note.new.cache (put_is (g.A.SoundApp.app w.app.now).names c.in-Ok.put c.args.table c.written_by.result (there_and _ (g.A.SoundApp.app w.app.now).names.schema.tables c.args.table c.requires) c.written_by.ensures)
     c.note.ensures.wrote c.in_ok-reserve.ensures.items (c.note.ensures.touched (g.A.SoundApp.app w.app.now)) in
-    tables_told (SilenceCause (g.K.Keeper.marks w.keeper.now) (g.K.Keeper.marks c.replace.new.self)) (Replaces (columns_at (shapes_of (g.K.Keeper.shaped w.keeper.now)) c.args.table) c.args.table c.args.id c.args.cells.now c.in-Ok.put) (g.A.SoundApp.app w.app.now) w.session.now w.moment c.written_by.result w.cache.now c.note.new.cache (g.K.Keeper.told w.keeper.now) (g.K.Keeper.told c.replace.new.self)
-    (λ t u h. subst (λ (ws : List Source). SameTablesExcept ws t u) (sym c.written_by.ensures) (replaced_but (columns_at (shapes_of (g.K.Keeper.shaped w.keeper.now)) c.args.table) c.args.table c.args.id c.args.cells.now c.in-Ok.put t u h)) c.is_sound.ensures n.one c.in-Ok.ensures.put n.touched w.right
+    tables_told (SilenceCause (g.K.Keeper.marks w.keeper.now) (g.K.Keeper.marks c.replace.new.self)) (Replaces (columns_at (shapes_of (g.K.Keeper.shaped w.keeper.now).now) c.args.table) c.args.table c.args.id c.args.cells.now c.in-Ok.put) (g.A.SoundApp.app w.app.now) w.session.now w.moment c.written_by.result w.cache.now c.note.new.cache (g.K.Keeper.told w.keeper.now) (g.K.Keeper.told c.replace.new.self)
+    (λ t u h. subst (λ (ws : List Source). SameTablesExcept ws t u) (sym c.written_by.ensures) (replaced_but (columns_at (shapes_of (g.K.Keeper.shaped w.keeper.now).now) c.args.table) c.args.table c.args.id c.args.cells.now c.in-Ok.put t u h)) c.is_sound.ensures n.one c.in-Ok.ensures.put n.touched w.right
 
 pub invariant_of-self-in-Ok-clause-dated : goal.invariant_of-self-in-Ok-clause-dated
 invariant_of-self-in-Ok-clause-dated g c =
