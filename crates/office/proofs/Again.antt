@@ -299,22 +299,29 @@ session_still T asked number t u name body said same is = by (find name u.sessio
           reply_is = ap (λ (k : LastRequest). k.reply) kept ∙ is.reply_is;
         }
 
--- requests of others leave it the last
-still_last : laws.LeavesOthers → (caller : Caller) (route : Route) (t u : OfficeState) (l m : Marks) (body said : List ℕ) (between : List Exchange)
-    → Plays t l between u m → AreOfOthers caller between → IsLastOf caller route t body said → IsLastOf caller route u body said
-still_last leaves _ _ t u l m body said between plays others (rows name _ _ _ is) =
-    rows name body said u (desk_still t u name body said (plays_leave_desk t l between u m name plays others) is)
-still_last leaves _ _ t u l m body said between plays others (edit name _ _ _ is) =
-    edit name body said u (edit_still t u name body said (plays_leave_desk t l between u m name plays others) is)
-still_last leaves _ _ t u l m body said between plays others (event name _ _ _ is) =
-    event name body said u (session_still Sent event_in event_number t u name body said (plays_keep_session leaves t l between u m name plays others) is)
-still_last leaves _ _ t u l m body said between plays others (input name _ _ _ is) =
-    input name body said u (session_still Given input_in input_number t u name body said (plays_keep_session leaves t l between u m name plays others) is)
+-- while the same is kept of the caller it is the last
+still_last : (caller : Caller) (route : Route) (t u : OfficeState) (body said : List ℕ) → last_request_of caller u ≡ last_request_of caller t → IsLastOf caller route t body said → IsLastOf caller route u body said
+still_last _ _ t u body said same (rows name _ _ _ is) = rows name body said u (desk_still t u name body said same is)
+still_last _ _ t u body said same (edit name _ _ _ is) = edit name body said u (edit_still t u name body said same is)
+still_last _ _ t u body said same (event name _ _ _ is) = event name body said u (session_still Sent event_in event_number t u name body said same is)
+still_last _ _ t u body said same (input name _ _ _ is) = input name body said u (session_still Given input_in input_number t u name body said same is)
+
+pub acts_once_kept : laws.RequestActsOnce → IsOneRoute → (s t u v : OfficeState) (k l m n : Marks) (moment moment' : ℕ) (request : Asked) (said said' : List ℕ) (caller : Caller)
+    → IsOf caller request → request.method ≡ Post → AnswersRequest s k moment request said l t → last_request_of caller t ≢ last_request_of caller s
+    → last_request_of caller u ≡ last_request_of caller t → AnswersRequest u m moment' request said' n v
+    → ((said' ≡ said) ⊎ (said' ≡ refusal 26)) × Left (SilenceCause m n) u v
+acts_once_kept once one s t u v k l m n moment moment' request said said' caller of posted first differ same second =
+    answered_again once one u v m n moment' request said' said caller of
+    (still_last caller of.route t u request.body said same (answered_keeps one s t k l moment request said caller of posted first differ)) second
+
+-- requests of others leave what is kept of a caller
+others_keep : laws.LeavesOthers → (caller : Caller) (t u : OfficeState) (l m : Marks) (between : List Exchange) → Plays t l between u m → AreOfOthers caller between → last_request_of caller u ≡ last_request_of caller t
+others_keep leaves (desk name) t u l m between plays others = plays_leave_desk t l between u m name plays others
+others_keep leaves (session name) t u l m between plays others = plays_keep_session leaves t l between u m name plays others
 
 pub acts_once : laws.LeavesOthers → laws.RequestActsOnce → IsOneRoute → (s t u v : OfficeState) (k l m n : Marks) (moment moment' : ℕ) (request : Asked) (said said' : List ℕ) (caller : Caller) (between : List Exchange)
     → IsOf caller request → request.method ≡ Post → AnswersRequest s k moment request said l t → last_request_of caller t ≢ last_request_of caller s
     → Plays t l between u m → AreOfOthers caller between → AnswersRequest u m moment' request said' n v
     → ((said' ≡ said) ⊎ (said' ≡ refusal 26)) × Left (SilenceCause m n) u v
 acts_once leaves once one s t u v k l m n moment moment' request said said' caller between of posted first differ plays others second =
-    answered_again once one u v m n moment' request said' said caller of
-    (still_last leaves caller of.route t u l m request.body said between plays others (answered_keeps one s t k l moment request said caller of posted first differ)) second
+    acts_once_kept once one s t u v k l m n moment moment' request said said' caller of posted first differ (others_keep leaves caller t u l m between plays others) second

@@ -11,6 +11,7 @@ pub mod NamedCells
 pub mod OneAnswer
 pub mod Places
 pub mod Plays
+pub mod Refusing
 pub mod Replies
 pub mod Rooms
 pub mod Rounds

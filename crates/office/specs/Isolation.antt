@@ -109,8 +109,21 @@ last_request_of (desk name) s = find name s.desks
 abbrev pub IsPosted : Asked → Type 0
 IsPosted request = request.method ≡ Post
 
--- A posted request of a caller that was accepted, so that other things are kept of it, comes again,
--- after any requests of others: it gets the same reply, or want of memory, and acts no more.
+-- A posted request of a caller that was accepted, so that other things are kept of it, comes again
+-- while these are kept still, whatever came between: it gets the same reply, or want of memory, and
+-- acts no more.
+abbrev pub ActsOnceKept : Type 0
+ActsOnceKept =
+    (s t u v : OfficeState) (k l m n : Marks) (moment moment' : ℕ) (request : Asked)
+    (said said' : List ℕ) (caller : Caller)
+    → IsOf caller request → IsPosted request
+    → AnswersRequest s k moment request said l t
+    → last_request_of caller t ≢ last_request_of caller s
+    → last_request_of caller u ≡ last_request_of caller t
+    → AnswersRequest u m moment' request said' n v
+    → ((said' ≡ said) ⊎ (said' ≡ refusal 26)) × Left (SilenceCause m n) u v
+
+-- So it is after any requests of others, which leave what is kept of it.
 abbrev pub ActsOnce : Type 0
 ActsOnce =
     (s t u v : OfficeState) (k l m n : Marks) (moment moment' : ℕ) (request : Asked)

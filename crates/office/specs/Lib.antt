@@ -6,6 +6,7 @@ pub mod Isolation
 pub mod Leaving
 pub mod NamedReply
 pub mod Ready
+pub mod Refused
 pub mod Sessions
 pub mod Settled
 pub mod State

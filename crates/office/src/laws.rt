@@ -1,6 +1,8 @@
 //! Laws of the office.
 ghost use Rattle.office.specs.Answers.{IsSilent};
-ghost use Rattle.office.specs.Isolation.{ActsOnce, IsAlone, LeavesDesk, LeavesSession, ReadsAlone};
+ghost use Rattle.office.specs.Isolation.{ActsOnce, ActsOnceKept, IsAlone, LeavesDesk};
+ghost use Rattle.office.specs.Isolation.{LeavesSession, ReadsAlone};
+ghost use Rattle.office.specs.Refused.{RefusedLeaves};
 ghost use Rattle.office.specs.Settled.{StartsSettled, StaysSettled};
 ghost use Rattle.office.specs.Step.{IsOneAnswer};
 
@@ -26,6 +28,12 @@ pub fn one_answer()
     one_items_reply();
     one_route();
 }
+
+/// After each reply with another status than 200, after want of memory and a fault of the keeper
+/// too, the office is as it was.
+pub fn refused_leaves()
+    ensures { RefusedLeaves }
+{}
 
 /// A conversation of no bytes gets none, also where the doors fail in it.
 pub fn silent()
@@ -78,6 +86,14 @@ pub fn acts_once()
     ensures { ActsOnce }
 {
     requests::leaves_others();
+    requests::acts_once();
+    one_route();
+}
+
+/// The same while what is kept of the caller stands, whatever the caller itself asked for between.
+pub fn acts_once_kept()
+    ensures { ActsOnceKept }
+{
     requests::acts_once();
     one_route();
 }

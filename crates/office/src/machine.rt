@@ -16,6 +16,7 @@ ghost use Rattle.app_wire.specs.ReplyBytes.{refusal};
 ghost use Rattle.office.specs.Costs.{CostsAnswered, CostsBy, counts};
 ghost use Rattle.office.specs.Leaving.{ActsClean, AreEachLeft, LeavesActed, LeavesBy, LeavesClean};
 ghost use Rattle.office.specs.Leaving.{LeavesStopped, StopsClean, nothing, day_turned};
+ghost use Rattle.office.specs.Refused.{IsRefused};
 ghost use Rattle.office.specs.State.{schema_of, started};
 ghost use Rattle.office.specs.Step.{AnswersRequest, RouteStep, Left, PassesChecks, ReachesKeeper};
 ghost use Rattle.office.specs.Step.{Step};
@@ -140,7 +141,7 @@ impl<K: Keeper + Drop> Office<K> {
     }
 
     /// Answers one request, which was whole at this moment, in seconds since 1970-01-01 UTC. After
-    /// a refusal the office is as before.
+    /// a reply with another status than 200 the office is as before.
     pub fn answer<L: Ledger>(
         &mut self,
         request: &Request,
@@ -149,6 +150,8 @@ impl<K: Keeper + Drop> Office<K> {
     ) -> Reply
         ensures answered { AnswersRequest self.old.state self.old.marks moment (asked request.now)
             (said result) self.new.marks self.new.state }
+        ensures refused { IsRefused (said result)
+            → Left (SilenceCause self.old.marks self.new.marks) self.old.state self.new.state }
         ensures later { IsLater self.old.marks self.new.marks }
         ensures whole { IsReply result }
         ensures clean { LeavesClean self.old.state self.old.moment self.old.caches moment
