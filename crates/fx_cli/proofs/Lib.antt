@@ -1,3 +1,4 @@
+pub mod Completed
 pub mod Opened
 pub mod Replays
 pub mod Reported

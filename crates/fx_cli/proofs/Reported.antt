@@ -42,7 +42,7 @@ pub not_served : (wanted : Wanted) (name other : List ℕ) → wanted ≡ Some (
 not_served wanted name other h k = let same : Check ≡ Serve = same_form wanted Check Serve name other h k in cc
 
 -- bytes that were read of a told file are its first bytes
-same_bytes : {F : Type 0} (f : files.Ghosts F) (old new : F) (wanted : Wanted) (form : Form) (bytes read : List ℕ)
+pub same_bytes : {F : Type 0} (f : files.Ghosts F) (old new : F) (wanted : Wanted) (form : Form) (bytes read : List ℕ)
     → HasFile f old wanted form bytes → MatchesFile f old new wanted form read → read ≡ bytes
 same_bytes f old new wanted form bytes read has takes =
     let first = takes.first has.contents has.is_told in

@@ -1,3 +1,4 @@
+pub mod Complete
 pub mod Disk
 pub mod Conversations
 pub mod Opening

@@ -285,11 +285,12 @@ report_text KeeperFault = keeper_text
 report_text OtherSchema = schema_text
 report_text (Replayed end) = text_of_end end
 
--- a report was said: the run ends with its status and wrote its text, or a fault of the sink was
--- counted, the run ends with 7 and wrote a first part of the text
+-- A report was said: the run ends with its status, wrote its text and counted no fault of the sink;
+-- or one was counted, and the run ends with 7 and wrote a first part of the text.
 abbrev pub IsSaid : {O : Type 0} → sink.Ghosts O → O → O → Report → ℕ → Type 0
 IsSaid o old new report status =
-    ((status ≡ status_of report) × Tells (Grows (report_text report)) (o.told old) (o.told new))
+    ((status ≡ status_of report) × Tells (Grows (report_text report)) (o.told old) (o.told new)
+    × (o.faults new ≡ o.faults old))
     ⊎ ((status ≡ 7) × Rose (o.faults old) (o.faults new)
     × Tells (GrowsInPart (report_text report)) (o.told old) (o.told new))
 

@@ -2,6 +2,7 @@
 #![tactic(auto)]
 
 ghost use Rattle.std.specs.Prelude.{◌≡◌, ◌≤◌, None, false};
+ghost use Rattle.fx_cli.specs.Complete.{Completes};
 ghost use Rattle.fx_cli.specs.Outside.{outside, sight};
 ghost use Rattle.fx_cli.specs.Report.{IsSaid, Wants};
 ghost use Rattle.fx_cli.specs.Run.{Run, ServesApp};
@@ -66,6 +67,10 @@ pub fn run<D: Doors, K: Keeper, F: Files, O: Sink, C: Clock, L: Ledger>(
     // Every run: the report that it came to and what it left alone then, and its status by its
     // causes.
     ensures run { Run (sight D.Doors K.Keeper F.Files O.Sink C.Clock) words.now
+        (outside doors.old keeper.old files.old out.old clock.old)
+        (outside doors.new keeper.new files.new out.new clock.new) result.0 }
+    // Where nothing fails, what is asked for is done, or memory runs out.
+    ensures complete { Completes (sight D.Doors K.Keeper F.Files O.Sink C.Clock) words.now
         (outside doors.old keeper.old files.old out.old clock.old)
         (outside doors.new keeper.new files.new out.new clock.new) result.0 }
     ensures idle { K.in_transaction keeper.new ≡ false }

@@ -8,7 +8,8 @@ ghost use Rattle.fx_cli.specs.Telling.{Grows, GrowsInPart};
 
 use fx_base::Failed;
 
-/// Bytes, one after another. A call that fails has written nothing.
+/// Bytes, one after another. A call that fails has written nothing, and one that doesn't counts no
+/// fault.
 pub trait Sink {
     // The bytes written, where they are told.
     ghost told: { Self → Option (List ℕ) };
@@ -22,13 +23,15 @@ pub trait Sink {
         ensures some { IfOk result (λ n. 0 < length piece.now → 0 < n) }
         ensures ok { IfOk result (λ n. Changes (Grows (take n piece.now)) (told self.old)
             (told self.new)) }
+        ensures still { OnOk result (faults self.new ≡ faults self.old) }
         ensures err { OnErr result (Changes Stays (told self.old) (told self.new)) }
         ensures cause { HasFaultCause (faults self.old) (faults self.new) result };
 }
 
-/// Writes all of the text, or a part of it where the sink fails.
+/// Writes all of the text, or a part of it where the sink fails, which ends it.
 pub fn write_all<O: Sink>(out: &mut O, text: &[u8]) -> Result<(), Failed>
     ensures ok { OnOk result (Tells (Grows text.now) (O.told out.old) (O.told out.new)) }
+    ensures still { OnOk result (O.faults out.new ≡ O.faults out.old) }
     ensures err { OnErr result (Tells (GrowsInPart text.now) (O.told out.old) (O.told out.new)) }
     ensures cause { HasFaultCause (O.faults out.old) (O.faults out.new) result }
 {

@@ -1,4 +1,4 @@
-use Rattle.std.proofs.Common.{ℕ, ◌+◌, take, arith}
+use Rattle.std.proofs.Common.{ℕ, ◌+◌, ◌∙◌, take, arith}
 use Rattle.std.proofs.lemmas.List.{length-take, length-drop}
 use Rattle.std.proofs.lemmas.Result.{err_from_is_err_and}
 use Rattle.fx_base.specs.Telling.{Stays}
@@ -22,5 +22,5 @@ writing-preserved g c =
     record {
       within = omega (arith, c.in_ok-at.ensures.bound, length-take {A = ℕ}, length-drop {A = ℕ});
       told = then_told (Grows (take n text)) _ (Grows (take (n + m) text)) (grows_more text n m) _ _ _ c.writing.invariant.told c.in_ok-at.ensures.ok;
-      later = omega (arith, c.writing.invariant.later, c.in_ok-at.ensures.cause.later);
+      same = c.in_ok-at.ensures.still ∙ c.writing.invariant.same;
     }

@@ -1,4 +1,4 @@
-use Rattle.std.proofs.Common.{◌≤◌, ◌-◌, length, take}
+use Rattle.std.proofs.Common.{◌≡◌, ◌≤◌, ◌-◌, length, take}
 use Rattle.fx_base.specs.Telling.{Tells}
 use Rattle.fx_cli.specs.Telling.{Grows}
 use Rattle.fx_cli.proofs.sink.write_all.Given as goal
@@ -10,7 +10,7 @@ invariant-writing g l =
     record {
       within : l.at ≤ length l.text;
       told : Tells (Grows (take l.at l.text)) (told l.fn.out) (told l.out);
-      later : faults l.fn.out ≤ faults l.out;
+      same : faults l.out ≡ faults l.fn.out;
     }
 
 abbrev pub decreases-writing : goal.decreases-writing
