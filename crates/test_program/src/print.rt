@@ -1,6 +1,7 @@
 //! How a run ended, in lines.
 
 use crate::escapes::escape;
+use crate::limits::Repeated;
 use crate::runs::Ended;
 use std::{io, str};
 
@@ -13,10 +14,7 @@ const REPLY: &str = "HTTP/1.1 ";
 pub fn print_end(rt: &(impl Print + AllocGlobal), ended: &Ended) -> io::Result<()> {
     let status = ended.status;
     println!(rt; "status {status}")?;
-    if !ended.said.is_empty() {
-        let said = escape(rt.alloc(), text(&ended.said))?;
-        println!(rt; "says {said}")?;
-    }
+    print_said(rt, &ended.said)?;
     for (conversation, answered) in ended.answered.iter().enumerate() {
         if conversation > 0 {
             println!(rt; "next")?;
@@ -31,6 +29,32 @@ pub fn print_end(rt: &(impl Print + AllocGlobal), ended: &Ended) -> io::Result<(
         Some(asked) => print_asked(rt, asked.as_str()),
         None => Ok(()),
     }
+}
+
+/// Prints how a run over repeating doors ended: the status, what was said, if anything, what was
+/// written first with how often it was, and how often something else was, if it was.
+pub fn print_repeated(rt: &(impl Print + AllocGlobal), ended: &Repeated) -> io::Result<()> {
+    let status = ended.status;
+    println!(rt; "status {status}")?;
+    print_said(rt, &ended.said)?;
+    if ended.same > 0 {
+        let count = ended.same;
+        let first = escape(rt.alloc(), text(&ended.first))?;
+        println!(rt; "answers*{count} {first}")?;
+    }
+    match ended.others {
+        0 => Ok(()),
+        others => println!(rt; "others {others}"),
+    }
+}
+
+/// Prints what was said, if anything.
+fn print_said(rt: &(impl Print + AllocGlobal), said: &[u8]) -> io::Result<()> {
+    if said.is_empty() {
+        return Ok(());
+    }
+    let said = escape(rt.alloc(), text(said))?;
+    println!(rt; "says {said}")
 }
 
 fn print_asked(rt: &impl Print, asked: &str) -> io::Result<()> {

@@ -5,7 +5,6 @@ use std::alloc::{AllocError, Global};
 
 /// The words of a run, its one file, its conversations and its moments, and which calls, counted
 /// from 1, fail.
-#[derive(Drop)]
 pub struct Row {
     pub words: Vec<String>,
     /// The name of the file.
@@ -34,6 +33,31 @@ pub struct Row {
     pub sink_fails: Vec<u64>,
     pub door_fails: Vec<u64>,
     pub keeper_fails: Vec<u64>,
+}
+
+// By hand, so that it is called: what is derived is opened wherever a value may end, which costs
+// proofs seconds each time.
+impl Drop for Row {
+    fn drop(self) {
+        let Row {
+            words: _,
+            file: _,
+            bytes: _,
+            earlier: _,
+            stream: _,
+            moments: _,
+            piece: _,
+            one: _,
+            counts_visits: _,
+            writes_asked: _,
+            kept: _,
+            last: _,
+            file_fails: _,
+            sink_fails: _,
+            door_fails: _,
+            keeper_fails: _,
+        } = self;
+    }
 }
 
 impl Row {

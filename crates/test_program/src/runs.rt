@@ -5,6 +5,7 @@ use crate::asked::AskedKeeper;
 use crate::pieces::PieceSink;
 use crate::row::Row;
 use app_wire::clock::ListClock;
+use app_wire::doors::Doors;
 use app_wire::memory::MemoryDoors;
 use fx_base::InOrder;
 use fx_base::plan::FaultPlan;
@@ -38,7 +39,7 @@ pub fn run_row(alloc: Global, row: &Row) -> Result<Ended, AllocError> {
     );
     let mut files = files(alloc, row)?;
     let mut keeper = AskedKeeper::new(alloc, keeper(alloc, row)?);
-    let status = status::<Brand>(
+    let status = status::<MemoryDoors, Brand>(
         alloc,
         row,
         &mut doors,
@@ -57,6 +58,31 @@ pub fn run_row(alloc: Global, row: &Row) -> Result<Ended, AllocError> {
     })
 }
 
+/// A run over other doors and rows in memory: its status, and what it said.
+pub fn run_over<D: Doors>(
+    alloc: Global,
+    row: &Row,
+    doors: &mut D,
+) -> Result<(u8, Vec<u8>), AllocError> {
+    let mut out = PieceSink::new(
+        MemorySink::new(alloc, Vec::from_slice(alloc, &row.sink_fails)?),
+        row.piece,
+    );
+    let mut files = files(alloc, row)?;
+    let mut keeper = AskedKeeper::new(alloc, keeper(alloc, row)?);
+    let status = status::<D, Brand>(
+        alloc,
+        row,
+        doors,
+        &mut keeper,
+        &mut files,
+        &mut out,
+        ListClock::new(Vec::from_slice(alloc, &row.moments)?),
+        Blank::new(1),
+    );
+    Ok((status, Vec::from_slice(alloc, out.written())?))
+}
+
 /// What was written to each conversation that came, up to the one of this number, counted from 0.
 fn answers(alloc: Global, doors: &MemoryDoors, last: usize) -> Result<Vec<Vec<u8>>, AllocError> {
     let mut answered = Vec::new(alloc);
@@ -69,10 +95,10 @@ fn answers(alloc: Global, doors: &MemoryDoors, last: usize) -> Result<Vec<Vec<u8
 }
 
 /// The status that a run ends with.
-fn status<L: Ledger>(
+fn status<D: Doors, L: Ledger>(
     alloc: Global,
     row: &Row,
-    doors: &mut MemoryDoors,
+    doors: &mut D,
     keeper: &mut AskedKeeper<MemoryKeeper>,
     files: &mut MemoryFiles,
     out: &mut PieceSink,
@@ -121,8 +147,7 @@ fn shape_by(
     let mut tables = InOrder::new(alloc);
     tables.push(TableShape { name, columns })?;
     keeper.attach("")?;
-    keeper.shape(&Schema { tables })?;
-    if last == 0 {
+    if keeper.shape(&Schema { tables })?.is_some() || last == 0 {
         return Ok(());
     }
     keeper.begin()?;

@@ -81,9 +81,13 @@ impl Visits {
     }
 }
 
-/// Connects to a port on loopback, and sends a request and no more.
+/// Connects to a port on loopback, and sends a request and no more. One of no bytes isn't ended:
+/// that client stays silent.
 fn send(rt: &HostRuntime, port: u16, request: &[u8]) -> io::Result<TcpStream> {
     let mut stream = TcpStream::connect(rt, (Ipv4Addr::LOCALHOST, port))?;
+    if request.is_empty() {
+        return Ok(stream);
+    }
     stream.write_all(request)?;
     stream.shutdown(Shutdown::Write)?;
     Ok(stream)

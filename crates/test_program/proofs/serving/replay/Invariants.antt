@@ -1,4 +1,4 @@
-use Rattle.test_program.proofs.views.view.Given as goal
+use Rattle.test_program.proofs.serving.replay.Given as goal
 
 abbrev pub ghosts-status : goal.ghosts-status
 ghosts-status a = record { name = a.blank.name; parts = a.blank.parts }

@@ -1,8 +1,10 @@
-//! Runs of `serve`.
-ghost use Rattle.std.specs.Prelude.{◌≡◌, ◌<◌, false};
+//! Runs of `serve` and of `replay`.
+ghost use Rattle.std.specs.Prelude.{◌≡◌, ◌<◌};
 
 use crate::visits::Visits;
 use app_wire::clock::ListClock;
+use app_wire::doors::Doors;
+use app_wire::stream::StreamDoors;
 use fx_cli::{MemorySink, RealFiles, Steps, run};
 use sql_keeper::SqlKeeper;
 use std::alloc::{AllocError, Global};
@@ -41,19 +43,39 @@ fn listener(rt: &HostRuntime) -> io::Result<TcpListener> {
     TcpListener::bind(rt, (Ipv4Addr::LOCALHOST, 0u16))
 }
 
-fn run_on(rt: &HostRuntime, names: &str, port: u16, requests: Vec<Vec<u8>>) -> io::Result<Ended> {
-    let words = words(rt.alloc(), names, port, requests.len())?;
-    let mut visits = Visits::new(*rt, requests);
-    let mut keeper = SqlKeeper::new(*rt);
+/// Replays requests by the words of a line, over rows in memory: one conversation, as long as they
+/// are.
+pub fn replay(rt: &HostRuntime, line: &str, requests: &[Vec<u8>]) -> io::Result<Ended> {
+    let mut sent = Vec::new(rt.alloc());
+    for request in requests {
+        sent.extend_from_slice(request)?;
+    }
+    let words = words_of(rt.alloc(), line)?;
+    let mut answered = Vec::new(rt.alloc());
+    let mut doors = StreamDoors::new(sent.as_slice(), &mut answered);
     let mut out = MemorySink::new(rt.alloc(), Vec::new(rt.alloc()));
-    let status = status::<Brand>(
+    let status = status::<StreamDoors<&[u8], &mut Vec<u8>>, Brand>(
         rt,
         &words,
-        &mut visits,
-        &mut keeper,
+        &mut doors,
         &mut out,
         Blank::new(1),
     );
+    drop(doors);
+    let mut replies = Vec::new(rt.alloc());
+    replies.push(answered)?;
+    Ok(Ended {
+        status,
+        said: Vec::from_slice(rt.alloc(), out.written())?,
+        replies,
+    })
+}
+
+fn run_on(rt: &HostRuntime, names: &str, port: u16, requests: Vec<Vec<u8>>) -> io::Result<Ended> {
+    let words = words(rt.alloc(), names, port, requests.len())?;
+    let mut visits = Visits::new(*rt, requests);
+    let mut out = MemorySink::new(rt.alloc(), Vec::new(rt.alloc()));
+    let status = status::<Visits, Brand>(rt, &words, &mut visits, &mut out, Blank::new(1));
     Ok(Ended {
         status,
         said: Vec::from_slice(rt.alloc(), out.written())?,
@@ -70,6 +92,11 @@ fn words(
 ) -> Result<Vec<String>, AllocError> {
     let count = conversations.max(1);
     let line = format!(in alloc; "serve {names} {port} {count}")?;
+    words_of(alloc, line.as_str())
+}
+
+/// The words of a line.
+fn words_of(alloc: Global, line: &str) -> Result<Vec<String>, AllocError> {
     let mut words = Vec::new(alloc);
     for word in line.split_whitespace() {
         words.push(String::from_str(alloc, word)?)?;
@@ -77,25 +104,24 @@ fn words(
     Ok(words)
 }
 
-/// The status that a run ends with, at the moment 0.
-fn status<L: Ledger>(
+/// The status that a run ends with, at the moment 0. The keeper is made here, where nothing else
+/// may end it.
+fn status<D: Doors, L: Ledger>(
     rt: &HostRuntime,
     words: &[String],
-    visits: &mut Visits,
-    keeper: &mut SqlKeeper,
+    doors: &mut D,
     out: &mut MemorySink,
     blank: Blank,
 ) -> u8
     requires name { blank.name ≡ L.name }
     requires parts { blank.parts ≡ L.parts }
     requires some { 0 < L.parts }
-    requires idle { keeper.old.is_begun ≡ false }
 {
     run(
         rt.alloc(),
         words,
-        visits,
-        keeper,
+        doors,
+        &mut SqlKeeper::new(*rt),
         &mut RealFiles::new(rt),
         out,
         &mut ListClock::new(Vec::new(rt.alloc())),
