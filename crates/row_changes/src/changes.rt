@@ -2,6 +2,8 @@
 // statement that fails in a transaction of the database may undo all of it.
 ghost use Rattle.std.specs.Prelude.{◌≡◌, ℕ, ◌+◌, ◌-◌, ◌<◌, ◌≤◌, ◌==◌, ◌^◌, if◌then◌else◌, [], None};
 ghost use Rattle.std.specs.Prelude.{Some, IfOk, OnErr, OnOk, length, set};
+ghost use Rattle.std.specs.BTreeMap.{IsOrdered};
+ghost use Rattle.std.specs.Ordering.{nat_cmp};
 ghost use Rattle.sql_meanings.specs.Lines.{LinesOf};
 ghost use Rattle.row_changes.specs.Moves.{Adds, HasNone, IsSame, Puts, changed_to};
 ghost use Rattle.row_changes.specs.Overlay.{AreOf, body_of_added, bytes_in, change_at, last_of};
@@ -56,11 +58,19 @@ impl TableChanges {
         }
     }
 
+    /// A fact, and no work: the rows that have changed stand by rising numbers.
+    pub fn is_ordered(&self)
+        ensures { IsOrdered nat_cmp self.now.changed }
+    {
+        let _ = self.changed.len();
+    }
+
     /// Puts a row behind all others, under the next number, which it gives.
     pub fn add(&mut self, body: Vec<u8>) -> Result<u32, Memory>
         requires { last_of self.old < 2 ^ 32 - 1 }
         ensures id { IfOk result (λ id. id ≡ last_of self.new) }
         ensures ok { OnOk result (Adds self.old self.new body.items) }
+        ensures first { self.new.first ≡ self.old.first }
         ensures err { OnErr result (IsSame self.old self.new) }
     {
         let id = self.last() + 1;
@@ -77,6 +87,7 @@ impl TableChanges {
         now: Option<Vec<u8>>,
     ) -> Result<(), Memory>
         ensures ok { OnOk result (Puts self.old self.new id was.now (bytes_in now)) }
+        ensures first { self.new.first ≡ self.old.first }
         ensures err { OnErr result (IsSame self.old self.new) }
     {
         if id > self.first {

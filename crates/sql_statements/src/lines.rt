@@ -1,7 +1,8 @@
 // The lines of a table.
-ghost use Rattle.std.specs.Prelude.{◌≡◌, false, true, IfOk, OnErr, OnOk, filter, map};
+ghost use Rattle.std.specs.Prelude.{◌≡◌, ◌≤◌, false, true, IfOk, OnErr, OnOk, filter, map};
 ghost use Rattle.sqlite.specs.Held.{state};
 ghost use Rattle.sqlite.specs.State.{HasCleanDisk, IsUnchanged};
+ghost use Rattle.sqlite_trees.specs.View.{doubt};
 ghost use Rattle.sql_meanings.specs.Schema.{kept_schema};
 ghost use Rattle.sql_meanings.specs.Forms.{GoesOn, LeavesOrRollsBack};
 ghost use Rattle.sql_meanings.specs.Calls.{RunsInside, RunsReading};
@@ -98,6 +99,8 @@ pub fn read_lines<S: Alter>(
         → (state S.Store conn.old).now.schema ≡ kept_schema → (xs : LinesOf)
         → AreLines (state S.Store conn.old).now.trees tab xs
         → IfOk result (λ rows. rows.items ≡ map line_at (filter (is_within low high) xs)) }
+    ensures later { doubt (state S.Store conn.old).is_clean
+        ≤ doubt (state S.Store conn.new).is_clean }
     ensures mode { conn.old.in_transaction ≡ false → conn.new.in_transaction ≡ false }
     ensures same { HasCleanDisk (state S.Store conn.new)
         → (state S.Store conn.old).now.schema ≡ kept_schema
