@@ -18,8 +18,8 @@ use Rattle.row_plan.specs.Statements.{CanRunAll, after}
 use Rattle.row_plan.specs.Written.{AreWritten, Writes, all_statements, lasts_now}
 use Rattle.row_plan.proofs.RunLemmas.{apart, itself}
 use Rattle.row_plan.proofs.WrittenLemmas.{plans_write}
-use Rattle.store_keeper.specs.Decoded.{last_in, schema_kept, state_in, states_kept, states_now, tables_changed, tables_kept}
-use Rattle.store_keeper.specs.Laws.{CommitsTold}
+use Rattle.store_model.specs.Decoded.{last_in, schema_kept, state_in, states_kept, states_now, tables_changed, tables_kept}
+use Rattle.store_model.specs.Laws.{CommitsTold}
 
 -- the last number of a table, behind those of the tables before it
 pub found : (tab last : ℕ) (before rest : LastsOf) → AllByRecursion (λ (n : ℕ × ℕ). n.0 < tab) before → lookup (λ n. n == tab) (before ++ (tab, last) ∷ rest) ≡ Some last

@@ -1,5 +1,5 @@
 //! What a keeper over a connection keeps once the changes of a transaction are written.
-ghost use Rattle.store_keeper.specs.Laws.{CommitsShaped, CommitsTold, RestoresKept};
+ghost use Rattle.store_model.specs.Laws.{CommitsShaped, CommitsTold, RestoresKept};
 
 /// A law, and no work: the statements of a plan have their meaning, and what is kept after them is
 /// what was told before them.

@@ -1,5 +1,5 @@
 -- What a keeper over a connection is seen as, and what it tells.
-use Rattle.std.specs.Prelude.{ℕ, ◌&&◌, Bool, true, false, List, [], ◌∷◌, Option, None, Some}
+use Rattle.std.specs.Prelude.{ℕ, ◌&&◌, Bool, List, [], ◌∷◌, Option, None, Some}
 use Rattle.std.specs.Prelude.{if◌then◌else◌, option_map}
 use Rattle.fx_base.specs.Silence.{Marks}
 use Rattle.fx_core.specs.declared.schema.Schema.{Schema}
@@ -7,30 +7,33 @@ use Rattle.sqlite.specs.Held.{Held}
 use Rattle.sqlite.specs.State.{State}
 use Rattle.sqlite.specs.Tree.{Trees}
 use Rattle.sqlite_trees.specs.View.{doubt}
+use Rattle.row_keeper.specs.Shaped.{Shaped}
 use Rattle.row_keeper.specs.StoreView.{StoreView, tables_now}
 use Rattle.row_keeper.specs.Tables.{Tables}
 use Rattle.row_changes.specs.declared.table.TableChanges.{TableChanges}
-use Rattle.store_keeper.specs.Decoded.{tables_changed, tables_kept}
+use Rattle.store_model.specs.Decoded.{tables_changed, tables_kept}
+use Rattle.store_model.specs.declared.counts.RowCount.{RowCount}
 
 pub record Kept (S : Type 0) : Type 0 where
-  -- the connection, unless it was lost by a fault, and whether one ever was
+  -- the connection, unless a fault has lost it
   pub seat : Option (Held S)
-  pub lost : Bool
-  -- whether it knows the tables of the database: they were made, or looked through
+  -- whether it knows the tables of the database: they were made, or looked through, and no call has
+  -- failed since
   pub knows : Bool
   -- the schema that it is shaped by, if any
   pub schema : Option Schema
-  -- what the transaction has made of each table
+  -- what the transaction has made of each table, and how many rows each has
   pub tables : List TableChanges
+  pub counts : List RowCount
   -- the tables that the transaction has moved to another schema, if it has
   pub moved : Option StoreView
   pub is_begun : Bool
   pub visited : ℕ
   pub faults : ℕ
 
--- it tells while the connection is open, and the disk has given back what it was given
+-- it tells while the disk has given back what it was given
 abbrev pub tells : State → Bool → Bool
-tells s knows = knows && (s.is_open && s.is_clean)
+tells s knows = knows && s.is_clean
 
 abbrev pub tables_in : Option StoreView → Trees → List TableChanges → Tables
 tables_in None trees cs = tables_changed trees cs
@@ -60,20 +63,19 @@ began_of state k = over_seat state (λ s. began_at s k) k.seat
 abbrev pub leaves_of : {S : Type 0} → (Held S → State) → Kept S → Option (List Tables)
 leaves_of state k = option_map (λ t. t ∷ []) (began_of state k)
 
--- whether the disk of the connection once gave back something else than it was given; where a
+-- whether the disk of the connection once gave back something else than it was given; where the
 -- connection was lost nobody knows
-abbrev pub doubt_of : {S : Type 0} → (Held S → State) → Bool → Option (Held S) → ℕ
-doubt_of state true seat = 1
-doubt_of state false None = 1
-doubt_of state false (Some conn) = doubt (state conn).is_clean
+abbrev pub doubt_of : {S : Type 0} → (Held S → State) → Option (Held S) → ℕ
+doubt_of state None = 1
+doubt_of state (Some conn) = doubt (state conn).is_clean
 
 abbrev pub marks_of : {S : Type 0} → (Held S → State) → Kept S → Marks
-marks_of state k = record { faults = k.faults; doubt = doubt_of state k.lost k.seat }
+marks_of state k = record { faults = k.faults; doubt = doubt_of state k.seat }
 
 -- the schema that it is shaped by now, where tables may have moved
 abbrev pub schema_in : Option StoreView → Option Schema → Option Schema
 schema_in None schema = schema
 schema_in (Some moved) schema = moved.schema
 
-abbrev pub schema_now : {S : Type 0} → Kept S → Option Schema
-schema_now k = schema_in k.moved k.schema
+abbrev pub shape_of : {S : Type 0} → Kept S → Shaped
+shape_of k = record { now = schema_in k.moved k.schema; then = k.schema }

@@ -1,5 +1,6 @@
 -- What holds of a keeper over a connection where it tells its tables.
 use Rattle.std.specs.Prelude.{◌≡◌, ℕ, suc, ◌≤◌, ⊤, true, false, List, [], ◌∷◌, None, Some, IfSome}
+use Rattle.std.specs.Prelude.{length}
 use Rattle.std.specs.List.{AllByRecursion}
 use Rattle.fx_core.specs.Lawful.{IsLawfulSchema}
 use Rattle.fx_core.specs.declared.schema.Column.{Column}
@@ -9,7 +10,7 @@ use Rattle.fx_value.specs.Keys.{IsProper}
 use Rattle.sqlite.specs.Held.{Held}
 use Rattle.sqlite.specs.State.{State}
 use Rattle.sql_meanings.specs.Lines.{LinesOf}
-use Rattle.sql_meanings.specs.UnderWay.{IsReady}
+use Rattle.sql_meanings.specs.UnderWay.{AreEmpty, IsReady}
 use Rattle.sql_contents.specs.Contents.{Contents, Holds, contents_of}
 use Rattle.row_queries.specs.TableRows.{AreCellsOf}
 use Rattle.row_lines.specs.Bodies.{line_bytes, schema_bytes}
@@ -18,7 +19,8 @@ use Rattle.row_changes.specs.Moves.{HasNone}
 use Rattle.row_changes.specs.Overlay.{overlay}
 use Rattle.row_changes.specs.declared.table.TableChanges.{TableChanges}
 use Rattle.row_plan.specs.Written.{AreOfTables, lasts_then}
-use Rattle.store_keeper.specs.Model.{Kept, tells}
+use Rattle.store_model.specs.Model.{Kept, tells}
+use Rattle.store_model.specs.declared.counts.RowCount.{RowCount}
 
 -- ---- the rows of a table
 
@@ -57,18 +59,39 @@ pub record IsShapedSo (contents : Contents) (schema : Schema) (cs : List TableCh
   pub changes : AreOfTables contents 0 schema.tables cs
   pub rows : HaveRows contents 0 schema.tables cs
 
+-- ---- the counts
+
+-- a table has so many rows, and had so many as the transaction began
+pub record IsCounted (kept : LinesOf) (c : TableChanges) (n : RowCount) : Type 0 where
+  pub now : n.now ≡ length (overlay c kept)
+  pub then : n.then ≡ length kept
+
+-- the tables from this one on
+abbrev pub AreCounted : Contents → ℕ → List TableChanges → List RowCount → Type 0
+AreCounted contents tab [] [] = ⊤
+AreCounted contents tab (c ∷ cs) (n ∷ ns) = IsCounted (contents.lines tab) c n
+    × AreCounted contents (suc tab) cs ns
+AreCounted contents tab [] (n ∷ ns) = ⊥
+AreCounted contents tab (c ∷ cs) [] = ⊥
+
 -- ---- the keeper
+
+-- the connection is at rest on the four tables, which hold what is read of them
+pub record IsAtRest (s : State) : Type 0 where
+  pub ready : IsReady s
+  pub held : Holds s.now.trees (contents_of s.now.trees)
 
 abbrev pub IsUnchanged : TableChanges → Type 0
 IsUnchanged c = HasNone c c.first
 
 -- The database is at rest and holds its contents. Where the keeper is shaped, they are those of the
--- schema; where no transaction is begun, nothing has changed.
+-- schema, and before that it has none; where no transaction is begun, nothing has changed.
 pub record IsSteady {S : Type 0} (s : State) (k : Kept S) : Type 0 where
   pub ready : IsReady s
   pub held : Holds s.now.trees (contents_of s.now.trees)
   pub shaped : IfSome k.schema (λ schema. IsShapedSo (contents_of s.now.trees) schema k.tables)
-  pub unshaped : k.schema ≡ None → k.tables ≡ []
+  pub unshaped : k.schema ≡ None → (k.tables ≡ []) × AreEmpty s.now.trees
+  pub counted : AreCounted (contents_of s.now.trees) 0 k.tables k.counts
   pub still : k.is_begun ≡ false → AllByRecursion IsUnchanged k.tables × (k.moved ≡ None)
 
 -- what is true of it at any time

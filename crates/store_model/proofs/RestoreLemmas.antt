@@ -15,11 +15,11 @@ use Rattle.row_changes.specs.declared.table.Change.{Change}
 use Rattle.row_changes.specs.declared.table.TableChanges.{TableChanges}
 use Rattle.row_changes.proofs.MoveLemmas.{change_in}
 use Rattle.row_plan.specs.Written.{AreOfTables, IsOfTable, lasts_then}
-use Rattle.store_keeper.specs.Decoded.{last_in, schema_kept, state_in, states_kept, states_now}
-use Rattle.store_keeper.specs.Laws.{AreRestored, RestoresKept}
-use Rattle.store_keeper.specs.Steady.{AreLinesOf, HasRows, HaveRows}
-use Rattle.store_keeper.proofs.CommitLemmas.{found, one_more, tables_of}
-use Rattle.store_keeper.proofs.ShapeLemmas.{no_order, same_lines}
+use Rattle.store_model.specs.Decoded.{last_in, schema_kept, state_in, states_kept, states_now}
+use Rattle.store_model.specs.Laws.{AreRestored, RestoresKept}
+use Rattle.store_model.specs.Steady.{AreLinesOf, HasRows, HaveRows}
+use Rattle.store_model.proofs.CommitLemmas.{found, one_more, tables_of}
+use Rattle.store_model.proofs.ShapeLemmas.{no_order, same_lines}
 
 -- ---- one table
 

@@ -19,8 +19,8 @@ use Rattle.row_plan.specs.Marked.{AreMarked}
 use Rattle.row_plan.specs.Statements.{after}
 use Rattle.row_plan.specs.Written.{AreOfTables, AreWritten, IsOfTable, IsWritten, all_statements, lasts_now, lasts_then}
 use Rattle.row_plan.proofs.WrittenLemmas.{plans_write}
-use Rattle.store_keeper.specs.Laws.{AreSettled, CommitsShaped}
-use Rattle.store_keeper.specs.Steady.{AreLinesOf, HasRows, HaveRows}
+use Rattle.store_model.specs.Laws.{AreSettled, CommitsShaped}
+use Rattle.store_model.specs.Steady.{AreLinesOf, HasRows, HaveRows}
 
 -- ---- no change
 

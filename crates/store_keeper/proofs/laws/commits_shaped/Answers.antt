@@ -1,5 +1,0 @@
-use Rattle.store_keeper.proofs.ShapeLemmas.{commits_shaped}
-use Rattle.store_keeper.proofs.laws.commits_shaped.Goals as goal
-
-pub returns : goal.returns
-returns c = commits_shaped

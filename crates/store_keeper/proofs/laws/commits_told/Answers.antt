@@ -1,5 +1,0 @@
-use Rattle.store_keeper.proofs.CommitLemmas.{commits_told}
-use Rattle.store_keeper.proofs.laws.commits_told.Goals as goal
-
-pub returns : goal.returns
-returns c = commits_told

@@ -1,5 +1,0 @@
-use Rattle.store_keeper.proofs.RestoreLemmas.{restores_kept}
-use Rattle.store_keeper.proofs.laws.restores_kept.Goals as goal
-
-pub returns : goal.returns
-returns c = restores_kept
