@@ -1,0 +1,6 @@
+pub mod CountLemmas
+mod EndLemmas
+mod KeptLemmas
+pub mod LeastLemmas
+pub mod RisingLemmas
+pub mod SumLemmas

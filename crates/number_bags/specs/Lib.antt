@@ -1,0 +1,5 @@
+pub mod Bags
+pub mod Entries
+pub mod Kept
+pub mod Rising
+pub mod Sums
