@@ -1,5 +1,5 @@
 -- What holds of a bag goes on to hold.
-use Rattle.std.proofs.Common.{◌≡◌, ℕ, zero, suc, ◌+◌, ◌<◌, ◌≤◌, ℤ, List, [], ◌∷◌, Bool, true, false, cond, Option, Some, None, refl, sym, ap, subst, ◌∙◌, arith}
+use Rattle.std.proofs.Common.{◌≡◌, ◌+◌, ◌<◌, ◌≤◌, ℤ, List, [], ◌∷◌, Bool, true, false, cond, Option, Some, None, refl, sym, ap, subst, ◌∙◌, arith}
 use Rattle.std.specs.Prelude.{IfSome, ◌+ℤ◌}
 use Rattle.std.specs.Bool.{Decides}
 use Rattle.std.specs.Ordering.{int_eq}
@@ -7,7 +7,7 @@ use Rattle.std.proofs.lemmas.Bool.Decides.{Decides-int_eq}
 use Rattle.fx_number.specs.Decimal.{IsInRange}
 use Rattle.number_bags.specs.Bags.{counted}
 use Rattle.number_bags.specs.Kept.{AreInRange, IsKept}
-use Rattle.number_bags.specs.Rising.{one_of, times, with_option, without_number, without_option}
+use Rattle.number_bags.specs.Rising.{times, with_option, without_number, without_option}
 use Rattle.number_bags.specs.Sums.{size_of, value_of}
 use Rattle.number_bags.specs.declared.sums.Sums.{Sums}
 use Rattle.number_bags.proofs.CountLemmas.{one_number}

@@ -2,11 +2,10 @@
 use Rattle.std.proofs.Common.{◌≡◌, ◌⊎◌, inl, inr, ℕ, zero, suc, ◌+◌, ◌<◌, ◌≤◌, ℤ, ◌≤ℤ◌, List, [], ◌∷◌, ◌++◌, length, get_or, replicate, Bool, true, false, cond, Option, Some, None, refl, sym, ap, subst, ◌∙◌, arith, append-nil, append_assoc}
 use Rattle.std.specs.List.{All, Contains}
 use Rattle.std.specs.Ordering.{int_eq}
-use Rattle.std.proofs.lemmas.Int.{ints}
 use Rattle.std.proofs.lemmas.List.Elements.{All-push, All-nil, All-cons, All-weaker, Contains-push, Contains-append_left, Contains-append_right, Contains-get_or, All-contains}
 use Rattle.fx_value.specs.Aggregates.{IsGreater, IsGreatest, IsLeast, IsLesser, SumsUp}
 use Rattle.fx_types.specs.declared.aggregates.Totals.{Totals}
-use Rattle.number_bags.specs.Rising.{AreFrom, AreSame, IsRising, times, with_number, with_option}
+use Rattle.number_bags.specs.Rising.{AreFrom, AreSame, IsRising, times, with_number}
 use Rattle.number_bags.specs.Entries.{Entries, spread_by, spread_now}
 use Rattle.number_bags.specs.declared.counts.Count.{Count}
 use Rattle.number_bags.proofs.CountLemmas.{number_itself, one_number}

@@ -1,5 +1,5 @@
 -- Lists of numbers that rise: those with the same numbers as often are one list.
-use Rattle.std.proofs.Common.{◌≡◌, ℕ, zero, suc, ◌+◌, ◌<◌, ℤ, pos, ◌+ℤ◌, ◌≤ℤ◌, ◌<ℤ◌, List, [], ◌∷◌, ◌++◌, length, replicate, Bool, true, false, cond, Option, Some, None, refl, sym, ap, ap₂, subst, ◌∙◌, arith}
+use Rattle.std.proofs.Common.{◌≡◌, ℕ, zero, suc, ◌+◌, ◌<◌, ℤ, ◌≤ℤ◌, ◌<ℤ◌, List, [], ◌∷◌, ◌++◌, length, replicate, Bool, true, false, cond, Option, Some, None, refl, sym, ap, ap₂, subst, ◌∙◌, arith}
 use Rattle.std.specs.Bool.{Decides}
 use Rattle.std.specs.List.{AllByRecursion}
 use Rattle.std.specs.List.Sorted.{IsStrictlySortedBy}
@@ -11,7 +11,7 @@ use Rattle.std.specs.declared.cmp.Ordering.{Ordering}
 use Rattle.std.specs.declared.cmp.Ordering.TheVariants.{Less, Equal, Greater}
 use Rattle.std.proofs.lemmas.Int.{ints}
 use Rattle.std.proofs.lemmas.Map.Keys.{sorted_head, sorted_tail}
-use Rattle.number_bags.specs.Rising.{AreFrom, AreSame, IsRising, one_of, times, with_number, with_option, without_number, without_option}
+use Rattle.number_bags.specs.Rising.{AreFrom, AreSame, IsRising, one_of, times, with_number, with_option, without_number}
 use Rattle.number_bags.specs.Entries.{Entries, count_at, number_by, spread_by}
 use Rattle.number_bags.specs.declared.counts.Count.{Count}
 use Rattle.number_bags.proofs.CountLemmas.{number_itself, one_number}

@@ -9,7 +9,7 @@ use Rattle.number_bags.specs.Bags.{counted}
 use Rattle.number_bags.specs.Rising.{AreSame, times, with_option, without_number, without_option}
 use Rattle.number_bags.specs.Sums.{IsSummed, size_of, value_of}
 use Rattle.number_bags.specs.declared.sums.Sums.{Sums}
-use Rattle.number_bags.proofs.CountLemmas.{number_itself, one_number}
+use Rattle.number_bags.proofs.CountLemmas.{one_number}
 use Rattle.number_bags.proofs.RisingLemmas.{no_times, out, there_once, times_with, without_none}
 
 abbrev pub total : List ℤ → ℤ

@@ -1,12 +1,10 @@
 -- Bags of numbers: what stands in them, and when one is ready for a change.
-use Rattle.std.specs.Prelude.{◌≡◌, ℕ, ◌<◌, ◌==◌, cond, List, ℤ, Option, Some, None, IfSome}
-use Rattle.fx_number.specs.Decimal.{IsInRange}
+use Rattle.std.specs.Prelude.{◌≡◌, ◌==◌, cond, List, ℤ, Option, Some, None, IfSome}
 use Rattle.number_bags.specs.Entries.{HasRoom, spread_now, spread_then}
 use Rattle.number_bags.specs.Rising.{times, with_option}
-use Rattle.number_bags.specs.Sums.{HasPlace, IsSummed}
+use Rattle.number_bags.specs.Sums.{HasPlace}
 use Rattle.number_bags.specs.declared.bags.NumberBag.{NumberBag}
 use Rattle.number_bags.specs.declared.counts.Counts.{Counts}
-use Rattle.number_bags.specs.declared.sums.Sums.{Sums}
 
 -- the numbers that stand in a bag now, as they rise, and those as the transaction began: the ones
 -- that are counted, and the one that came last

@@ -1,7 +1,7 @@
 -- The numbers that are counted: for each how often it stood there as the transaction began, and how
 -- often it does now.
 use Rattle.std.specs.Prelude.{◌≡◌, ℕ, ◌==◌, Bool, true, false, cond, List, [], ◌∷◌, ◌++◌, replicate}
-use Rattle.std.specs.Prelude.{ℤ, Option, None, Some, IfSome}
+use Rattle.std.specs.Prelude.{ℤ, Option, None, Some}
 use Rattle.std.specs.List.{list_any}
 use Rattle.std.specs.Map.{lookup}
 use Rattle.std.specs.BTreeMap.{is_at}

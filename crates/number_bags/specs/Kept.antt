@@ -1,5 +1,5 @@
 -- What holds of a bag at any time.
-use Rattle.std.specs.Prelude.{ℕ, ◌<◌, List, ℤ}
+use Rattle.std.specs.Prelude.{◌<◌, List, ℤ}
 use Rattle.fx_number.specs.Decimal.{IsInRange}
 use Rattle.number_bags.specs.Rising.{times}
 use Rattle.number_bags.specs.Sums.{IsSummed}

@@ -1,5 +1,6 @@
 -- How many numbers there are, and their sum.
-use Rattle.std.specs.Prelude.{◌≡◌, ℕ, ◌<◌, ◌-◌, ◌^◌, List, length, ℤ, pos, neg_ℤ, ◌≤ℤ◌, Option, Some}
+use Rattle.std.specs.Prelude.{◌≡◌, ℕ, ◌<◌, ◌-◌, ◌^◌, List, length, ℤ, pos, neg_ℤ, ◌≤ℤ◌, Option}
+use Rattle.std.specs.Prelude.{Some}
 use Rattle.std.specs.Prelude.{None}
 use Rattle.fx_value.specs.Aggregates.{sum_of}
 use Rattle.number_bags.specs.declared.sums.Sums.{Sums}

@@ -1,5 +1,4 @@
-use Rattle.std.proofs.Common.{◌≡◌, ◌∙◌, Some, ap, subst, sym}
-use Rattle.fx_value.specs.Aggregates.{IsLeast}
+use Rattle.std.proofs.Common.{◌≡◌, ◌∙◌, ap, sym}
 use Rattle.number_bags.specs.Entries.{spread_now}
 use Rattle.number_bags.specs.declared.counts.Count.{Count}
 use Rattle.number_bags.proofs.LeastLemmas.{found_first, passed_first}
