@@ -1,0 +1,7 @@
+//! A keeper of rows over a connection of SQLite, which tells its tables.
+#![tactic(auto)]
+
+mod keeper;
+mod seats;
+
+pub use keeper::StoreKeeper;
