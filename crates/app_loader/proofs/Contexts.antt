@@ -159,4 +159,5 @@ module _ (n : Names) (law : IsLawful n) (types : AreLawfullyTyped n) where
     of_sources = λ s t e. lawful_some (sources n s) t (source_lawful s) e;
     of_scopes = tt;
     of_item = λ t e. lawful_some (item_context n g) t (item_lawful g) e;
+    of_functions = λ k us t e. absurd cc;
   }

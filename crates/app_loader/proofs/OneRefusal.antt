@@ -156,7 +156,8 @@ rule_at k =
     else (if k == 12 then rule.UnknownColumn
     else (if k == 13 then rule.LimitPassed
     else (if k == 14 then rule.BadShape
-    else (if k == 15 then rule.NotAVariable else rule.NotBuilt))))))))))))))
+    else (if k == 15 then rule.NotAVariable
+    else (if k == 16 then rule.NotBuilt else rule.Recursion)))))))))))))))
 
 numbered : (r : Rule) → rule_at (rule_number r) ≡ r
 unfolding rule_at
@@ -176,6 +177,7 @@ numbered rule.LimitPassed = refl
 numbered rule.BadShape = refl
 numbered rule.NotAVariable = refl
 numbered rule.NotBuilt = refl
+numbered rule.Recursion = refl
 
 rule_one : (r q : Rule) → rule_number r ≡ rule_number q → r ≡ q
 rule_one r q e = sym (numbered r) ∙ ap rule_at e ∙ numbered q

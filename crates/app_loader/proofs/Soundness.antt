@@ -15,7 +15,7 @@ use Rattle.fx_semantics.specs.NamedTypes.{HasLawfulTypes}
 use Rattle.fx_typing.specs.Laws.{AdmittedIsTyped, AdmittedIsWanted, IsWanted, PureIsQuiet}
 use Rattle.fx_typing.specs.Rounds as rounds
 use Rattle.fx_typing.specs.Rounds.{AllSame, SameControl, SameNames, type_or_blank}
-use Rattle.fx_typing.specs.Typing.{judge_whole}
+use Rattle.fx_typing.specs.Typing.{function_types, judge_whole}
 use Rattle.fx_typing.specs.WellTyped.{IsTyped}
 use Rattle.fx_core.specs.Tree.{Tree}
 use Rattle.fx_core.specs.Term.{Term}
@@ -55,10 +55,12 @@ types_at [] k i h e = absurd cc
 types_at (j ∷ is) zero i h e = let same : j ≡ i = cc in subst (λ (z : CellInfo). HasLawfulTypes z.core) same h.0
 types_at (j ∷ is) (suc k) i h e = types_at is k i h.1 e
 
--- where a formula may act or not, it stands in the same context
-typed_there : AdmittedIsTyped → (n : Names) (c : Cell) (b : Bool) (wanted : Option Shape) (e : Tree) (x : Term × Shape) → IsLawful n → judge_whole (cell_place n c) b wanted e ≡ Ok x → IsTyped (context_at n c.item) x.0 x.1
-typed_there typed n c true wanted e x law h = typed (cell_place n c) true wanted e x law h
-typed_there typed n c false wanted e x law h = typed (cell_place n c) false wanted e x law h
+-- where a formula may act or not, it stands in the same context, and no app has functions of its own yet
+typed_there : AdmittedIsTyped → (n : Names) (c : Cell) (b : Bool) (wanted : Option Shape) (e : Tree) (x : Term × Shape) → n.functions ≡ [] → IsLawful n → judge_whole (cell_place n c) b wanted e ≡ Ok x → IsTyped (context_at n c.item) x.0 x.1
+typed_there typed n c true wanted e x none law h =
+    subst (λ fs. IsTyped (record (context_at n c.item) { functions = map function_types fs }) x.0 x.1) none (typed (cell_place n c) true wanted e x law h)
+typed_there typed n c false wanted e x none law h =
+    subst (λ fs. IsTyped (record (context_at n c.item) { functions = map function_types fs }) x.0 x.1) none (typed (cell_place n c) false wanted e x law h)
 
 module _ (typed : AdmittedIsTyped) (fits : AdmittedIsWanted) (quiet : PureIsQuiet) (placed : AdmittedIsPlaced) (f : Frame) (cells : List Cell) (most : ℕ) (a : App) (h : IsAcceptedApp f cells most a) where
   parts : IsAppOf h.first most cells a
@@ -81,7 +83,7 @@ module _ (typed : AdmittedIsTyped) (fits : AdmittedIsWanted) (quiet : PureIsQuie
       let context = context_lawful_at a.names h.lawful h.types c.cell.item in
       let types = types_at a.cells k c h.trees e in
       record {
-        typed = typed_there typed a.names c.cell c.cell.acts (option_map shape c.cell.wanted) c.cell.expr (c.core, shape c.ty) h.lawful t;
+        typed = typed_there typed a.names c.cell c.cell.acts (option_map shape c.cell.wanted) c.cell.expr (c.core, shape c.ty) (sym same.functions ∙ h.named.functions) h.lawful t;
         calm = λ no.
             let q = quiet (cell_place a.names c.cell) (option_map shape c.cell.wanted) c.cell.expr (c.core, shape c.ty) (pure_tree c no t) in
             record { context = context; lawful = tree_lawful c.core types q; quiet = q };

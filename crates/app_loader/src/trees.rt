@@ -36,6 +36,7 @@ pub fn look_at_tree(core: &Core)
             look_at_trees(parts);
         }
         CoreNode::Call(_, parts)
+        | CoreNode::User(_, parts)
         | CoreNode::All(parts)
         | CoreNode::Any(parts)
         | CoreNode::If(parts)

@@ -5,10 +5,11 @@ use Rattle.std.proofs.lemmas.List.Elements.{All-nil, All-cons, All-head, All-tai
 use Rattle.std.proofs.lemmas.List.Folds.{list_any-append}
 use Rattle.std.proofs.Common.{IfOk, Result, Ok, Err, inl, inr, ◌≡◌, ◌≢◌, ℕ, suc, ◌+◌, ◌<◌, ◌≤◌, ◌^◌, Bool, true, false, List, [], ◌∷◌, ◌++◌, Option, Some, None, option_map, map, flat_map, length, get_or, slice_get, codes, bytes_eq, refl, ap, sym, subst, ◌∙◌, arith, All, if◌then◌else◌}
 use Rattle.fx_types.specs.declared.types.Ty.TheVariants as ty
-use Rattle.fx_core.specs.Lawful.{AreDistinct, DiffersFromAll, Has, IsColumnType, IsLawful, IsLawfulControl, IsLawfulGallery, IsLawfulProperty, IsLawfulSchema, IsLawfulScreen, IsLawfulTable, id_name}
+use Rattle.fx_core.specs.Lawful.{AreDistinct, DiffersFromAll, Has, IsColumnType, IsLawful, IsLawfulControl, IsLawfulFunction, IsLawfulGallery, IsLawfulProperty, IsLawfulSchema, IsLawfulScreen, IsLawfulTable, id_name}
 use Rattle.fx_core.specs.declared.broken.Broken.{Broken}
 use Rattle.fx_core.specs.declared.names.ControlName.{ControlName}
 use Rattle.fx_core.specs.declared.names.FormulaName.{FormulaName}
+use Rattle.fx_core.specs.declared.names.FunctionName.{FunctionName}
 use Rattle.fx_core.specs.declared.names.Names.{Names}
 use Rattle.fx_core.specs.declared.names.Property.{Property}
 use Rattle.fx_core.specs.declared.names.Variable.{Variable}
@@ -284,6 +285,8 @@ lawful_names fs f cs n h placed names same none =
         subst (λ ds. All (HasIt ds) n.properties) (sym names.controls) (subst (All (HasIt f.controls)) (sym names.properties) (properties_fit f 0 cs placed)),
       );
       formulas = let e = ap length names.formulas in let l = few_formulas 0 cs in omega (arith, e, l, u.1.0);
+      functions = subst (λ (fs : List FunctionName). (length fs < 2 ^ 32) × AreDistinct (map (λ (f : FunctionName). f.name) fs) × All IsLawfulFunction fs) (sym names.functions)
+          (omega arith, tt, All-nil IsLawfulFunction);
       variables = let e = ap length variables in let l = few_variables things in (
         omega (arith, e, l, u.1.1),
         λ k d m. screen_lawful n (get_or n.variables k d).screen (subst (λ ss. All (IsOn ss) n.variables) (sym names.screens) (subst (All (IsOn f.screens)) (sym variables) (variables_fit f things (all_fit f fs cs h placed))) k d m),

@@ -6,11 +6,13 @@ use Rattle.std.proofs.lemmas.Bool.Decides.{Decides-and, Decides-ltb, Decides-by_
 use Rattle.std.proofs.lemmas.Slice.Eq.{bytes_eq-Decides}
 use Rattle.fx_types.specs.declared.types.Ty.{Ty}
 use Rattle.fx_types.specs.declared.types.Ty.TheVariants as ty
-use Rattle.fx_core.specs.Lawful.{AreDistinct, id_name, IsColumnType, IsLawfulTable, IsLawfulSchema, IsGallery, IsLawfulGallery, IsLawfulControl, Has, IsLawfulProperty, IsLawfulScreen, IsLawful}
+use Rattle.fx_core.specs.Lawful.{AreDistinct, id_name, IsColumnType, IsLawfulTable, IsLawfulSchema, IsGallery, IsLawfulGallery, IsLawfulControl, IsLawfulFunction, Has, IsLawfulProperty, IsLawfulScreen, IsLawful}
 use Rattle.fx_types.specs.declared.controls.Control.{Control}
 use Rattle.fx_types.specs.declared.controls.Control.TheVariants as control
 use Rattle.fx_core.specs.declared.names.ControlName.{ControlName}
+use Rattle.fx_core.specs.declared.names.FunctionName.{FunctionName}
 use Rattle.fx_core.specs.declared.names.Names.{Names}
+use Rattle.fx_core.specs.declared.names.Parameter.{Parameter}
 use Rattle.fx_core.specs.declared.names.Property.{Property}
 use Rattle.fx_core.specs.declared.names.Variable.{Variable}
 use Rattle.fx_core.specs.declared.schema.Column.{Column}
@@ -117,31 +119,49 @@ few_right n =
     (Decides-and (f d) (f e && f g) (few d)
     (Decides-and (f e) (f g) (few e) (few g)))))
 
+parameters_right : (ps : List Parameter) → Decides (list_all (λ (p : Parameter). decided.is_column_type p.ty) ps) (All (λ (p : Parameter). IsColumnType p.ty) ps)
+parameters_right ps = all_of (λ (p : Parameter). decided.is_column_type p.ty) (λ (p : Parameter). IsColumnType p.ty) (λ p. column_type p.ty) ps
+
+function_right : (f : FunctionName) → Decides (decided.is_lawful_function f) (IsLawfulFunction f)
+function_right f = Decides-and (list_all (λ (p : Parameter). decided.is_column_type p.ty) f.params) (decided.is_column_type f.result) (parameters_right f.params) (column_type f.result)
+
+abbrev AreFunctions : List FunctionName → Type 0
+AreFunctions fs = (length fs < 2 ^ 32) × (AreDistinct (decided.function_names fs) × All IsLawfulFunction fs)
+
+functions_right : (fs : List FunctionName) → Decides (decided.are_lawful_functions fs) (AreFunctions fs)
+functions_right fs =
+    Decides-and (decided.is_few (length fs)) (decided.are_distinct bytes_eq (decided.function_names fs) && list_all decided.is_lawful_function fs) (few (length fs))
+    (Decides-and (decided.are_distinct bytes_eq (decided.function_names fs)) (list_all decided.is_lawful_function fs)
+    (decides_distinct bytes_eq bytes_eq-Decides (decided.function_names fs)) (all_of decided.is_lawful_function IsLawfulFunction function_right fs))
+
 abbrev AreRight : Names → Type 0
 AreRight n =
     All (IsLawfulControl n) n.controls × (All (IsLawfulProperty n) n.properties
     × (All (λ (v : Variable). IsLawfulScreen n v.screen) n.variables
-    × AreDistinct (decided.formula_cells n.formulas ++ decided.property_cells n.properties)))
+    × (AreFunctions n.functions × AreDistinct (decided.formula_cells n.formulas ++ decided.property_cells n.properties))))
 
 things_right : (n : Names) → Decides
     (list_all (decided.is_lawful_control n) n.controls && (list_all (decided.is_lawful_property n) n.properties
     && (list_all (λ (v : Variable). decided.is_lawful_screen n v.screen) n.variables
-    && decided.are_cells_distinct (decided.formula_cells n.formulas) (decided.property_cells n.properties)))) (AreRight n)
+    && (decided.are_lawful_functions n.functions
+    && decided.are_cells_distinct (decided.formula_cells n.formulas) (decided.property_cells n.properties))))) (AreRight n)
 things_right n =
     let controls = list_all (decided.is_lawful_control n) n.controls in
     let properties = list_all (decided.is_lawful_property n) n.properties in
     let variables = list_all (λ (v : Variable). decided.is_lawful_screen n v.screen) n.variables in
+    let functions = decided.are_lawful_functions n.functions in
     let cells = decided.are_cells_distinct (decided.formula_cells n.formulas) (decided.property_cells n.properties) in
-    Decides-and controls (properties && (variables && cells)) (all_of (decided.is_lawful_control n) (IsLawfulControl n) (control_right n) n.controls)
-    (Decides-and properties (variables && cells) (all_of (decided.is_lawful_property n) (IsLawfulProperty n) (property_right n) n.properties)
-    (Decides-and variables cells (all_of (λ (v : Variable). decided.is_lawful_screen n v.screen) (λ (v : Variable). IsLawfulScreen n v.screen) (λ v. screen_right n v.screen) n.variables)
-    (cells_right n)))
+    Decides-and controls (properties && (variables && (functions && cells))) (all_of (decided.is_lawful_control n) (IsLawfulControl n) (control_right n) n.controls)
+    (Decides-and properties (variables && (functions && cells)) (all_of (decided.is_lawful_property n) (IsLawfulProperty n) (property_right n) n.properties)
+    (Decides-and variables (functions && cells) (all_of (λ (v : Variable). decided.is_lawful_screen n v.screen) (λ (v : Variable). IsLawfulScreen n v.screen) (λ v. screen_right n v.screen) n.variables)
+    (Decides-and functions cells (functions_right n.functions) (cells_right n))))
 
 all_right : (n : Names) → Decides (decided.is_lawful n) (IsLawfulSchema n.schema × (AreFew n × AreRight n))
 all_right n =
     let things = list_all (decided.is_lawful_control n) n.controls && (list_all (decided.is_lawful_property n) n.properties
     && (list_all (λ (v : Variable). decided.is_lawful_screen n v.screen) n.variables
-    && decided.are_cells_distinct (decided.formula_cells n.formulas) (decided.property_cells n.properties))) in
+    && (decided.are_lawful_functions n.functions
+    && decided.are_cells_distinct (decided.formula_cells n.formulas) (decided.property_cells n.properties)))) in
     Decides-and (decided.is_lawful_schema n.schema) (decided.are_few n && things) (schema_right n.schema)
     (Decides-and (decided.are_few n) things (few_right n) (things_right n))
 
@@ -153,14 +173,15 @@ lawful_by n s f r =
       controls = (f.1.0, r.0);
       properties = (f.1.1.0, r.1.0);
       formulas = f.1.1.1.0;
+      functions = (r.1.1.1.0.0, r.1.1.1.0.1.0, r.1.1.1.0.1.1);
       variables = (f.1.1.1.1.0, r.1.1.0);
       collections = f.1.1.1.1.1;
-      cells = r.1.1.1;
+      cells = r.1.1.1.1;
     }
 
 -- the test decides whether names are lawful
 pub names_right : (n : Names) → Decides (decided.is_lawful n) (IsLawful n)
 names_right n = (
   (λ h. let all = (all_right n).0 h in lawful_by n all.0 all.1.0 all.1.1),
-  (λ h. (all_right n).1 (h.schema, ((h.screens, (h.controls.0, (h.properties.0, (h.formulas, (h.variables.0, h.collections))))), (h.controls.1, (h.properties.1, (h.variables.1, h.cells)))))),
+  (λ h. (all_right n).1 (h.schema, ((h.screens, (h.controls.0, (h.properties.0, (h.formulas, (h.variables.0, h.collections))))), (h.controls.1, (h.properties.1, (h.variables.1, ((h.functions.0, (h.functions.1, h.functions.2)), h.cells))))))),
 )

@@ -50,13 +50,14 @@ collections_among ds = flat_map (λ (d : Declared). as_collection d d.thing) ds
 
 -- THE NAMES OF AN APP: all functions, its tables, screens and controls, its named formulas and
 -- written properties by the numbers of their cells, which are their places, and what its formulas
--- declare, each of type Blank so far.
+-- declare, each of type Blank so far. No app has functions of its own yet.
 pub record AreNamesOf (f : Frame) (cells : List Cell) (n : Names) : Type 0 where
   pub signatures : map entry n.signatures.now ≡ entries
   pub schema : n.schema ≡ f.schema
   pub screens : n.screens ≡ f.screens
   pub controls : n.controls ≡ f.controls
   pub properties : n.properties ≡ properties_from 0 cells
+  pub functions : n.functions ≡ []
   pub formulas : n.formulas ≡ formulas_from 0 cells
   pub variables : n.variables ≡ variables_among (things_of n.signatures.now f cells)
   pub collections : n.collections ≡ collections_among (things_of n.signatures.now f cells)

@@ -13,6 +13,8 @@ use Rattle.fx_core.specs.declared.names.Names.{Names}
 use Rattle.fx_core.specs.declared.names.Variable.{Variable}
 use Rattle.fx_core.specs.declared.schema.Schema.{Schema}
 use Rattle.fx_core.specs.declared.names.FormulaName.{FormulaName}
+use Rattle.fx_core.specs.declared.names.FunctionName.{FunctionName}
+use Rattle.fx_core.specs.declared.names.Parameter.{Parameter}
 use Rattle.fx_core.specs.declared.names.Property.{Property}
 use Rattle.fx_core.specs.declared.schema.Column.{Column}
 use Rattle.fx_core.specs.declared.schema.TableShape.{TableShape}
@@ -37,6 +39,9 @@ column_names cs = map (λ (c : Column). c.name) cs
 
 abbrev pub table_names : List TableShape → List (List ℕ)
 table_names ts = map (λ (t : TableShape). t.name) ts
+
+abbrev pub function_names : List FunctionName → List (List ℕ)
+function_names fs = map (λ (f : FunctionName). f.name) fs
 
 abbrev pub formula_cells : List FormulaName → List ℕ
 formula_cells fs = map (λ (f : FormulaName). f.cell) fs
@@ -89,12 +94,20 @@ abbrev pub is_lawful_screen : Names → Option ℕ → Bool
 is_lawful_screen n (Some s) = nat_lt s (length n.screens)
 is_lawful_screen n None = true
 
+abbrev pub is_lawful_function : FunctionName → Bool
+is_lawful_function f = list_all (λ (p : Parameter). is_column_type p.ty) f.params
+    && is_column_type f.result
+
 abbrev pub are_cells_distinct : List ℕ → List ℕ → Bool
 are_cells_distinct xs ys = are_distinct nat_eq xs
     && (are_distinct nat_eq ys && are_apart nat_eq xs ys)
 
 abbrev pub is_few : ℕ → Bool
 is_few n = nat_lt n 4294967296
+
+abbrev pub are_lawful_functions : List FunctionName → Bool
+are_lawful_functions fs = is_few (length fs) && (are_distinct bytes_eq (function_names fs)
+    && list_all is_lawful_function fs)
 
 abbrev pub are_few : Names → Bool
 are_few n =
@@ -109,4 +122,5 @@ is_lawful n =
     && (are_few n && (list_all (is_lawful_control n) n.controls
     && (list_all (is_lawful_property n) n.properties
     && (list_all (λ (v : Variable). is_lawful_screen n v.screen) n.variables
-    && are_cells_distinct (formula_cells n.formulas) (property_cells n.properties)))))
+    && (are_lawful_functions n.functions && are_cells_distinct (formula_cells n.formulas)
+    (property_cells n.properties))))))

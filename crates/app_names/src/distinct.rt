@@ -3,11 +3,11 @@
 ghost use Rattle.std.specs.Prelude.{◌≡◌, bytes_eq, nat_eq};
 ghost use Rattle.std.specs.Str.{IsAscii};
 ghost use Rattle.app_names.specs.Decided.{are_apart, are_cells_distinct, are_distinct};
-ghost use Rattle.app_names.specs.Decided.{column_names, formula_cells, is_new, property_cells};
-ghost use Rattle.app_names.specs.Decided.{table_names};
+ghost use Rattle.app_names.specs.Decided.{column_names, formula_cells, function_names, is_new};
+ghost use Rattle.app_names.specs.Decided.{property_cells, table_names};
 ghost use Rattle.fx_core.specs.Lawful.{id_name};
 
-use fx_core::names::{FormulaName, Property};
+use fx_core::names::{FormulaName, FunctionName, Property};
 use fx_core::schema::{Column, TableShape};
 use fx_types::words::Words;
 
@@ -73,6 +73,30 @@ pub fn are_distinct_tables(tables: &[TableShape]) -> bool
 {
     for (place, table) in tables.iter().enumerate() {
         if !is_no_table(&table.name, &tables[place + 1..]) {
+            return false;
+        }
+    }
+    true
+}
+
+// Whether no function of the app's own has this name.
+fn is_no_function(name: &Words, functions: &[FunctionName]) -> bool
+    ensures { result ≡ is_new bytes_eq name.now (function_names functions.now) }
+{
+    for function in functions {
+        if function.name.is(name) {
+            return false;
+        }
+    }
+    true
+}
+
+/// Whether no name of a function of the app's own stands twice.
+pub fn are_distinct_functions(functions: &[FunctionName]) -> bool
+    ensures { result ≡ are_distinct bytes_eq (function_names functions.now) }
+{
+    for (place, function) in functions.iter().enumerate() {
+        if !is_no_function(&function.name, &functions[place + 1..]) {
             return false;
         }
     }

@@ -3,12 +3,13 @@ ghost use Rattle.std.specs.Prelude.{◌≡◌, IsTrue, ◌↔◌};
 ghost use Rattle.std.specs.List.{list_all};
 ghost use Rattle.app_names.specs.Decided as decided;
 ghost use Rattle.fx_core.specs.Lawful.{IsLawful};
+ghost use Rattle.fx_core.specs.declared.names.Parameter.{Parameter as Taken};
 ghost use Rattle.fx_core.specs.declared.names.Variable.{Variable};
 
-use crate::distinct::are_distinct_cells;
-use crate::lawful_schema::is_schema;
+use crate::distinct::{are_distinct_cells, are_distinct_functions};
+use crate::lawful_schema::{is_column_type, is_schema};
 use fx_core::controls::has_property;
-use fx_core::names::{ControlName, Names, Property, Variable};
+use fx_core::names::{ControlName, FunctionName, Names, Parameter, Property, Variable};
 use fx_types::controls::Control;
 
 // Whether this is the number of a gallery, where it is a number.
@@ -102,6 +103,38 @@ fn are_few(names: &Names) -> bool
         && is_few(names.collections.len())
 }
 
+// Whether parameters have types that columns may have.
+fn are_lawful_parameters(parameters: &[Parameter]) -> bool
+    ensures { result ≡ list_all (λ (p : Taken). decided.is_column_type p.ty) parameters.now }
+{
+    parameters
+        .iter()
+        .all(|parameter| is_column_type(&parameter.ty))
+}
+
+// Whether a function of the app's own takes and answers values of types that columns may have.
+fn is_lawful_function(function: &FunctionName) -> bool
+    ensures { result ≡ decided.is_lawful_function function.now }
+{
+    are_lawful_parameters(function.params.as_slice()) && is_column_type(&function.result)
+}
+
+// Whether all functions are lawful.
+fn have_lawful_types(functions: &[FunctionName]) -> bool
+    ensures { result ≡ list_all decided.is_lawful_function functions.now }
+{
+    functions
+        .iter()
+        .all(|function| is_lawful_function(function))
+}
+
+// Whether there are fewer functions than numbers, no two of one name, and all are lawful.
+fn are_lawful_functions(functions: &[FunctionName]) -> bool
+    ensures { result ≡ decided.are_lawful_functions functions.now }
+{
+    is_few(functions.len()) && are_distinct_functions(functions) && have_lawful_types(functions)
+}
+
 // Whether names are lawful. What is decided is proved here, and what it means in `is_lawful`.
 fn are_lawful(names: &Names) -> bool
     ensures { result ≡ decided.is_lawful names.now }
@@ -111,11 +144,13 @@ fn are_lawful(names: &Names) -> bool
         && are_lawful_controls(names)
         && are_lawful_properties(names)
         && are_lawful_variables(names)
+        && are_lawful_functions(names.functions.as_slice())
         && are_distinct_cells(names.formulas.as_slice(), names.properties.as_slice())
 }
 
 /// Whether names are lawful: their schema is, each number of a screen, a control or a gallery is
-/// one, each property is one of its control's kind, and no cell is numbered twice.
+/// one, each property is one of its control's kind, functions of the app's own are lawful, and no
+/// cell is numbered twice.
 pub fn is_lawful(names: &Names) -> bool
     ensures { IsTrue result ↔ IsLawful names.now }
 {

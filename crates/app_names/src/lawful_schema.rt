@@ -9,8 +9,8 @@ use crate::distinct::{are_distinct_columns, are_distinct_tables, is_without_id};
 use fx_core::schema::{Column, Schema, TableShape};
 use fx_types::types::Ty;
 
-// Whether a column may have this type.
-fn is_column_type(ty: &Ty) -> bool
+/// Whether a column may have this type.
+pub fn is_column_type(ty: &Ty) -> bool
     ensures { result ≡ decided.is_column_type ty.now }
 {
     matches!(ty, Ty::Number | Ty::Text | Ty::Boolean | Ty::Date)

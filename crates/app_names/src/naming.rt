@@ -148,6 +148,7 @@ fn first_names(
         screens,
         controls,
         properties: properties_of(alloc, cells)?,
+        functions: InOrder::new(alloc),
         formulas: formulas_of(alloc, cells)?,
         variables: variables_of(alloc, &things)?,
         collections: collections_of(alloc, &things)?,

@@ -4,7 +4,7 @@ use Rattle.std.specs.Prelude.{◌⊎◌}
 use Rattle.std.proofs.lemmas.Bool.{or_parts}
 use Rattle.fx_types.specs.Types.{Shape, blanks, numbers, texts, booleans, dates, records, tables}
 use Rattle.fx_core.specs.Reads.{IsAmong, read_by, sources_among, sources_in}
-use Rattle.fx_core.specs.Term.{Term, Terms, of, nil, cons, Top, const, read, row, item, caught, dot, call, over, form, within, rec, list, coerce, chain, act}
+use Rattle.fx_core.specs.Term.{Term, Terms, of, nil, cons, Top, const, read, row, item, caught, dot, call, over, user, form, within, rec, list, coerce, chain, act}
 use Rattle.fx_core.specs.declared.sources.Source.{Source}
 use Rattle.fx_typing.specs.Acts.{acts, any_acts, is_acting}
 use Rattle.fx_semantics.specs.Sound.{IsLawfulType}
@@ -104,6 +104,7 @@ ruled S c (dot x) cs (u ∷ []) t q l k r = r
 ruled S c (dot x) cs (u ∷ v ∷ us) t q l k r = absurd r
 ruled S c (call f) cs us t q l k r = r
 ruled S c (over f) cs us t q l k r = r
+ruled S c (user f) cs us t q l k r = r
 ruled S c (form f) cs us t q l k r = r
 ruled S c within cs us t q l k r = ruled_within S c cs us t r
 ruled S c (rec ns) cs us t q l k r = r
@@ -151,6 +152,7 @@ ruled_read c caught cs us t s r a = absurd a
 ruled_read c (dot x) cs us t s r a = absurd a
 ruled_read c (call f) cs us t s r a = absurd a
 ruled_read c (over f) cs us t s r a = absurd a
+ruled_read c (user f) cs us t s r a = absurd a
 ruled_read c (form f) cs us t s r a = absurd a
 ruled_read c within cs us t s r a = absurd a
 ruled_read c (rec ns) cs us t s r a = absurd a

@@ -27,7 +27,8 @@ use Rattle.fx_typing.specs.Typing.{item_context}
 use Rattle.fx_typing.specs.WellTyped.{Context, IsTyped}
 use Rattle.fx_plan.specs.Limited.{limited}
 
--- where the tree of a formula stands: among the names of the app, and perhaps in a gallery
+-- where the tree of a formula stands: among the names of the app, and perhaps in a gallery. Calls
+-- of the app's own functions are expanded in it, so none of these is left.
 abbrev pub context_at : Names → Option ℕ → Context
 context_at n gallery = record {
   sources = sources n;
@@ -35,6 +36,7 @@ context_at n gallery = record {
   rows = [];
   item = item_context n gallery;
   caught = false;
+  functions = [];
 }
 
 -- a formula that doesn't act is a lawful tree, among lawful types, and nothing in it acts

@@ -251,7 +251,7 @@ recover_common first common u m i = each_take (IsCommon first common u) (form_ro
 fallback_there : (types : SourceTypes) (s : ScopeValues) (c : Context) (k : PartScope) (done : List Shape) (t : Term) (u : Shape) → k ≡ catching → Suits types s c → Lawfully (context_for k c done) t u → IsPlaced t → IsActingFallback types s u t
 fallback_there types s c k done t u e f h p = λ j cs.
     part_there types (caught_in s j cs) (record c { caught = true }) t u
-    (record { sources = f.sources; rows = f.rows; item = f.item; caught = λ z. refl })
+    (record { sources = f.sources; rows = f.rows; item = f.item; caught = λ z. refl; functions = f.functions })
     (subst (λ (z : PartScope). Lawfully (context_for z c done) t u) e h) p
 
 recoveries : (types : SourceTypes) (s : ScopeValues) (c : Context) (n m i : ℕ) (first common : Shape) → Suits types s c →
@@ -287,7 +287,7 @@ recover_actable types s ts u r =
 -- ---- scopes
 
 pub suits_inside : (types : SourceTypes) (s : ScopeValues) (c : Context) (d : Data) (t : Shape) → Suits types s c → fits_in d t ≡ true → Suits types (inner s d) (record c { rows = c.rows ++ t ∷ [] })
-suits_inside types s c d t f g = record { sources = f.sources; rows = rows_more s.rows c.rows d t f.rows g; item = f.item; caught = f.caught }
+suits_inside types s c d t f g = record { sources = f.sources; rows = rows_more s.rows c.rows d t f.rows g; item = f.item; caught = f.caught; functions = f.functions }
 
 -- two parts have two types
 pub two_types : (c : Context) (h : Top) (n : ℕ) (t f : Term) (us : List Shape) → (w : AreTyped c h n [] (cons t (cons f nil)) us) → us ≡ w.0 ∷ w.4.0 ∷ []

@@ -246,6 +246,7 @@ acting_on g (top.row k) Ps f h s u x v c p = absurd c
 acting_on g top.item Ps f h s u x v c p = absurd c
 acting_on g top.caught Ps f h s u x v c p = absurd c
 acting_on g (top.call k) Ps f h s u x v c p = absurd c
+acting_on g (top.user k) Ps f h s u x v c p = absurd c
 acting_on g (top.rec ns) Ps f h s u x v c p = absurd c
 
 -- what was left as it was goes on as all does

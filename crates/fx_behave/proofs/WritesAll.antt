@@ -164,6 +164,7 @@ acting g (top.row k) Ps w = λ h s x u p. absurd p
 acting g top.item Ps w = λ h s x u p. absurd p
 acting g top.caught Ps w = λ h s x u p. absurd p
 acting g (top.call f) Ps w = λ h s x u p. absurd p
+acting g (top.user k) Ps w = λ h s x u p. absurd p
 acting g (top.rec ns) Ps w = λ h s x u p. absurd p
 
 done : {A : Type 0} (g : Ground A) (b : Bool) (k : Top) (M : Meaning) (Ps : List (Doing A)) → AllWrite Ps → Writes (NodeComesTo g b k M Ps)

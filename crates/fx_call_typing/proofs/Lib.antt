@@ -4,4 +4,5 @@ pub mod Named
 pub mod Steps
 pub mod RowSteps
 pub mod Gives
+pub mod GroupNames
 pub mod InTurn

@@ -1,6 +1,7 @@
 -- Rows that change.
-use Rattle.std.specs.Prelude.{ℕ, List, [], ◌∷◌, Option, Some, None, Result, Ok, Err}
-use Rattle.fx_types.specs.Types.{Shape, tables, ColumnList, column_list}
+use Rattle.std.specs.Prelude.{ℕ, Bool, true, false, List, [], ◌∷◌, Option, Some, None, Result, Ok}
+use Rattle.std.specs.Prelude.{Err}
+use Rattle.fx_types.specs.Types.{Shape, blanks, tables, ColumnList, no_columns, column_list}
 use Rattle.fx_core.specs.declared.deeds.Target.{Target}
 use Rattle.fx_core.specs.declared.names.Names.{Names}
 use Rattle.fx_core.specs.Rules.{rule_number}
@@ -10,7 +11,7 @@ use Rattle.fx_core.specs.declared.deeds.Deed.TheVariants as deed
 use Rattle.fx_core.specs.Rules as rules
 use Rattle.fx_core.specs.ColumnLists.{and_then}
 use Rattle.fx_typing.specs.Local.{firsts}
-use Rattle.fx_typing.specs.Deeds.{filter_of, done_by, row_typed, rows_named_by, changes_of}
+use Rattle.fx_typing.specs.Deeds.{as_rows, filter_of, done_by, row_typed, rows_named_by, changes_of}
 use Rattle.fx_typing.specs.Parts.{JudgedPart, lowest}
 use Rattle.fx_typing.specs.Targets.{rows_named}
 use Rattle.fx_call_typing.specs.declared.changing.Changing.{Changing}
@@ -18,13 +19,22 @@ use Rattle.fx_call_typing.specs.declared.changing.Changing.{Changing}
 abbrev pub changing_view : Changing → Target × ColumnList
 changing_view r = (r.target, column_list r.columns)
 
--- rows with their columns, where they are a table
-abbrev pub rows_with_columns : Option (Target × Shape) → Result (Target × ColumnList) ℕ
-rows_with_columns (Some (t, tables cs)) = Ok (t, cs)
+abbrev pub found_view : Changing × Bool → (Target × ColumnList) × Bool
+found_view r = (changing_view r.0, r.1)
+
+-- rows with their columns, and whether they are those of a collection of type Blank, which has no
+-- rows
+abbrev pub rows_with_columns : Option (Target × Shape) → Result ((Target × ColumnList) × Bool) ℕ
+rows_with_columns (Some (t, tables cs)) = Ok ((t, cs), false)
+rows_with_columns (Some (t, blanks)) = Ok ((t, no_columns), true)
 rows_with_columns (Some r) = Err rules.wrong_type
 rows_with_columns None = Err rules.not_a_variable
 
-abbrev pub rows_to_change : Names → List ℕ → Result (Target × ColumnList) ℕ
+-- what is made of them
+abbrev pub settled : Bool → Result (Term × Shape) ℕ → Result (Term × Shape) ℕ
+settled b r = and_then r (λ y. Ok (as_rows b y))
+
+abbrev pub rows_to_change : Names → List ℕ → Result ((Target × ColumnList) × Bool) ℕ
 rows_to_change n x = rows_with_columns (rows_named n x)
 
 -- what comes behind a test, or the rule that the test found broken

@@ -112,7 +112,7 @@ fn defaults_of(alloc: Global, names: &Names, all: Vec<Part>) -> Result<Typed, Wr
         (calls.defaults_of names.now)) result }
 {
     let (name, _) = take_name(all)?;
-    let rows = find_rows(alloc, names, &name)?;
+    let (rows, _) = find_rows(alloc, names, &name)?;
     Ok(blank_record(alloc, rows.columns)?)
 }
 

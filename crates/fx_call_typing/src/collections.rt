@@ -12,7 +12,7 @@ use crate::values::values;
 use fx_core::deeds::Deed;
 use fx_core::names::{Collection, Names};
 use fx_core::{CoreArgs, Rule};
-use fx_node_typing::given::perform;
+use fx_node_typing::given::{do_nothing, perform};
 use fx_node_typing::lists::cores_of;
 use fx_resolve::Part;
 use fx_resolve::targets::find_collection;
@@ -77,6 +77,8 @@ pub fn clear_of(
     };
     match &collection.ty {
         Ty::Tab(_) => Ok(perform(Deed::Clear(number), CoreArgs::new(alloc))),
+        // A collection of type Blank is a table without columns and rows.
+        Ty::Blank => Ok(do_nothing(alloc)),
         _ => Err(Wrong::Refused(Rule::WrongType)),
     }
 }

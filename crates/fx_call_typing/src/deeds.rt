@@ -53,7 +53,7 @@ fn notify_of(alloc: Global, values: Vec<Typed>) -> Result<Typed, Wrong>
     Ok(perform(Deed::Notify, alone(alloc, value.core)?))
 }
 
-// `Reset`: a control that takes input.
+// `Reset`: a control. Of one that takes no input nothing is reset.
 fn reset_of(alloc: Global, names: &Names, name: &Words, parts: Vec<Part>) -> Result<Typed, Wrong>
     requires { IsLawful names.now }
     ensures { IsAnswerOf typed (deeds.reset_of names.now name.now
@@ -63,7 +63,7 @@ fn reset_of(alloc: Global, names: &Names, name: &Words, parts: Vec<Part>) -> Res
         return Err(Wrong::Refused(Rule::NotAVariable));
     };
     if input_ty(control.kind).is_none() {
-        return Err(Wrong::Refused(Rule::NotAVariable));
+        return Ok(do_nothing(alloc));
     }
     Ok(perform(Deed::Reset(number), CoreArgs::new(alloc)))
 }

@@ -13,7 +13,7 @@ ghost use Rattle.fx_resolve.specs.PartView.{judged_part};
 ghost use Rattle.fx_call_typing.specs.Changes.{changing_view, removed_from};
 
 use crate::changing::{Changing, change_of};
-use crate::rows::find_rows;
+use crate::rows::{find_rows, settle};
 use crate::values::{pieces_behind, values};
 use fx_base::Memory;
 use fx_core::deeds::{Deed, Target};
@@ -98,8 +98,12 @@ fn remove_named(
         (deeds.remove_if names.now (parts.target alias name.now
         ∷ map judged_part conditions.entry.items)) result }
 {
-    let rows = find_rows(alloc, names, name)?;
-    remove_from(alloc, &rows, alias, conditions)
+    let (rows, is_blank) = find_rows(alloc, names, name)?;
+    settle(
+        alloc,
+        is_blank,
+        remove_from(alloc, &rows, alias, conditions),
+    )
 }
 
 // `RemoveIf` of what has a name.
@@ -194,8 +198,9 @@ fn update_named(
         ∷ map judged_part changes.entry.items)) result }
 {
     let changes = values(alloc, changes)?;
-    let rows = find_rows(alloc, names, name)?;
-    update_to(alloc, &rows, alias, condition, changes)
+    let (rows, is_blank) = find_rows(alloc, names, name)?;
+    let updated = update_to(alloc, &rows, alias, condition, changes);
+    settle(alloc, is_blank, updated)
 }
 
 // `UpdateIf` of what has a name.

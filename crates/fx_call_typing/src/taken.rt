@@ -1,6 +1,7 @@
 //! New names of columns that are taken.
 ghost use Rattle.std.specs.Prelude.{◌≡◌, IfOk, None, bytes_eq, if◌then◌else◌, map, option_map};
-ghost use Rattle.fx_types.specs.Types.{column_list};
+ghost use Rattle.std.specs.Prelude.{unwrap_or};
+ghost use Rattle.fx_types.specs.Types.{column_list, no_columns};
 ghost use Rattle.fx_typing.specs.Breaks as breaks;
 ghost use Rattle.fx_core.specs.ColumnLists as lists;
 ghost use Rattle.fx_resolve.specs.PartView.{judged_part};
@@ -12,6 +13,7 @@ use fx_resolve::Part;
 use fx_types::types::{Columns, Ty};
 use fx_types::words::Words;
 use fx_typing::Piece;
+use fx_typing::columns::{field_in, shared_column};
 use std::alloc::Global;
 
 // The name of a column.
@@ -161,6 +163,88 @@ fn taken_renamed_name<'p>(
     Ok(None)
 }
 
+// The columns of a part, if it is a table.
+fn columns_in<'p>(one: &'p Part) -> Option<&'p Columns>
+    ensures { unwrap_or (option_map (λ cs. column_list cs.now) result) no_columns
+        ≡ breaks.columns_in (judged_part one.now) }
+{
+    match one {
+        Part::Piece(Piece::Value(_, value)) => match &value.ty {
+            Ty::Tab(columns) => Some(columns),
+            _ => None,
+        },
+        _ => None,
+    }
+}
+
+// The name of a part, where a column has it.
+fn name_there<'p>(one: &'p Part, columns: &Columns) -> Option<&'p Words>
+    ensures { option_map (λ w. w.now) result ≡ breaks.taken_name
+        (breaks.part_name (judged_part one.now)) (column_list columns.now) }
+{
+    let name = name_of(one)?;
+    match field_in(name, columns) {
+        Some(_) => Some(name),
+        None => None,
+    }
+}
+
+// The name of the column of groups, which stands behind the keys, where a column has it.
+fn taken_last<'p>(all: &'p [Part], columns: &Columns) -> Option<&'p Words>
+    ensures { option_map (λ w. w.now) result ≡ breaks.taken_grouped (map judged_part all.now)
+        (column_list columns.now) }
+{
+    match all {
+        [] => None,
+        [.., group] => name_there(group, columns),
+    }
+}
+
+// The name of the column of groups, where a column of the table has it.
+fn taken_group_name<'p>(table: &Part, others: &'p [Part]) -> Option<&'p Words>
+    ensures { option_map (λ w. w.now) result ≡ breaks.taken_grouped (map judged_part others.now)
+        (breaks.columns_in (judged_part table.now)) }
+{
+    match columns_in(table) {
+        Some(columns) => taken_last(others, columns),
+        None => None,
+    }
+}
+
+// The first column of groups under a name that another column of their rows has the name of.
+fn shared_under<'p>(
+    alloc: Global,
+    one: &Part,
+    columns: &'p Columns,
+) -> Result<Option<&'p Words>, Memory>
+    ensures { IfOk result (λ o. option_map (λ w. w.now) o
+        ≡ breaks.shared_as (breaks.part_name (judged_part one.now)) (column_list columns.now)) }
+{
+    match name_of(one) {
+        Some(group) => shared_column(alloc, group, columns),
+        None => Ok(None),
+    }
+}
+
+// The first column of the groups of a table that another column of their rows has the name of.
+fn taken_shared_name<'p>(
+    alloc: Global,
+    table: &'p Part,
+    others: &[Part],
+) -> Result<Option<&'p Words>, Memory>
+    ensures { IfOk result (λ o. option_map (λ w. w.now) o
+        ≡ breaks.taken_ungrouped (map judged_part others.now)
+        (breaks.columns_in (judged_part table.now))) }
+{
+    let [group] = others else {
+        return Ok(None);
+    };
+    match columns_in(table) {
+        Some(columns) => shared_under(alloc, group, columns),
+        None => Ok(None),
+    }
+}
+
 // The first new name of a column that is taken, in a call with this answer.
 fn taken_name_by_answer<'p>(
     alloc: Global,
@@ -176,6 +260,8 @@ fn taken_name_by_answer<'p>(
     match answer {
         Answer::Added => taken_added_name(others, names_in(alloc, first)?),
         Answer::Renamed => taken_renamed_name(alloc, others, names_in(alloc, first)?),
+        Answer::Grouped => Ok(taken_group_name(first, others)),
+        Answer::Ungrouped => taken_shared_name(alloc, first, others),
         _ => Ok(None),
     }
 }

@@ -59,3 +59,14 @@ with_new x t cs = if_free (field_in x cs) (put_column x t cs)
 abbrev pub with_renamed : List ℕ → List ℕ → ColumnList → Result ColumnList ℕ
 with_renamed x y cs = and_then (if_there (field_in x cs))
     (λ t. if_free (field_in y cs) (put_column y t (columns_without x cs)))
+
+-- columns beside others, in whose place they stand where the names are the same
+abbrev pub joined_columns : ColumnList → ColumnList → ColumnList
+joined_columns no_columns cs = cs
+joined_columns (column n t ds) cs = joined_columns ds (put_column n t cs)
+
+-- names without the last, which stands apart behind them
+abbrev pub before_last : {A : Type 0} → List A → List A
+before_last [] = []
+before_last (x ∷ []) = []
+before_last (x ∷ y ∷ xs) = x ∷ before_last (y ∷ xs)

@@ -9,6 +9,8 @@ use Rattle.fx_types.specs.declared.controls.Control.TheVariants as control
 use Rattle.fx_core.specs.declared.names.ControlName.{ControlName}
 use Rattle.fx_core.specs.declared.names.Property.{Property}
 use Rattle.fx_core.specs.declared.names.FormulaName.{FormulaName}
+use Rattle.fx_core.specs.declared.names.FunctionName.{FunctionName}
+use Rattle.fx_core.specs.declared.names.Parameter.{Parameter}
 use Rattle.fx_core.specs.declared.names.Variable.{Variable}
 use Rattle.fx_core.specs.declared.names.Names.{Names}
 use Rattle.fx_core.specs.declared.schema.Column.{Column}
@@ -71,19 +73,26 @@ Has p None = ⊥
 abbrev pub IsLawfulProperty : Names → Property → Type 0
 IsLawfulProperty n p = Has p.name (slice_get n.controls p.control)
 
+-- a function of the app's own takes and answers values of types that a column may have
+abbrev pub IsLawfulFunction : FunctionName → Type 0
+IsLawfulFunction f = All (λ (p : Parameter). IsColumnType p.ty) f.params × IsColumnType f.result
+
 abbrev pub IsLawfulScreen : Names → Option ℕ → Type 0
 IsLawfulScreen n (Some s) = s < length n.screens
 IsLawfulScreen n None = Unit {0}
 
 -- the schema is lawful, there are fewer things than numbers, each number of a screen or a control
--- is a place, each gallery is one, each property is one of its control's kind, and no cell is
--- numbered twice
+-- is a place, each gallery is one, each property is one of its control's kind, no cell is numbered
+-- twice, and no two functions have one name
 pub record IsLawful (n : Names) : Type 0 where
   pub schema : IsLawfulSchema n.schema
   pub screens : length n.screens < 2 ^ 32
   pub controls : (length n.controls < 2 ^ 32) × All (IsLawfulControl n) n.controls
   pub properties : (length n.properties < 2 ^ 32) × All (IsLawfulProperty n) n.properties
   pub formulas : length n.formulas < 2 ^ 32
+  pub functions : (length n.functions < 2 ^ 32)
+      × AreDistinct (map (λ (f : FunctionName). f.name) n.functions)
+      × All IsLawfulFunction n.functions
   pub variables : (length n.variables < 2 ^ 32)
       × All (λ (v : Variable). IsLawfulScreen n v.screen) n.variables
   pub collections : length n.collections < 2 ^ 32

@@ -171,6 +171,7 @@ row_of fun.Month = one Date Number
 row_of fun.Year = one Date Number
 row_of fun.Weekday = one Date Number
 row_of fun.DateValue = one Text Date
+row_of fun.Table = placed 1 1 takes.Any takes.Any takes.Any takes.Any answer.Same
 row_of fun.Filter = over 2 255 (takes.Formula Boolean) (takes.Formula Boolean) answer.Same
 row_of fun.LookUp = over 2 3 (takes.Formula Boolean) takes.AnyFormula answer.Found
 row_of (fun.Sort o) = over 2 2 takes.ScalarFormula takes.ScalarFormula answer.Same
@@ -193,6 +194,8 @@ row_of fun.DropColumns = over 2 255 takes.Column takes.Column answer.Dropped
 row_of fun.ShowColumns = over 2 255 takes.Column takes.Column answer.Shown
 row_of fun.RenameColumns = paired takes.Table takes.Column takes.NewColumn takes.Column
     answer.Renamed
+row_of fun.GroupBy = over 3 255 takes.Column takes.Column answer.Grouped
+row_of fun.Ungroup = over 2 2 takes.Column takes.Column answer.Ungrouped
 row_of fun.Distinct = over 2 2 takes.ScalarFormula takes.ScalarFormula answer.Values
 row_of fun.ForAll = over 2 2 takes.RowFormula takes.RowFormula answer.Each
 row_of fun.Concat = over 2 3 (takes.Formula Text) (takes.Scalar Text) (answer.Scalar Text)

@@ -21,6 +21,7 @@ rule_number rule.LimitPassed = 13
 rule_number rule.BadShape = 14
 rule_number rule.NotAVariable = 15
 rule_number rule.NotBuilt = 16
+rule_number rule.Recursion = 17
 
 -- the rule's name
 abbrev pub name_of : Rule → List ℕ
@@ -40,6 +41,7 @@ name_of rule.LimitPassed = codes "LimitPassed"
 name_of rule.BadShape = codes "BadShape"
 name_of rule.NotAVariable = codes "NotAVariable"
 name_of rule.NotBuilt = codes "NotBuilt"
+name_of rule.Recursion = codes "Recursion"
 
 -- the rules that the definition of typing tells, as their numbers
 abbrev pub unknown_name : ℕ

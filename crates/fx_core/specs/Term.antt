@@ -17,6 +17,7 @@ pub data Top : Type 0 where
   dot : List ℕ → Top
   call : Fun → Top
   over : Fun → Top
+  user : ℕ → Top
   form : Form → Top
   within : Top
   rec : List (List ℕ) → Top

@@ -16,19 +16,19 @@ use Rattle.fx_core.specs.contracts.functions.Form.{the_row as form_row}
 use Rattle.fx_core.specs.contracts.functions.Fun.{the_row as fun_row}
 use Rattle.fx_core.specs.contracts.sources.Source.{the_row as source_row}
 use Rattle.fx_core.specs.Term.{Term, Terms, Top, of, nil, cons, const, read, row, item, caught, dot}
-use Rattle.fx_core.specs.Term.{call, over, form, within, rec, list, coerce, chain, act}
+use Rattle.fx_core.specs.Term.{call, over, user, form, within, rec, list, coerce, chain, act}
 
--- what a head holds: one of eleven kinds, or nothing for the four heads that hold nothing
+-- what a head holds: one of twelve kinds, or nothing for the four heads that hold nothing
 abbrev Held : Type 0
 Held = Data ⊎ (Source ⊎ (ℕ ⊎ (List ℕ ⊎ (Fun ⊎ (Fun
-    ⊎ (Form ⊎ (List (List ℕ) ⊎ (Shape ⊎ (Shape ⊎ (Deed ⊎ ℕ))))))))))
+    ⊎ (Form ⊎ (List (List ℕ) ⊎ (Shape ⊎ (Shape ⊎ (Deed ⊎ (ℕ ⊎ ℕ)))))))))))
 
 abbrev held_code : Coded Held
 held_code =
     coded⊎ data_code (coded⊎ source_row.coded
     (coded⊎ coded_ℕ (coded⊎ (coded_list coded_ℕ) (coded⊎ fun_row.coded (coded⊎ fun_row.coded
     (coded⊎ form_row.coded (coded⊎ (coded_list (coded_list coded_ℕ))
-    (coded⊎ shape_code (coded⊎ shape_code (coded⊎ deed_row.coded coded_ℕ))))))))))
+    (coded⊎ shape_code (coded⊎ shape_code (coded⊎ deed_row.coded (coded⊎ coded_ℕ coded_ℕ)))))))))))
 
 abbrev held : Top → Held
 held (const d) = inl d
@@ -42,10 +42,11 @@ held (rec xs) = inr (inr (inr (inr (inr (inr (inr (inl xs)))))))
 held (list t) = inr (inr (inr (inr (inr (inr (inr (inr (inl t))))))))
 held (coerce t) = inr (inr (inr (inr (inr (inr (inr (inr (inr (inl t)))))))))
 held (act d) = inr (inr (inr (inr (inr (inr (inr (inr (inr (inr (inl d))))))))))
-held item = inr (inr (inr (inr (inr (inr (inr (inr (inr (inr (inr 0))))))))))
-held caught = inr (inr (inr (inr (inr (inr (inr (inr (inr (inr (inr 1))))))))))
-held within = inr (inr (inr (inr (inr (inr (inr (inr (inr (inr (inr 2))))))))))
-held chain = inr (inr (inr (inr (inr (inr (inr (inr (inr (inr (inr 3))))))))))
+held (user f) = inr (inr (inr (inr (inr (inr (inr (inr (inr (inr (inr (inl f)))))))))))
+held item = inr (inr (inr (inr (inr (inr (inr (inr (inr (inr (inr (inr 0)))))))))))
+held caught = inr (inr (inr (inr (inr (inr (inr (inr (inr (inr (inr (inr 1)))))))))))
+held within = inr (inr (inr (inr (inr (inr (inr (inr (inr (inr (inr (inr 2)))))))))))
+held chain = inr (inr (inr (inr (inr (inr (inr (inr (inr (inr (inr (inr 3)))))))))))
 
 abbrev plain : ℕ → Top
 plain zero = item
@@ -65,7 +66,8 @@ holds (inr (inr (inr (inr (inr (inr (inr (inl xs)))))))) = rec xs
 holds (inr (inr (inr (inr (inr (inr (inr (inr (inl t))))))))) = list t
 holds (inr (inr (inr (inr (inr (inr (inr (inr (inr (inl t)))))))))) = coerce t
 holds (inr (inr (inr (inr (inr (inr (inr (inr (inr (inr (inl d))))))))))) = act d
-holds (inr (inr (inr (inr (inr (inr (inr (inr (inr (inr (inr n))))))))))) = plain n
+holds (inr (inr (inr (inr (inr (inr (inr (inr (inr (inr (inr (inl f)))))))))))) = user f
+holds (inr (inr (inr (inr (inr (inr (inr (inr (inr (inr (inr (inr n)))))))))))) = plain n
 
 pub held_back : (h : Top) → holds (held h) ≡ h
 held_back (const d) = refl
@@ -74,6 +76,7 @@ held_back (row k) = refl
 held_back (dot x) = refl
 held_back (call f) = refl
 held_back (over f) = refl
+held_back (user f) = refl
 held_back (form f) = refl
 held_back (rec xs) = refl
 held_back (list t) = refl

@@ -18,6 +18,7 @@ core_falls n.Caught = omega arith
 core_falls (n.Dot a x) = omega arith
 core_falls (n.Call f ps) = omega arith
 core_falls (n.Over f a ps) = omega arith
+core_falls (n.User f ps) = omega arith
 core_falls (n.With a b) = omega arith
 core_falls (n.Rec fs) = omega arith
 core_falls (n.List t ps) = omega arith

@@ -17,6 +17,7 @@ core_branch n.Caught = of top.caught nil
 core_branch (n.Dot a x) = of (top.dot x) (cons a.value nil)
 core_branch (n.Call f ps) = of (top.call f) (all ps)
 core_branch (n.Over f a ps) = of (top.over f) (cons a.value (all ps))
+core_branch (n.User f ps) = of (top.user f) (all ps)
 core_branch (n.With a b) = of top.within (cons a.value (cons b.value nil))
 core_branch (n.Rec fs) = of (top.rec (term_field_names fs)) (field_terms fs)
 core_branch (n.List t ps) = of (top.list (shape t)) (all ps)

@@ -119,6 +119,8 @@ pub enum Fun {
     Year,
     Weekday,
     DateValue,
+    /// `Table(..)`, of the table that its rows make
+    Table,
     Filter,
     LookUp,
     Sort(SortOrder),
@@ -141,6 +143,8 @@ pub enum Fun {
     DropColumns,
     ShowColumns,
     RenameColumns,
+    GroupBy,
+    Ungroup,
     Distinct,
     ForAll,
     Concat,

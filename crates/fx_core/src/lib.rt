@@ -32,8 +32,8 @@ pub use functions::{Acting, Form, Fun};
 pub use fx_types::formats::{DateFormat, NumberFormat, TimeUnit};
 pub use literals::{Enumeration, SortOrder};
 pub use names::{
-    Collection, CollectionList, ControlList, ControlName, FormulaName, Names, Property,
-    PropertyList, ScreenList, Variable, VariableList,
+    Collection, CollectionList, ControlList, ControlName, FormulaName, FunctionList, FunctionName,
+    Names, Parameter, ParameterList, Property, PropertyList, ScreenList, Variable, VariableList,
 };
 pub use rows::{Answer, Ending, Row, Scalar, Takes};
 pub use rule::Rule;

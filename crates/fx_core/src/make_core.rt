@@ -87,6 +87,15 @@ pub fn call_over(alloc: Global, fun: Fun, table: Core, parts: CoreArgs) -> Resul
     })
 }
 
+/// A call of a function of the app's own, by its place among these.
+pub fn user(function: u32, parts: CoreArgs) -> Core
+    ensures { result ≡ of (top.user function) (all parts) }
+{
+    Core {
+        node: CoreNode::User(function, parts),
+    }
+}
+
 /// A formula in the scope of a record.
 pub fn within(alloc: Global, scope: Core, formula: Core) -> Result<Core, Memory>
     ensures { IfOk result (λ c. c ≡ of top.within (cons scope (cons formula nil))) }

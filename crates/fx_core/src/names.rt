@@ -56,6 +56,26 @@ pub struct Collection {
     pub ty: Ty,
 }
 
+/// A parameter of a function of the app's own.
+#[derive(Drop)]
+pub struct Parameter {
+    pub name: Words,
+    /// A number, text, Boolean or date.
+    pub ty: Ty,
+}
+
+/// The parameters of a function by their positions.
+pub type ParameterList = InOrder<Parameter>;
+
+/// A function of the app's own.
+#[derive(Drop)]
+pub struct FunctionName {
+    pub name: Words,
+    pub params: ParameterList,
+    /// A number, text, Boolean or date.
+    pub result: Ty,
+}
+
 /// The names of screens.
 pub type ScreenList = InOrder<Words>;
 
@@ -71,6 +91,9 @@ pub type VariableList = InOrder<Variable>;
 /// Collections in the order of their first assignment.
 pub type CollectionList = InOrder<Collection>;
 
+/// Functions of the app's own in the order of the text.
+pub type FunctionList = InOrder<FunctionName>;
+
 /// All that the formulas of an app may name.
 #[derive(Drop)]
 pub struct Names {
@@ -81,6 +104,7 @@ pub struct Names {
     pub controls: ControlList,
     pub properties: PropertyList,
     pub formulas: FormulaList,
+    pub functions: FunctionList,
     pub variables: VariableList,
     pub collections: CollectionList,
 }

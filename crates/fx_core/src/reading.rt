@@ -112,6 +112,7 @@ impl Core {
             }
             CoreNode::Rec(fields) => fields.gather(named),
             CoreNode::Call(_, parts)
+            | CoreNode::User(_, parts)
             | CoreNode::List(_, parts)
             | CoreNode::All(parts)
             | CoreNode::Any(parts)

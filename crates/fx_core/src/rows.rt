@@ -47,7 +47,7 @@ pub enum Takes {
     Compared,
     /// A value that `=` compares with the value at the first place.
     Match,
-    /// The name of a column of the table.
+    /// The name of a column of the table, or a new one behind such names.
     Column,
     /// The name of a new column.
     NewColumn,
@@ -85,6 +85,11 @@ pub enum Answer {
     Shown,
     /// The first argument with columns under new names.
     Renamed,
+    /// A table of the columns that are named, and under the last name, which is new, of tables of
+    /// the others.
+    Grouped,
+    /// The first argument with the columns of the tables in a column in the place of that one.
+    Ungrouped,
     /// A table whose column `Value` has the type of the second argument.
     Values,
     /// A table of the second argument's records, or of its scalars as `Value`.
@@ -307,6 +312,7 @@ pub fn row_of(fun: Fun) -> Row
         Fun::Date => scalars(3, 3, (Number, Number, Number, Number), Date),
         Fun::Day | Fun::Month | Fun::Year | Fun::Weekday => one(Date, Number),
         Fun::DateValue => one(Text, Date),
+        Fun::Table => each(1, 1, Takes::Any, Answer::Same),
         Fun::Filter => over(2, 255, condition, condition, Answer::Same),
         Fun::LookUp => over(2, 3, condition, Takes::AnyFormula, Answer::Found),
         Fun::Sort(_) => over(2, 2, key, key, Answer::Same),
@@ -335,6 +341,8 @@ pub fn row_of(fun: Fun) -> Row
             Takes::Column,
             Answer::Renamed,
         ),
+        Fun::GroupBy => over(3, 255, Takes::Column, Takes::Column, Answer::Grouped),
+        Fun::Ungroup => over(2, 2, Takes::Column, Takes::Column, Answer::Ungrouped),
         Fun::Distinct => over(2, 2, key, key, Answer::Values),
         Fun::ForAll => over(2, 2, Takes::RowFormula, Takes::RowFormula, Answer::Each),
         Fun::Concat => over(

@@ -30,10 +30,12 @@ pub enum Rule {
     NotAVariable,
     /// A form that isn't built yet.
     NotBuilt,
+    /// Functions that call each other or themselves in a circle.
+    Recursion,
 }
 
 impl Rule {
-    /// The rule's number, 1 to 16.
+    /// The rule's number, 1 to 17.
     pub fn number(self) -> u8
         ensures { result ≡ rule_number self }
     {
@@ -54,6 +56,7 @@ impl Rule {
             Rule::BadShape => 14,
             Rule::NotAVariable => 15,
             Rule::NotBuilt => 16,
+            Rule::Recursion => 17,
         }
     }
 
@@ -78,6 +81,7 @@ impl Rule {
             Rule::BadShape => "BadShape",
             Rule::NotAVariable => "NotAVariable",
             Rule::NotBuilt => "NotBuilt",
+            Rule::Recursion => "Recursion",
         }
     }
 }

@@ -48,6 +48,8 @@ pub enum CoreNode {
     /// A function of a table and of the other parts, of which some are formulas in the scope of its
     /// rows.
     Over(Fun, Box<Core>, CoreArgs),
+    /// A call of a function of the app's own, by its place among these, of the values of its parts.
+    User(u32, CoreArgs),
     /// A formula in the scope of a record.
     With(Box<Core>, Box<Core>),
     /// A record of these fields, by rising names.
@@ -274,6 +276,7 @@ impl Core {
             CoreNode::Over(fun, table, parts) => {
                 CoreNode::Over(*fun, copy_box(alloc, table)?, parts.copy(alloc)?)
             }
+            CoreNode::User(function, parts) => CoreNode::User(*function, parts.copy(alloc)?),
             CoreNode::With(record, formula) => {
                 CoreNode::With(copy_box(alloc, record)?, copy_box(alloc, formula)?)
             }

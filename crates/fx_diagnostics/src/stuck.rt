@@ -6,6 +6,7 @@ ghost use Rattle.fx_typing.specs.Details as told;
 ghost use Rattle.fx_core.specs.Lawful.{IsLawful};
 ghost use Rattle.fx_core.specs.Tree as tree;
 ghost use Rattle.fx_core.specs.ColumnLists as lists;
+ghost use Rattle.fx_core.specs.ColumnLists.{before_last};
 ghost use Rattle.fx_typing.specs.Local as local;
 ghost use Rattle.fx_typing.specs.TypedView.{piece_view};
 ghost use Rattle.fx_resolve.specs.PartView.{judged_part};
@@ -53,7 +54,7 @@ fn twice_in(alloc: Global, fields: &[(FieldName, Expr)]) -> Result<Words, Memory
     nothing(alloc)
 }
 
-// The first name that is no column's, of those that are left out or shown.
+// The first name that is no column's, of those that are left out, shown or taken out of.
 fn missing_column(alloc: Global, pieces: &[&Piece], columns: &Columns) -> Result<Words, Memory>
     ensures { IfOk result (λ w. w
         ≡ told.stuck_sought (map (λ p. piece_view p.now) pieces.now) (column_list columns.now)) }
@@ -67,6 +68,18 @@ fn missing_column(alloc: Global, pieces: &[&Piece], columns: &Columns) -> Result
         }
     }
     nothing(alloc)
+}
+
+// The first name that is no column's, of those before the last, which is a new one.
+fn missing_key(alloc: Global, pieces: &[&Piece], columns: &Columns) -> Result<Words, Memory>
+    ensures { IfOk result (λ w. w
+        ≡ told.stuck_sought (before_last (map (λ p. piece_view p.now) pieces.now))
+        (column_list columns.now)) }
+{
+    match pieces {
+        [keys @ .., _] => missing_column(alloc, keys, columns),
+        [] => nothing(alloc),
+    }
 }
 
 // The name at which columns can't be named anew.
@@ -108,6 +121,8 @@ fn stuck_behind(
     match answer {
         Answer::Dropped | Answer::Shown => missing_column(alloc, others, &columns),
         Answer::Renamed => stuck_rename(alloc, others, columns),
+        Answer::Grouped => missing_key(alloc, others, &columns),
+        Answer::Ungrouped => missing_column(alloc, others, &columns),
         _ => word(alloc, "Kind"),
     }
 }

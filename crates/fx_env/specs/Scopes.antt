@@ -1,6 +1,6 @@
 -- What a formula is evaluated in, and which typed trees are ready for it.
-use Rattle.std.specs.Prelude.{◌≡◌, ℕ, Bool, true, false, List, map, Option, Some, None, option_map}
-use Rattle.std.specs.Prelude.{IsSome}
+use Rattle.std.specs.Prelude.{◌≡◌, ℕ, Bool, true, false, List, [], map, Option, Some, None}
+use Rattle.std.specs.Prelude.{option_map, IsSome}
 use Rattle.fx_types.specs.declared.faults.Fault.{Fault}
 use Rattle.fx_types.specs.declared.values.Value.{Value}
 use Rattle.fx_types.specs.Types.{Shape}
@@ -54,12 +54,14 @@ around types told s = record {
   caught = s.caught;
 }
 
--- what a scope holds fits the context
+-- what a scope holds fits the context, in which no function of an app's own is left: what is
+-- evaluated has no calls of them
 pub record Suits (types : Source → Option Shape) (s : ScopeValues) (c : Context) : Type 0 where
   pub sources : c.sources ≡ types
   pub rows : AreFit s.rows c.rows
   pub item : IsItemFit s.item c.item
   pub caught : c.caught ≡ true → IsSome s.caught
+  pub functions : c.functions ≡ []
 
 -- the tree doesn't act, and has the type where it stands, by a typing in which the columns of all
 -- types rise

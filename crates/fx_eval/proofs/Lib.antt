@@ -4,6 +4,7 @@ pub mod ListRows
 pub mod Made
 pub mod Parts
 pub mod Places
+pub mod GroupNames
 pub mod ReadyCalls
 pub mod Turns
 pub mod Verdicts

@@ -1,5 +1,5 @@
 -- What is ready, and what is worth what, at a node, by its head and its parts as they are found.
-use Rattle.std.proofs.Common.{◌≡◌, ◌≢◌, ℕ, List, [], map, Option, true, refl, sym, subst}
+use Rattle.std.proofs.Common.{◌≡◌, ◌≢◌, ℕ, List, [], map, Option, Some, true, refl, sym, subst}
 use Rattle.std.specs.Prelude.{IsSome, slice_get}
 use Rattle.fx_types.specs.Rising.{AreNamesRising}
 use Rattle.fx_types.specs.Types.{Shape, blanks, numbers, texts, booleans, dates, records, tables}
@@ -24,7 +24,7 @@ use Rattle.fx_scalar.specs.Fitting.{FittingCanApply}
 use Rattle.fx_scalar.specs.ScalarFunctions.{CanApply, IsAnswer}
 use Rattle.fx_eval.proofs.ListRows.{can_list}
 use Rattle.fx_eval.specs.Lists.{CanList}
-use Rattle.fx_core.specs.Term.{Term, Terms, of, nil, cons, Top, all, term_field_names, field_terms, call, coerce, row}
+use Rattle.fx_core.specs.Term.{Term, Terms, of, nil, cons, Top, all, term_field_names, field_terms, call, coerce, row, user}
 use Rattle.fx_core.specs.Term as top
 use Rattle.fx_typing.specs.WellTyped.{AreAllOfShape, Context, IsRuled, NamesRise, parts_count, plain, standing_at}
 use Rattle.fx_value.specs.Coercion.{CanCoerce}
@@ -52,6 +52,17 @@ pub coerce_is : (types : Types) (s : ScopeValues) (to : Shape) (u t w : Term) (d
     ((k : Shape) → IsTypedHere types s t k → fits_in d k ≡ true) → CanCoerce d to
 coerce_is types s to u t w d e f r fits =
     can_coerce types s to u d (subst (CanEvaluate types s) (sym e) r) (subst (λ (z : Term). (k : Shape) → IsTypedHere types s z k → fits_in d k ≡ true) f fits)
+
+-- no function is found among none
+none_there : (f : ℕ) (x : List Shape × Shape) → slice_get [] f ≡ Some x → ⊥
+none_there f x e = cc
+
+-- where something is evaluated, no call of a function of an app's own is left
+pub no_user : (types : Types) (s : ScopeValues) (f : ℕ) (ts : Terms) (w : Term) → of (user f) ts ≡ w → CanEvaluate types s w → ⊥
+no_user types s f ts w e r =
+    let q = subst (CanEvaluate types s) (sym e) r in
+    let P : List (List Shape × Shape) → Type 0 = λ z. slice_get z f ≡ Some (q.1.typed.0, q.0) in
+    none_there f (q.1.typed.0, q.0) (subst P q.1.suits.functions q.1.typed.2)
 
 -- records
 names_rise : (types : Types) (s : ScopeValues) (ns : List (List ℕ)) (ts : Terms) → CanEvaluate types s (of (top.rec ns) ts) → NamesRise ns

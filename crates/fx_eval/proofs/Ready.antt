@@ -73,7 +73,7 @@ record_ready types s t f u r =
 
 pub suits_inside : (types : Types) (s : ScopeValues) (c : Context) (d : Data) (t : Shape) → Suits types s c → fits_in d t ≡ true →
     Suits types (inner s d) (record c { rows = c.rows ++ t ∷ [] })
-suits_inside types s c d t f g = record { sources = f.sources; rows = rows_more s.rows c.rows d t f.rows g; item = f.item; caught = f.caught }
+suits_inside types s c d t f g = record { sources = f.sources; rows = rows_more s.rows c.rows d t f.rows g; item = f.item; caught = f.caught; functions = f.functions }
 
 pub formula_ready : (types : Types) (s : ScopeValues) (t f : Term) → CanEvaluate types s (of within (cons t (cons f nil))) → (d : Data) →
     ((w : Shape) → IsTypedHere types s t w → fits_in d w ≡ true) → CanEvaluate types (inner s d) f

@@ -1,15 +1,19 @@
 -- What the parts of a well typed call give is what the function takes.
-use Rattle.std.proofs.Common.{◌≡◌, ◌≤◌, ℕ, ℤ, suc, ◌%◌, List, [], ◌∷◌, ◌++◌, length, map, Bool, true, false, Option, Some, None, Result, Ok, refl, ap, sym, subst, ◌∙◌, arith}
+use Rattle.std.proofs.Common.{◌≡◌, ◌≤◌, ℕ, ℤ, suc, ◌%◌, List, [], ◌∷◌, ◌++◌, length, map, Bool, true, false, Option, Some, None, Result, Ok, Err, refl, ap, sym, subst, ◌∙◌, is_some, arith}
 use Rattle.std.specs.Prelude.{if◌then◌else◌}
 use Rattle.std.specs.List.{All, find}
 use Rattle.std.proofs.lemmas.List.Elements.{All-nil, All-cons}
 use Rattle.fx_types.specs.declared.faults.Fault.{Fault}
-use Rattle.fx_types.specs.Types.{Shape, blanks, numbers, texts, booleans, dates, records, tables, ColumnList, column}
-use Rattle.fx_types.specs.Values.{Data, blank, number, text, boolean, date, rec, tab, fault, FieldList, RowList}
-use Rattle.fx_semantics.proofs.Columns.{SoMany, free_ok, label_ok, rises_without, with_column_fit, all_lack}
+use Rattle.fx_types.proofs.Utf8Order.{and_second, and_first}
+use Rattle.fx_types.specs.Lookup.{item_named}
+use Rattle.fx_types.specs.Types.{Shape, blanks, numbers, texts, booleans, dates, records, tables, ColumnList, no_columns, column}
+use Rattle.fx_types.specs.Values.{Data, blank, number, text, boolean, date, rec, tab, fault, FieldList, RowList, field_list}
+use Rattle.fx_semantics.proofs.Columns.{SoMany, free_ok, label_ok, lacks, ok_is, rises_without, there_ok, with_column_fit, all_lack}
+use Rattle.fx_semantics.proofs.Fields.{name_fits, rest_fits}
+use Rattle.fx_semantics.proofs.Groups.{value_fits, without_fits}
 use Rattle.fx_semantics.proofs.Over.{table_ok}
 use Rattle.fx_semantics.proofs.Parts.{Giving, stands, Suits, Holds, AllHold}
-use Rattle.fx_semantics.proofs.Tables.{AllFit, RowsFit, each_fits, fit_table, table_fits}
+use Rattle.fx_semantics.proofs.Tables.{AllFit, RowsFit, each_fits, fit_table, rows_in_fit, table_fits}
 use Rattle.fx_semantics.specs.Around.{Around, Meaning}
 use Rattle.fx_semantics.specs.Fresh.{meaning, meanings}
 use Rattle.fx_core.specs.Rows.{row_of, takes_count}
@@ -18,18 +22,22 @@ use Rattle.fx_core.specs.declared.functions.Fun.TheVariants as fun
 use Rattle.fx_core.specs.declared.rows.Takes.{Takes}
 use Rattle.fx_core.specs.SourceTypes.{put_column}
 use Rattle.fx_tables.proofs.FitColumns.{all_renamed_fit, rises_put}
+use Rattle.fx_tables.proofs.FitRows.{RowFits}
 use Rattle.fx_tables.specs.ColumnCalls.{CanAddColumns, CanRename, in_turn}
 use Rattle.fx_tables.specs.RowCalls.{AreKeysOrErrors}
 use Rattle.fx_value.specs.Order.{AreOfOneType, IsScalar}
-use Rattle.fx_eval.specs.Given.{ArgumentValues, once, each, AreGiven, PartGives, new_columns, pairs_in, values_in}
+use Rattle.fx_eval.specs.Given.{ArgumentValues, once, each, AreGiven, PartGives, new_columns, column_names_in, pairs_in, values_in}
 use Rattle.fx_eval.specs.TableCalls.{AreNewColumns, AreFor, AreFormulas, AreColumnNames, AreNamePairs, CanMake, IsOneOrNone, IsOneFormula, IsJoining, IsConditionAndFormula}
 use Rattle.fx_eval.proofs.Parts.{AreOf, are_of, each_many, is_of}
 use Rattle.fx_eval.proofs.Places.{ArePaired, at_least, at_most, formula_behind, inner_behind, name_at, paired_by, whole}
-use Rattle.fx_value.specs.Columns.{Row, field_renamed, rows_with_column}
+use Rattle.fx_value.specs.Columns.{Row, field_renamed, rows_with_column, fields_without as row_without}
+use Rattle.fx_tables.specs.TableRows.{rows_in}
 use Rattle.fx_tables.specs.Unions.{is_fault}
+use Rattle.fx_tables.specs.Groups.{CanGroup, CanUngroup, IsApart, last_name, value_of}
 use Rattle.fx_core.specs.Term.{Term, Terms, of, nil, cons, const, Top, over}
-use Rattle.fx_typing.specs.Columns.{added, dropped, label_of, names_there, columns_shown}
-use Rattle.fx_core.specs.ColumnLists.{and_then, field_in, if_there, with_new, with_renamed}
+use Rattle.fx_typing.specs.Columns.{added, are_keys, dropped, first_shared, grouped, grouped_by, is_key, label_of, last_label, may_be_key, names_there, out_of, columns_shown, ungrouped, with_group}
+use Rattle.fx_core.specs.Rules as rules
+use Rattle.fx_core.specs.ColumnLists.{and_then, before_last, field_in, if_free, if_there, joined_columns, with_new, with_renamed}
 use Rattle.fx_typing.specs.Columns as columns
 use Rattle.fx_core.specs.ColumnLists as lists
 use Rattle.fx_typing.specs.Ways.{is_scalar}
@@ -333,6 +341,142 @@ keys_ready g c rows item caught s cs trs rf n m ts us common (once d ∷ gs) k w
 keys_ready g c rows item caught s cs trs rf n m nil us common (each ds ∷ gs) k w q = absurd q
 keys_ready g c rows item caught s cs trs rf n m (cons t ts) [] common (each ds ∷ gs) k w q = absurd k
 
+-- ---- groups
+
+-- a name before other names
+names_behind : (x : List ℕ) (g : ArgumentValues) (gs : List ArgumentValues) → AreColumnNames (g ∷ gs) →
+    (before_last (x ∷ column_names_in (g ∷ gs)) ≡ x ∷ before_last (column_names_in (g ∷ gs))) × (last_name (x ∷ column_names_in (g ∷ gs)) ≡ last_name (column_names_in (g ∷ gs)))
+names_behind x (once (text n)) gs h = (refl, refl)
+names_behind x (once blank) gs h = absurd h
+names_behind x (once (number z)) gs h = absurd h
+names_behind x (once (boolean b)) gs h = absurd h
+names_behind x (once (date z)) gs h = absurd h
+names_behind x (once (rec fs)) gs h = absurd h
+names_behind x (once (tab rs)) gs h = absurd h
+names_behind x (once (fault j m)) gs h = absurd h
+names_behind x (each ds) gs h = absurd h
+
+-- the names of keys, and behind them the name of the groups
+group_names : (a : Around) (rows : List Row) (ts : Terms) (us : List Shape) (cs : ColumnList) (ns : List (List ℕ)) (x : List ℕ) (gs : List ArgumentValues) → SoMany ts us →
+    last_label (typed_pairs ts us) ≡ Some x → names_there (before_last (typed_pairs ts us)) cs ≡ Ok ns → AreOnce gs → AreOf (meanings ts) a rows gs →
+    AreColumnNames gs × ((before_last (column_names_in gs) ≡ ns) × (last_name (column_names_in gs) ≡ x))
+group_names a rows (cons t nil) (u ∷ []) cs ns x (once d ∷ []) m l e f k =
+    let P : Data → Type 0 = λ z. AreColumnNames (once z ∷ []) × ((before_last (column_names_in (once z ∷ [])) ≡ ns) × (last_name (column_names_in (once z ∷ [])) ≡ x)) in
+    subst P (sym (text_is t a x d l k.0)) (tt, (ok_is [] ns e, refl))
+group_names a rows (cons t (cons t' ts)) (u ∷ u' ∷ us) cs ns x (once d ∷ g ∷ gs) m l e f k =
+    let y = label_ok (label_of t) _ ns e in
+    let w = then_ok (if_there (field_in y.0 cs)) _ ns y.2 in
+    let z = then_ok (names_there (before_last (typed_pairs (cons t' ts) (u' ∷ us))) cs) _ ns w.2 in
+    let rest = group_names a rows (cons t' ts) (u' ∷ us) cs z.0 x (g ∷ gs) m l z.1 f k.1 in
+    let b = names_behind y.0 g gs rest.0 in
+    let P : Data → Type 0 = λ v. AreColumnNames (once v ∷ g ∷ gs) × ((before_last (column_names_in (once v ∷ g ∷ gs)) ≡ ns) × (last_name (column_names_in (once v ∷ g ∷ gs)) ≡ x)) in
+    subst P (sym (text_is t a y.0 d y.1 k.0)) (rest.0, (b.0 ∙ ap (λ q. y.0 ∷ q) rest.1.0 ∙ ok_is (y.0 ∷ z.0) ns z.2, b.1 ∙ rest.1.1))
+group_names a rows nil [] cs ns x gs m l e f k = absurd cc
+group_names a rows (cons t nil) (u ∷ []) cs ns x [] m l e f k = absurd k
+group_names a rows (cons t nil) (u ∷ []) cs ns x (once d ∷ g ∷ gs) m l e f k = absurd k.1
+group_names a rows (cons t nil) (u ∷ []) cs ns x (each ds ∷ gs) m l e f k = absurd f
+group_names a rows (cons t (cons t' ts)) (u ∷ u' ∷ us) cs ns x [] m l e f k = absurd k
+group_names a rows (cons t (cons t' ts)) (u ∷ u' ∷ us) cs ns x (once d ∷ []) m l e f k = absurd k.1
+group_names a rows (cons t (cons t' ts)) (u ∷ u' ∷ us) cs ns x (each ds ∷ gs) m l e f k = absurd f
+group_names a rows nil (u ∷ us) cs ns x gs m l e f k = absurd m
+group_names a rows (cons t ts) [] cs ns x gs m l e f k = absurd m
+group_names a rows (cons t nil) (u ∷ u' ∷ us) cs ns x gs m l e f k = absurd m
+group_names a rows (cons t (cons t' ts)) (u ∷ []) cs ns x gs m l e f k = absurd m
+
+values_fit : (n : List ℕ) (t : Shape) (cs : ColumnList) (trs : List Row) → RowsFit cs trs → field_in n cs ≡ Some t → AllFit t (map (value_of n) trs)
+values_fit n t cs [] h e = tt
+values_fit n t cs (r ∷ trs) h e = (value_fits n r cs t h.0 e, values_fit n t cs trs h.1 e)
+
+all_keys : (cs : ColumnList) (trs : List Row) → RowsFit cs trs → (xs : List (Term × Shape)) (ns : List (List ℕ)) → names_there xs cs ≡ Ok ns → are_keys xs cs ≡ true →
+    All (λ n. AreKeysOrErrors (map (value_of n) trs)) ns
+all_keys cs trs h [] ns e k =
+    let P : List ℕ → Type 0 = λ n. AreKeysOrErrors (map (value_of n) trs) in
+    subst (All P) (ok_is [] ns e) (All-nil P)
+all_keys cs trs h (x ∷ xs) ns e k =
+    let P : List ℕ → Type 0 = λ n. AreKeysOrErrors (map (value_of n) trs) in
+    let y = label_ok (label_of x.0) _ ns e in
+    let w = then_ok (if_there (field_in y.0 cs)) _ ns y.2 in
+    let z = then_ok (names_there xs cs) _ ns w.2 in
+    let found = there_ok (field_in y.0 cs) w.0 w.1 in
+    let K : Option (List ℕ) → Type 0 = λ o. is_key o cs ≡ true in
+    let M : Option Shape → Type 0 = λ o. may_be_key o ≡ true in
+    let scalar : is_scalar w.0 ≡ true = subst M found (subst K y.1 (and_first (is_key (label_of x.0) cs) (are_keys xs cs) k)) in
+    subst (All P) (ok_is (y.0 ∷ z.0) ns z.2)
+    (All-cons P y.0 z.0 (keys_fit w.0 scalar (map (value_of y.0) trs) (values_fit y.0 w.0 cs trs h found)) (all_keys cs trs h xs z.0 z.1 (and_second (is_key (label_of x.0) cs) (are_keys xs cs) k)))
+
+can_group : (a : Around) (given : List Row) (ts : Terms) (us : List Shape) (cs es : ColumnList) (trs : List Row) (gs : List ArgumentValues) → SoMany ts us → RowsFit cs trs → grouped (typed_pairs ts us) cs ≡ Ok es →
+    AreOnce gs → AreOf (meanings ts) a given gs → AreColumnNames gs × CanGroup (before_last (column_names_in gs)) (last_name (column_names_in gs)) trs
+can_group a given ts us cs es trs gs m h e f k =
+    let g = label_ok (last_label (typed_pairs ts us)) _ es e in
+    let y = then_ok (if_free (field_in g.0 cs) cs) (λ ds. grouped_by g.0 (before_last (typed_pairs ts us)) ds) es g.2 in
+    let z = free_ok (field_in g.0 cs) cs y.0 y.1 in
+    by_test (are_keys (before_last (typed_pairs ts us)) y.0) g.0 y.0 refl g.1 (subst (λ ds. field_in g.0 ds ≡ None) z.1 z.0) (subst (λ ds. RowsFit ds trs) z.1 h) y.2
+  where
+    by_test : (b : Bool) (g : List ℕ) (ds : ColumnList) → are_keys (before_last (typed_pairs ts us)) ds ≡ b → last_label (typed_pairs ts us) ≡ Some g → field_in g ds ≡ None → RowsFit ds trs →
+        (if b then and_then (names_there (before_last (typed_pairs ts us)) ds) (λ ms. Ok (with_group g ms ds)) else Err 6) ≡ Ok es →
+        AreColumnNames gs × CanGroup (before_last (column_names_in gs)) (last_name (column_names_in gs)) trs
+    by_test true g ds c l free fit q =
+        let n = then_ok (names_there (before_last (typed_pairs ts us)) ds) (λ ms. Ok (with_group g ms ds)) es q in
+        let s = group_names a given ts us ds n.0 g gs m l n.1 f k in
+        let can : CanGroup n.0 g trs = record { new = all_lack g trs ds fit free; keys = all_keys ds trs fit (before_last (typed_pairs ts us)) n.0 n.1 c } in
+        let P : List (List ℕ) → Type 0 = λ ms. CanGroup ms (last_name (column_names_in gs)) trs in
+        let Q : List ℕ → Type 0 = λ x. CanGroup n.0 x trs in
+        (s.0, subst P (sym s.1.0) (subst Q (sym s.1.1) can))
+    by_test false g ds c l free fit q = absurd cc
+
+-- ---- rows out of their groups
+
+-- a row lacks what columns that aren't among its own name
+apart : (s r : Row) (ds cs : ColumnList) → first_shared ds cs ≡ None → RowFits ds s → RowFits cs r → All (λ (x : List ℕ × Data). item_named x.0 r ≡ None) s
+apart [] r ds cs e h f = All-nil (λ (x : List ℕ × Data). item_named x.0 r ≡ None)
+apart (x ∷ s) r no_columns cs e h f = absurd cc
+apart (x ∷ s) r (column n t ds) cs e h f = by (λ q. apart s r ds cs q (rest_fits x.0 n x.1 t (field_list s) ds h) f) (field_in n cs) refl e
+  where
+    by : (first_shared ds cs ≡ None → All (λ (y : List ℕ × Data). item_named y.0 r ≡ None) s) → (o : Option Shape) → field_in n cs ≡ o → (if is_some o then Some n else first_shared ds cs) ≡ None →
+        All (λ (y : List ℕ × Data). item_named y.0 r ≡ None) (x ∷ s)
+    by more (Some w) i q = absurd cc
+    by more None i q =
+        let P : List ℕ → Type 0 = λ z. item_named z r ≡ None in
+        All-cons (λ (y : List ℕ × Data). item_named y.0 r ≡ None) x s (subst P (sym (name_fits x.0 n x.1 t (field_list s) ds h)) (lacks n r cs f i)) (more q)
+
+each_apart : (g : List ℕ) (r : Row) (ss : List Row) (ds cs : ColumnList) → first_shared ds cs ≡ None → RowsFit ds ss → RowFits cs (row_without g r) → All (IsApart (row_without g r)) ss
+each_apart g r [] ds cs e h f = All-nil (IsApart (row_without g r))
+each_apart g r (s ∷ ss) ds cs e h f = All-cons (IsApart (row_without g r)) s ss (apart s (row_without g r) ds cs e h.0 f) (each_apart g r ss ds cs e h.1 f)
+
+all_apart : (g : List ℕ) (ds cs : ColumnList) (trs : List Row) → Rises cs → field_in g cs ≡ Some (tables ds) → first_shared ds (lists.columns_without g cs) ≡ None → RowsFit cs trs → CanUngroup g trs
+all_apart g ds cs [] rising i e h = All-nil (λ r. All (IsApart (row_without g r)) (rows_in (value_of g r)))
+all_apart g ds cs (r ∷ trs) rising i e h =
+    let fit = value_fits g r cs (tables ds) h.0 i in
+    All-cons (λ z. All (IsApart (row_without g z)) (rows_in (value_of g z))) r trs
+    (each_apart g r (rows_in (value_of g r)) ds (lists.columns_without g cs) e (rows_in_fit (value_of g r) ds fit) (without_fits g cs r rising h.0))
+    (all_apart g ds cs trs rising i e h.1)
+
+can_ungroup : (a : Around) (given : List Row) (ts : Terms) (us : List Shape) (cs es : ColumnList) (trs : List Row) (gs : List ArgumentValues) → SoMany ts us → Rises cs → RowsFit cs trs →
+    ungrouped (typed_pairs ts us) cs ≡ Ok es → AreOnce gs → AreOf (meanings ts) a given gs → AreColumnNames gs × CanUngroup (last_name (column_names_in gs)) trs
+can_ungroup a given (cons t nil) (u ∷ []) cs es trs (once d ∷ []) m rising h e f k =
+    let g = label_ok (label_of t) _ es e in
+    let w = then_ok (if_there (field_in g.0 cs)) _ es g.2 in
+    let P : Data → Type 0 = λ z. AreColumnNames (once z ∷ []) × CanUngroup (last_name (column_names_in (once z ∷ []))) trs in
+    subst P (sym (text_is t a g.0 d g.1 k.0)) (tt, by_type g.0 w.0 (there_ok (field_in g.0 cs) w.0 w.1) w.2)
+  where
+    by_shared : (g : List ℕ) (ds : ColumnList) (o : Option (List ℕ)) → field_in g cs ≡ Some (tables ds) → first_shared ds (lists.columns_without g cs) ≡ o →
+        (if is_some o then Err rules.name_twice else Ok (joined_columns ds (lists.columns_without g cs))) ≡ Ok es → CanUngroup g trs
+    by_shared g ds (Some x) i j q = absurd cc
+    by_shared g ds None i j q = all_apart g ds cs trs rising i j h
+
+    by_type : (g : List ℕ) (s : Shape) → field_in g cs ≡ Some s → out_of s (lists.columns_without g cs) ≡ Ok es → CanUngroup g trs
+    by_type g (tables ds) i q = by_shared g ds (first_shared ds (lists.columns_without g cs)) i refl q
+    by_type g s i q = absurd cc
+can_ungroup a given (cons t nil) (u ∷ []) cs es trs [] m rising h e f k = absurd k
+can_ungroup a given (cons t nil) (u ∷ []) cs es trs (once d ∷ g ∷ gs) m rising h e f k = absurd k.1
+can_ungroup a given (cons t nil) (u ∷ []) cs es trs (each ds ∷ gs) m rising h e f k = absurd f
+can_ungroup a given nil [] cs es trs gs m rising h e f k = absurd cc
+can_ungroup a given nil (u ∷ us) cs es trs gs m rising h e f k = absurd m
+can_ungroup a given (cons t ts) [] cs es trs gs m rising h e f k = absurd m
+can_ungroup a given (cons t nil) (u ∷ u' ∷ us) cs es trs gs m rising h e f k = absurd m
+can_ungroup a given (cons t (cons t' ts)) (u ∷ []) cs es trs gs m rising h e f k = absurd m
+can_ungroup a given (cons t (cons t' ts)) (u ∷ u' ∷ us) cs es trs gs m rising h e f k = absurd cc
+
 -- ---- the table
 
 abbrev IsInner : Takes → Type 0
@@ -422,6 +566,16 @@ can_make g c rows item caught s cs rising trs rf fun.RenameColumns n m t0 ts us 
     let single = singles (over fun.RenameColumns) m (λ i. inner_behind IsOuter (row_of fun.RenameColumns) i refl refl refl) 0 (meanings ts) (stands g rows item caught) trs gs q in
     renamed_names (stands g rows item caught) trs ts us cs r.0 trs gs (hold_many g c (over fun.RenameColumns) n (tables cs ∷ []) ts us k) (paired_by us (omega (arith, odd))) rising r.1 rf single
     (are_of (over fun.RenameColumns) m 1 (meanings ts) (stands g rows item caught) trs gs q)
+can_make g c rows item caught s cs rising trs rf fun.GroupBy n m t0 ts us common t gs k l w e h q =
+    let r = table_ok (grouped (typed_pairs ts us) cs) t e in
+    let single = singles (over fun.GroupBy) m (λ i. inner_behind IsOuter (row_of fun.GroupBy) i refl refl refl) 0 (meanings ts) (stands g rows item caught) trs gs q in
+    can_group (stands g rows item caught) trs ts us cs r.0 trs gs (hold_many g c (over fun.GroupBy) n (tables cs ∷ []) ts us k) rf r.1 single
+    (are_of (over fun.GroupBy) m 1 (meanings ts) (stands g rows item caught) trs gs q)
+can_make g c rows item caught s cs rising trs rf fun.Ungroup n m t0 ts us common t gs k l w e h q =
+    let r = table_ok (ungrouped (typed_pairs ts us) cs) t e in
+    let single = singles (over fun.Ungroup) m (λ i. inner_behind IsOuter (row_of fun.Ungroup) i refl refl refl) 0 (meanings ts) (stands g rows item caught) trs gs q in
+    can_ungroup (stands g rows item caught) trs ts us cs r.0 trs gs (hold_many g c (over fun.Ungroup) n (tables cs ∷ []) ts us k) rising rf r.1 single
+    (are_of (over fun.Ungroup) m 1 (meanings ts) (stands g rows item caught) trs gs q)
 can_make g c rows item caught s cs rising trs rf fun.Distinct n m t0 ts us common t gs k l w e h q = (
   (one_ready fun.Distinct m (λ i. inner_behind IsInner (row_of fun.Distinct) i refl refl refl) ts us (stands g rows item caught) trs gs (hold_many g c (over fun.Distinct) n (tables cs ∷ []) ts us k)
       (at_least (row_of fun.Distinct) (suc (length us)) l) (at_most (row_of fun.Distinct) (suc (length us)) refl l) q).0,

@@ -129,7 +129,7 @@ fallback_part : (types : Types) (s : ScopeValues) (c : Context) (k : Takes) (don
 fallback_part types s c k done t ts u p f h q = λ j cs. (
   u,
   part_ready types (caught_in s j cs) (record c { caught = true }) t ts u
-      (record { sources = f.sources; rows = f.rows; item = f.item; caught = λ e. refl })
+      (record { sources = f.sources; rows = f.rows; item = f.item; caught = λ e. refl; functions = f.functions })
       (subst (λ (z : Takes). Lawfully (context_for (standing_of z) c done) t u) p h) q,
 )
 

@@ -13,6 +13,8 @@ use Rattle.fx_tables.specs.Ends.{emptiness_of, first_rows, last_of, last_rows}
 use Rattle.fx_tables.specs.RowCalls.{AreKeysOrErrors, IsCountIfOf, IsCountValue, IsSortOf}
 use Rattle.fx_tables.specs.RowCalls.{distinct_or, filtered, first_row_record, for_all_of, holds}
 use Rattle.fx_tables.specs.RowCalls.{looked_up, verdict_of}
+use Rattle.fx_core.specs.ColumnLists.{before_last}
+use Rattle.fx_tables.specs.Groups.{CanGroup, CanUngroup, grouped_by, last_name, ungrouped_by}
 use Rattle.fx_value.specs.Columns.{Row, fields_only}
 use Rattle.fx_tables.specs.Unions.{fault_or}
 use Rattle.fx_eval.specs.Given.{ArgumentValues, once, each, new_columns, count_argument}
@@ -64,6 +66,8 @@ IsMadeOf fun.AddColumns rows gs v = v ≡ table_of (with_columns (new_columns gs
 IsMadeOf fun.DropColumns rows gs v = v ≡ table_of (without_columns (column_names_in gs) rows)
 IsMadeOf fun.ShowColumns rows gs v = v ≡ table_of (map (fields_only (column_names_in gs)) rows)
 IsMadeOf fun.RenameColumns rows gs v = v ≡ table_of (renamed_columns (pairs_in gs) rows)
+IsMadeOf fun.GroupBy rows gs v = v ≡ grouped_by (column_names_in gs) rows
+IsMadeOf fun.Ungroup rows gs v = v ≡ ungrouped_by (column_names_in gs) rows
 IsMadeOf fun.Distinct rows gs v = v ≡ distinct_or (values_in gs)
 IsMadeOf fun.ForAll rows gs v = v ≡ for_all_of (values_in gs)
 IsMadeOf fun.Concat rows gs v = v ≡ concatenated_by (separator_in gs) (values_in gs)
@@ -141,6 +145,9 @@ CanMake fun.AddColumns rows gs = AreNewColumns gs × CanAddColumns (new_columns 
 CanMake fun.DropColumns rows gs = AreColumnNames gs
 CanMake fun.ShowColumns rows gs = AreColumnNames gs
 CanMake fun.RenameColumns rows gs = AreNamePairs gs × CanRename (pairs_in gs) rows
+CanMake fun.GroupBy rows gs = AreColumnNames gs
+    × CanGroup (before_last (column_names_in gs)) (last_name (column_names_in gs)) rows
+CanMake fun.Ungroup rows gs = AreColumnNames gs × CanUngroup (last_name (column_names_in gs)) rows
 CanMake fun.Distinct rows gs = IsOneFormula gs × AreKeysOrErrors (values_in gs)
 CanMake fun.ForAll rows gs = IsOneFormula gs
 CanMake fun.Concat rows gs = IsJoining gs

@@ -1,6 +1,8 @@
 //! What a function makes of a table.
 ghost use Rattle.std.specs.Prelude.{◌≡◌, IfOk, length, map};
 ghost use Rattle.fx_types.specs.ValueView.{view};
+ghost use Rattle.fx_core.specs.ColumnLists.{before_last};
+ghost use Rattle.fx_tables.specs.Groups.{CanGroup, CanUngroup, grouped_by, last_name, ungrouped_by};
 ghost use Rattle.fx_semantics.specs.Rows.{is_falling as is_falling_in};
 ghost use Rattle.fx_tables.specs.AggregateCalls.{concatenated_by};
 ghost use Rattle.fx_eval.specs.Given.{argument_values, separator_in, values_in};
@@ -14,6 +16,7 @@ use fx_core::functions::Fun;
 use fx_core::literals::SortOrder;
 use fx_tables::row_calls as calls;
 use fx_types::values::{Rows, Value};
+use fx_types::words::Words;
 use std::alloc::Global;
 
 /// What a function makes of the rows of a table, and of what its other parts came to.
@@ -45,10 +48,34 @@ pub fn over(alloc: Global, fun: Fun, rows: Rows, answers: Vec<Answers>) -> Resul
         Fun::RenameColumns => {
             calls::rename_columns(alloc, rows, renamings(alloc, answers)?.as_slice())
         }
+        Fun::GroupBy => group_by(alloc, rows, names(alloc, answers)?.as_slice()),
+        Fun::Ungroup => ungroup_by(alloc, rows, names(alloc, answers)?.as_slice()),
         Fun::Distinct => calls::distinct_values(alloc, only(answers)),
         Fun::ForAll => calls::for_all(alloc, only(answers)),
         Fun::Concat => concatenate(alloc, answers),
         _ => unreachable!(),
+    }
+}
+
+// The rows in groups: by keys, and behind these the name of the groups.
+fn group_by(alloc: Global, rows: Rows, names: &[Words]) -> Result<Value, Memory>
+    requires { CanGroup (before_last names.now) (last_name names.now) rows }
+    ensures { IfOk result (λ v. view v ≡ grouped_by names.now rows) }
+{
+    match names {
+        [keys @ .., group] => fx_group::group(alloc, rows, keys, group.as_str()),
+        [] => fx_group::group(alloc, rows, names, ""),
+    }
+}
+
+// The rows out of their groups, whose name comes last.
+fn ungroup_by(alloc: Global, rows: Rows, names: &[Words]) -> Result<Value, Memory>
+    requires { CanUngroup (last_name names.now) rows }
+    ensures { IfOk result (λ v. view v ≡ ungrouped_by names.now rows) }
+{
+    match names {
+        [.., group] => fx_group::ungroup(alloc, rows, group.as_str()),
+        [] => fx_group::ungroup(alloc, rows, ""),
     }
 }
 

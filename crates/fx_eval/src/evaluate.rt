@@ -308,6 +308,7 @@ fn node<E: Env, L: Ledger>(
             let values = part_values(alloc, env, scope, parts.as_slice(), steps)?;
             Ok(list(alloc, row, values)?)
         }
+        CoreNode::User(_, _) => unreachable!(),
         CoreNode::Chain(_) | CoreNode::Act(_, _) => unreachable!(),
     }
 }

@@ -69,6 +69,7 @@ names_one n a b h k e = λ i. record {
   signatures = (sym h.signatures ∙ k.signatures) i;
   schema = (sym h.schema ∙ k.schema) i;
   screens = (sym h.screens ∙ k.screens) i;
+  functions = (sym h.functions ∙ k.functions) i;
   controls = all_one SameControl (λ (c : ControlName). shape c.items) control_one n.controls a.controls b.controls h.controls k.controls (ap (λ (t : rounds.Types). t.items) e) i;
   properties = (sym h.properties ∙ k.properties) i;
   formulas = all_one SameFormula (λ (f : FormulaName). shape f.ty) formula_one n.formulas a.formulas b.formulas h.formulas k.formulas (ap (λ (t : rounds.Types). t.formulas) e) i;

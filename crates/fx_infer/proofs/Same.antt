@@ -5,10 +5,11 @@ use Rattle.fx_types.specs.TypeView.{shape}
 use Rattle.fx_types.specs.declared.types.Ty.{Ty}
 use Rattle.fx_typing.specs.Rounds.{AllSame, SameNames, SameVariable, SameFormula, SameCollection, SameControl}
 use Rattle.fx_core.specs.Formulas.{retyped}
-use Rattle.fx_core.specs.Lawful.{IsLawful, IsLawfulControl, IsLawfulProperty, IsLawfulScreen, IsLawfulGallery, IsGallery, Has, AreDistinct, IsLawfulSchema}
+use Rattle.fx_core.specs.Lawful.{IsLawful, IsLawfulControl, IsLawfulProperty, IsLawfulScreen, IsLawfulGallery, IsGallery, Has, AreDistinct, IsLawfulFunction, IsLawfulSchema}
 use Rattle.fx_core.specs.declared.names.Collection.{Collection}
 use Rattle.fx_core.specs.declared.names.ControlName.{ControlName}
 use Rattle.fx_core.specs.declared.names.FormulaName.{FormulaName}
+use Rattle.fx_core.specs.declared.names.FunctionName.{FunctionName}
 use Rattle.fx_core.specs.declared.names.Names.{Names}
 use Rattle.fx_core.specs.declared.names.Property.{Property}
 use Rattle.fx_core.specs.declared.names.Variable.{Variable}
@@ -76,6 +77,7 @@ names_through a b c h k = record {
   signatures = h.signatures ∙ k.signatures;
   schema = h.schema ∙ k.schema;
   screens = h.screens ∙ k.screens;
+  functions = h.functions ∙ k.functions;
   properties = h.properties ∙ k.properties;
   controls = same_through SameControl control_through a.controls b.controls c.controls h.controls k.controls;
   formulas = same_through SameFormula formula_through a.formulas b.formulas c.formulas h.formulas k.formulas;
@@ -120,6 +122,7 @@ lawful_same n m h l = record {
   );
   properties = subst (λ (ps : List Property). (length ps < 2 ^ 32) × All (IsLawfulProperty m) ps) h.properties (l.properties.0, all_lawful n m h n.properties l.properties.1);
   formulas = subst (λ (k : ℕ). k < 2 ^ 32) (same_length SameFormula n.formulas m.formulas h.formulas) l.formulas;
+  functions = subst (λ (fs : List FunctionName). (length fs < 2 ^ 32) × AreDistinct (map (λ (f : FunctionName). f.name) fs) × All IsLawfulFunction fs) h.functions l.functions;
   variables = (
     subst (λ (k : ℕ). k < 2 ^ 32) (same_length SameVariable n.variables m.variables h.variables) l.variables.0,
     same_all SameVariable (λ (v : Variable). IsLawfulScreen n v.screen) (λ (v : Variable). IsLawfulScreen m v.screen) (variable_lawful n m h) n.variables m.variables h.variables l.variables.1,

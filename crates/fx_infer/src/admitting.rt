@@ -32,10 +32,11 @@ use fx_core::functions::{Form, Fun};
 use fx_core::names::Names;
 use fx_core::{Rule, make_core};
 use fx_node_typing::arity::one;
+use fx_node_typing::limits::is_bounded;
 use fx_node_typing::lists::{cores_of, list_of};
 use fx_node_typing::node_rule::{make, make_form};
 use fx_node_typing::operators::function_of;
-use fx_node_typing::records::{are_distinct, record_of};
+use fx_node_typing::records::{are_distinct, record_of, record_type};
 use fx_resolve::dots::dot;
 use fx_resolve::{Grant, Meaning, Part, Place, Scopes, Stand, as_value, in_globals, meaning_of};
 use fx_types::types::Ty;
@@ -224,13 +225,18 @@ fn names_in(alloc: Global, fields: &[(FieldName, Expr)]) -> Result<Vec<Words>, M
     Ok(names)
 }
 
-// Variables of a screen with their values, where none stands twice.
-fn assign<'a>(names: Vec<Words>, values: Vec<Typed>) -> Result<Part<'a>, Wrong>
+// Variables of a screen with their values, which are a record too: none stands twice, and its type
+// keeps to the limits.
+fn assign<'a>(alloc: Global, names: Vec<Words>, values: Vec<Typed>) -> Result<Part<'a>, Wrong>
     ensures { IsAnswerOf judged_part (typing.assigned_of names.items (map typed values.items))
         result }
 {
     if !are_distinct(names.as_slice()) {
         return Err(Wrong::Refused(Rule::NameTwice));
+    }
+    let record = record_type(alloc, names.as_slice(), values.as_slice())?;
+    if !is_bounded(&record) {
+        return Err(Wrong::Refused(Rule::LimitPassed));
     }
     Ok(Part::Assigned(names, values))
 }
@@ -246,7 +252,7 @@ fn record_as<'a>(
         (map typed values.items)) result }
 {
     match allowed {
-        Grant::OnScreen(_) => assign(names, values),
+        Grant::OnScreen(_) => assign(alloc, names, values),
         Grant::Nothing
         | Grant::Acting
         | Grant::AnAlias

@@ -147,6 +147,7 @@ pub fn with_types(alloc: Global, names: Names, types: Types) -> Result<Names, Me
         screens: names.screens,
         controls: retype_all(alloc, names.controls, types.items)?,
         properties: names.properties,
+        functions: names.functions,
         formulas: names.formulas.retype(alloc, types.formulas)?,
         variables: retype_all(alloc, names.variables, types.variables)?,
         collections: retype_all(alloc, names.collections, types.collections)?,

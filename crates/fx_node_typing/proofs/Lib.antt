@@ -5,3 +5,4 @@ pub mod Exits
 pub mod Fields
 pub mod Kept
 pub mod Walks
+pub mod FieldTypes

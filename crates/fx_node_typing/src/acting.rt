@@ -22,6 +22,7 @@ pub fn acts(core: &Core) -> bool
         CoreNode::With(record, formula) => acts(record) || acts(formula),
         CoreNode::Rec(fields) => any_field_acts(fields),
         CoreNode::Call(_, parts)
+        | CoreNode::User(_, parts)
         | CoreNode::List(_, parts)
         | CoreNode::All(parts)
         | CoreNode::Any(parts)

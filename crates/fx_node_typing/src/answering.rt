@@ -11,7 +11,8 @@ use fx_core::Rule;
 use fx_core::rows::Answer;
 use fx_types::types::{Columns, Ty};
 use fx_typing::columns::{
-    add_columns, drop_columns, rename_columns, row_columns, show_columns, value_column,
+    add_columns, drop_columns, group_columns, rename_columns, row_columns, show_columns,
+    ungroup_columns, value_column,
 };
 use fx_typing::typed::Typed;
 use fx_typing::wrong::Wrong;
@@ -67,6 +68,14 @@ fn answer_type_behind(
         }
         Answer::Renamed => {
             let columns = rename_columns(alloc, rest, columns_of(alloc, &first.ty)?)?;
+            Ok(Ty::Tab(columns))
+        }
+        Answer::Grouped => {
+            let columns = group_columns(alloc, rest, columns_of(alloc, &first.ty)?)?;
+            Ok(Ty::Tab(columns))
+        }
+        Answer::Ungrouped => {
+            let columns = ungroup_columns(alloc, rest, columns_of(alloc, &first.ty)?)?;
             Ok(Ty::Tab(columns))
         }
         Answer::Values => match rest.first() {

@@ -8,9 +8,10 @@ ghost use Rattle.fx_typing.specs.Answers.{IsAnswerOf};
 ghost use Rattle.fx_typing.specs.TypedView.{typed};
 
 use crate::arity::two;
+use crate::given::alone;
 use crate::limits::check_limits;
 use fx_base::Memory;
-use fx_core::{Core, CoreArgs, Rule, make_core};
+use fx_core::{Core, CoreArgs, Fun, Rule, make_core};
 use fx_types::types::{Columns, Ty};
 use fx_typing::columns::row_columns;
 use fx_typing::typed::Typed;
@@ -130,14 +131,24 @@ pub fn list_of(alloc: Global, parts: Vec<Typed>) -> Result<Typed, Wrong>
     full_list(alloc, parts)
 }
 
-/// `Table`: a table of records, of which one of type Blank is one without columns. The rule is
-/// `WrongType`.
+// A list of rows in a call of `Table`.
+fn as_table_call(alloc: Global, table: Typed) -> Result<Typed, Memory>
+    ensures { IfOk result (λ t. typed t ≡ builds.as_table_call (typed table)) }
+{
+    let Typed { core, ty } = table;
+    let core = make_core::call(Fun::Table, alone(alloc, core)?);
+    Ok(Typed { core, ty })
+}
+
+/// `Table`: a table of records, of which one of type Blank is one without columns, in a call of its
+/// own. The rule is `WrongType`.
 pub fn table_of(alloc: Global, parts: Vec<Typed>) -> Result<Typed, Wrong>
     ensures { IsAnswerOf typed (builds.typed_table (map typed parts.items)) result }
 {
     let start = Some(Ty::Rec(Columns::new(alloc)));
     let row = join_types(alloc, start, parts.as_slice())?;
-    list_as(alloc, row, parts)
+    let table = list_as(alloc, row, parts)?;
+    Ok(as_table_call(alloc, table)?)
 }
 
 // A record, where one of type Blank is one without fields.

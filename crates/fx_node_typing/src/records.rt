@@ -1,6 +1,7 @@
 //! Records made of their fields.
 ghost use Rattle.std.specs.Prelude.{◌≡◌, IfOk, OnOk, length, map};
 ghost use Rattle.fx_types.specs.Rising.{AreNamesRising};
+ghost use Rattle.fx_types.specs.TypeView.{shape};
 ghost use Rattle.fx_typing.specs.Builds as builds;
 ghost use Rattle.fx_typing.specs.Columns as columns;
 ghost use Rattle.fx_core.specs.ColumnLists as lists;
@@ -13,6 +14,7 @@ use fx_base::Memory;
 use fx_core::{CoreFields, Rule, make_core};
 use fx_types::types::{Columns, Ty};
 use fx_types::words::Words;
+use fx_typing::columns::put_column;
 use fx_typing::typed::Typed;
 use fx_typing::wrong::Wrong;
 use std::alloc::Global;
@@ -106,6 +108,23 @@ fn record_by(alloc: Global, fields: Vec<(Words, Typed)>) -> Result<Typed, Memory
         core: make_core::record_of(parts),
         ty: Ty::Rec(Columns::from_rising(columns)),
     })
+}
+
+/// The type of the record of these parts under these names, of which each stands once.
+pub fn record_type(alloc: Global, names: &[Words], parts: &[Typed]) -> Result<Ty, Memory>
+    ensures { IfOk result (λ t. shape t ≡ (builds.record_by
+        (builds.put_fields names.now (map typed parts.now))).1) }
+{
+    let mut columns = Columns::new(alloc);
+    // From the last on: of two fields of one name the first would stay.
+    let mut place = names.len().min(parts.len());
+    while place > 0 {
+        place -= 1;
+        let name = names[place].copy(alloc)?;
+        let ty = parts[place].ty.copy(alloc)?;
+        columns = put_column(name, ty, columns)?;
+    }
+    Ok(Ty::Rec(columns))
 }
 
 /// A record of these parts under these names, or the rule `NameTwice` or `LimitPassed`.

@@ -173,7 +173,7 @@ module _ (R : Around → Around → Type 0)
   names_carry [] k a b m (n ∷ ns) h = absurd h
   names_carry (P ∷ Ps) k a b m [] h = absurd h
 
-  named_carries : (made : List (List ℕ) → List Row) (Ps : List Meaning) → AllCarry Ps → Carries (MakesByNames made Ps)
+  named_carries : (made : List (List ℕ) → Data) (Ps : List Meaning) → AllCarry Ps → Carries (MakesByNames made Ps)
   named_carries made Ps k a b v m h = (h.0, names_carry Ps k a b m h.0 h.1, h.2)
 
   new_carry : (rows : List Row) (Ps : List Meaning) → AllCarry Ps → (a b : Around) → R a b → (cs : List (List ℕ × List Data)) →
@@ -209,6 +209,8 @@ module _ (R : Around → Around → Type 0)
   made_carries fun.AddColumns rows Ps k a b v m h = (h.0, new_carry rows Ps k a b m h.0 h.1, h.2)
   made_carries fun.DropColumns rows Ps k a b v m h = named_carries _ Ps k a b v m h
   made_carries fun.ShowColumns rows Ps k a b v m h = named_carries _ Ps k a b v m h
+  made_carries fun.GroupBy rows Ps k a b v m h = named_carries _ Ps k a b v m h
+  made_carries fun.Ungroup rows Ps k a b v m h = named_carries _ Ps k a b v m h
   made_carries fun.RenameColumns rows Ps k a b v m h = (h.0, pairs_carry Ps k a b m h.0 h.1, h.2)
   made_carries fun.Distinct rows Ps k a b v m h = of_each rows Ps k a b m _ h
   made_carries fun.ForAll rows Ps k a b v m h = of_each rows Ps k a b m _ h
@@ -242,6 +244,7 @@ module _ (R : Around → Around → Type 0)
   node_carries (top.dot n) Ps l k a b v m h = of_one Ps k a b m _ h
   node_carries (top.call f) Ps l k a b v m h = called_carries f Ps k a b v m h
   node_carries (top.over f) Ps l k a b v m h = over_carries f Ps k a b v m h
+  node_carries (top.user f) Ps l k a b v m h = absurd h
   node_carries (top.form f) Ps l k a b v m h = formed_carries f Ps k a b v m h
   node_carries top.within Ps l k a b v m h = within_carries Ps k a b v m h
   node_carries (top.rec ns) Ps l k a b v m h = of_all Ps k a b m _ h

@@ -24,8 +24,8 @@ use Rattle.fx_core.specs.SourceTypes.{columns_of}
 use Rattle.fx_core.specs.Term.{Term, Terms, of, nil, cons, Top}
 use Rattle.fx_core.specs.Term as top
 use Rattle.fx_typing.specs.Acts.{acts, any_acts, is_acting}
-use Rattle.fx_typing.specs.Columns.{added, by_label, dropped, label_of, names_there, columns_renamed, columns_shown}
-use Rattle.fx_core.specs.ColumnLists.{and_then, field_in, if_there, columns_only, row_columns, value_column, with_new, with_renamed, without_all}
+use Rattle.fx_typing.specs.Columns.{added, are_keys, by_label, dropped, grouped, is_key, label_of, last_label, names_there, out_of, columns_renamed, columns_shown, ungrouped, with_group}
+use Rattle.fx_core.specs.ColumnLists.{and_then, before_last, field_in, if_free, if_there, columns_only, row_columns, value_column, with_new, with_renamed, columns_without, without_all}
 use Rattle.fx_typing.specs.WellTyped.{AreTyped, Context, IsByRow, IsRuled, PartScope, answered_type, as_table, bound, catching, context_for, head_of, inside, typed_pairs, parts_count, plain, row_type, standing_at, standing_of}
 use Rattle.fx_plan.proofs.Placing.{query_found}
 use Rattle.fx_plan.specs.Constants.{HasType, ReadsTables}
@@ -68,6 +68,46 @@ renamed_same (x ∷ xs) [] h cs = absurd h
 renamed_same (x ∷ []) (y ∷ g ∷ ys) h cs = absurd h.2
 renamed_same (x ∷ f ∷ xs) (y ∷ []) h cs = absurd h.2
 
+last_same : (xs ys : List (Term × Shape)) → SameLabels xs ys → last_label xs ≡ last_label ys
+last_same [] [] h = refl
+last_same (x ∷ []) (y ∷ []) h = h.0
+last_same (x ∷ f ∷ xs) (y ∷ g ∷ ys) h = last_same (f ∷ xs) (g ∷ ys) h.2
+last_same [] (y ∷ ys) h = absurd h
+last_same (x ∷ xs) [] h = absurd h
+last_same (x ∷ []) (y ∷ g ∷ ys) h = absurd h.2
+last_same (x ∷ f ∷ xs) (y ∷ []) h = absurd h.2
+
+before_same : (xs ys : List (Term × Shape)) → SameLabels xs ys → SameLabels (before_last xs) (before_last ys)
+before_same [] [] h = tt
+before_same (x ∷ []) (y ∷ []) h = tt
+before_same (x ∷ f ∷ xs) (y ∷ g ∷ ys) h = (h.0, h.1, before_same (f ∷ xs) (g ∷ ys) h.2)
+before_same [] (y ∷ ys) h = absurd h
+before_same (x ∷ xs) [] h = absurd h
+before_same (x ∷ []) (y ∷ g ∷ ys) h = absurd h.2
+before_same (x ∷ f ∷ xs) (y ∷ []) h = absurd h.2
+
+keys_same : (xs ys : List (Term × Shape)) → SameLabels xs ys → (cs : ColumnList) → are_keys xs cs ≡ are_keys ys cs
+keys_same [] [] h cs = refl
+keys_same (x ∷ xs) (y ∷ ys) h cs = λ i. is_key (h.0 i) cs && keys_same xs ys h.2 cs i
+keys_same [] (y ∷ ys) h cs = absurd h
+keys_same (x ∷ xs) [] h cs = absurd h
+
+grouped_same : (xs ys : List (Term × Shape)) → SameLabels xs ys → (cs : ColumnList) → grouped xs cs ≡ grouped ys cs
+grouped_same xs ys h cs =
+    let b = before_same xs ys h in
+    λ i. by_label (last_same xs ys h i) (λ g. and_then (if_free (field_in g cs) cs) (λ ds.
+    if keys_same (before_last xs) (before_last ys) b ds i then and_then (there_same (before_last xs) (before_last ys) b ds i) (λ ns. Ok (with_group g ns ds))
+    else Err rules.wrong_type))
+
+ungrouped_same : (xs ys : List (Term × Shape)) → SameLabels xs ys → (cs : ColumnList) → ungrouped xs cs ≡ ungrouped ys cs
+ungrouped_same [] [] h cs = refl
+ungrouped_same (x ∷ []) (y ∷ []) h cs = ap (λ o. by_label o (λ g. and_then (if_there (field_in g cs)) (λ t. out_of t (columns_without g cs)))) h.0
+ungrouped_same (x ∷ f ∷ xs) (y ∷ g ∷ ys) h cs = refl
+ungrouped_same [] (y ∷ ys) h cs = absurd h
+ungrouped_same (x ∷ xs) [] h cs = absurd h
+ungrouped_same (x ∷ []) (y ∷ g ∷ ys) h cs = absurd h.2
+ungrouped_same (x ∷ f ∷ xs) (y ∷ []) h cs = absurd h.2
+
 -- what is made of the columns of a table
 abbrev of_table : (ColumnList → Result ColumnList ℕ) → Shape → Result Shape ℕ
 of_table f (tables cs) = as_table (f cs)
@@ -96,6 +136,14 @@ renamed_told : (common : Shape) (x : Term × Shape) (xs : List (Term × Shape)) 
 renamed_told common (c, tables cs) xs = refl
 renamed_told common (c, t) xs = refl
 
+grouped_told : (common : Shape) (x : Term × Shape) (xs : List (Term × Shape)) → answered_type answer.Grouped common (x ∷ xs) ≡ of_table (grouped xs) x.1
+grouped_told common (c, tables cs) xs = refl
+grouped_told common (c, t) xs = refl
+
+ungrouped_told : (common : Shape) (x : Term × Shape) (xs : List (Term × Shape)) → answered_type answer.Ungrouped common (x ∷ xs) ≡ of_table (ungrouped xs) x.1
+ungrouped_told common (c, tables cs) xs = refl
+ungrouped_told common (c, t) xs = refl
+
 answered_same : (a : Answer) (common : Shape) (xs ys : List (Term × Shape)) → SameLabels xs ys → answered_type a common xs ≡ answered_type a common ys
 answered_same (answer.Scalar s) common xs ys h = refl
 answered_same answer.Common common xs ys h = refl
@@ -108,6 +156,8 @@ answered_same answer.Added common (x ∷ xs) (y ∷ ys) h = added_told common x 
 answered_same answer.Dropped common (x ∷ xs) (y ∷ ys) h = dropped_told common x xs ∙ by_table (dropped xs) (dropped ys) (dropped_same xs ys h.2) x.1 y.1 h.1 ∙ sym (dropped_told common y ys)
 answered_same answer.Shown common (x ∷ xs) (y ∷ ys) h = shown_told common x xs ∙ by_table (columns_shown xs) (columns_shown ys) (shown_same xs ys h.2) x.1 y.1 h.1 ∙ sym (shown_told common y ys)
 answered_same answer.Renamed common (x ∷ xs) (y ∷ ys) h = renamed_told common x xs ∙ by_table (columns_renamed xs) (columns_renamed ys) (renamed_same xs ys h.2) x.1 y.1 h.1 ∙ sym (renamed_told common y ys)
+answered_same answer.Grouped common (x ∷ xs) (y ∷ ys) h = grouped_told common x xs ∙ by_table (grouped xs) (grouped ys) (grouped_same xs ys h.2) x.1 y.1 h.1 ∙ sym (grouped_told common y ys)
+answered_same answer.Ungrouped common (x ∷ xs) (y ∷ ys) h = ungrouped_told common x xs ∙ by_table (ungrouped xs) (ungrouped ys) (ungrouped_same xs ys h.2) x.1 y.1 h.1 ∙ sym (ungrouped_told common y ys)
 answered_same answer.Values common (x ∷ []) (y ∷ []) h = refl
 answered_same answer.Values common (x ∷ p ∷ xs) (y ∷ q ∷ ys) h = ap (λ t. Ok (tables (value_column t))) h.2.1
 answered_same answer.Each common (x ∷ []) (y ∷ []) h = refl
@@ -244,6 +294,7 @@ module _ (ts : List TableShape) (n : ℕ) where
   ruled c (top.dot x) g cs ds us t s r = absurd r
   ruled c (top.call f) g cs ds us t s r = (r.0, by_row (row_of f) cs ds us t s r.1)
   ruled c (top.over f) g cs ds us t s r = (r.0, by_row (row_of f) cs ds us t s r.1)
+  ruled c (top.user f) g cs ds us t s r = r
   ruled c (top.form f) g cs ds us t s r = by_row (form_row f) cs ds us t s r
   ruled c top.within g cs ds (records ks ∷ u ∷ []) t s r = r
   ruled c top.within g cs ds us t s r = absurd r

@@ -85,6 +85,9 @@ module _ (ts : List TableShape) (n k : ℕ) where
   pub call_limited : (f : Fun) (cs xs : List Term) → xs ≡ each_limited ts n (depth_at Nothing k) 0 cs → of (top.call f) (all xs) ≡ with_limited_parts ts n k (of (top.call f) (all cs))
   call_limited f cs xs a = ap (λ z. of (top.call f) (all z)) a ∙ ap (of (top.call f)) (sym (parts_each ts n k (top.call f) (terms_count (all cs)) (depth_at Nothing k) (λ i. refl) 0 cs))
 
+  pub user_limited : (f : ℕ) (cs xs : List Term) → xs ≡ each_limited ts n (depth_at Nothing k) 0 cs → of (top.user f) (all xs) ≡ with_limited_parts ts n k (of (top.user f) (all cs))
+  user_limited f cs xs a = ap (λ z. of (top.user f) (all z)) a ∙ ap (of (top.user f)) (sym (parts_each ts n k (top.user f) (terms_count (all cs)) (depth_at Nothing k) (λ i. refl) 0 cs))
+
   pub list_limited : (u : Shape) (cs xs : List Term) → xs ≡ each_limited ts n (depth_at Nothing k) 0 cs → of (top.list u) (all xs) ≡ with_limited_parts ts n k (of (top.list u) (all cs))
   list_limited u cs xs a = ap (λ z. of (top.list u) (all z)) a ∙ ap (of (top.list u)) (sym (parts_each ts n k (top.list u) (terms_count (all cs)) (depth_at Nothing k) (λ i. refl) 0 cs))
 

@@ -437,6 +437,7 @@ pub fn is_constant(core: &Core, scope: u32) -> bool
         }
         CoreNode::Rec(fields) => are_constant_fields(fields.as_slice(), scope),
         CoreNode::Call(_, parts)
+        | CoreNode::User(_, parts)
         | CoreNode::List(_, parts)
         | CoreNode::All(parts)
         | CoreNode::Any(parts)

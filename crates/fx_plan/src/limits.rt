@@ -104,6 +104,9 @@ fn limit_parts(
         }
         CoreNode::Rec(fields) => limit_record(alloc, schema, limit, fields, depth),
         CoreNode::Act(deed, parts) => limit_act(alloc, schema, limit, deed, parts, depth),
+        CoreNode::User(function, parts) => {
+            limit_user(alloc, schema, limit, *function, parts, depth)
+        }
         CoreNode::Call(fun, parts) => limit_call(alloc, schema, limit, *fun, parts, depth),
         CoreNode::List(ty, parts) => limit_list(alloc, schema, limit, ty, parts, depth),
         CoreNode::Chain(parts) => limit_chain(alloc, schema, limit, parts, depth),
@@ -247,6 +250,24 @@ fn limit_call(
 {
     let items = limit_among(alloc, schema, limit, parts, depth)?;
     Ok(make_core::call(fun, items))
+}
+
+// A call of a function of the app's own.
+#[cycle(limit_tree)]
+fn limit_user(
+    alloc: Global,
+    schema: &Schema,
+    limit: u32,
+    function: u32,
+    parts: &CoreArgs,
+    depth: u32,
+) -> Result<Core, Memory>
+    requires { IsLawfulSchema schema.now }
+    ensures { IfOk result (λ c. c ≡ with_limited_parts schema.now.tables limit depth
+        (of (top.user function) (all parts.now))) }
+{
+    let items = limit_among(alloc, schema, limit, parts, depth)?;
+    Ok(make_core::user(function, items))
 }
 
 // A table of rows.

@@ -213,6 +213,7 @@ fn list_parts(
             list_fields(alloc, schema, fields.as_slice(), &place.within(None), sites)
         }
         CoreNode::List(_, parts)
+        | CoreNode::User(_, parts)
         | CoreNode::Chain(parts)
         | CoreNode::All(parts)
         | CoreNode::Any(parts) => {

@@ -80,6 +80,8 @@ fault_fits (answer.Scalar s) a (fault k cs) h = refl
 fault_fits (answer.Scalar s) a r h = absurd (cc)
 fault_fits answer.Common a (fault k cs) h = λ t all. refl
 fault_fits answer.Common a r h = absurd (cc)
+fault_fits answer.Same a (fault k cs) h = λ t f. refl
+fault_fits answer.Same a r h = absurd (cc)
 fault_fits q a r h = tt
 
 first_fault_is : (a : List Data) (d : Data) → first_fault a ≡ Some d → is_fault d ≡ true
@@ -158,6 +160,7 @@ result_fits (fun.DateDiff u) a r h e = of_date_fits (date_at a 0) _ numbers r (�
 result_fits fun.Find a r h e = position_fits e.0 r e.2
 result_fits fun.Value a r h e = read_fits (encode_utf8_all (text_at a 0)) r e
 result_fits fun.Text a r h e = rw e (fits_at a 0 texts (h 0))
+result_fits fun.Table a r h e = λ t f. rw e f
 result_fits (fun.FormatNumber f) a r h e = formatted_fits _ _ r e
 result_fits (fun.FormatDate f) a r h e = formatted_fits _ _ r e
 result_fits fun.Error a r h e = error_fits (argument_at a 0) r e

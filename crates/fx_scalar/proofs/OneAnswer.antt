@@ -68,6 +68,7 @@ result_one fun.DateValue a = answer_one date_answer _ (date_read_one (encode_utf
 result_one fun.Not a = equal_one _
 result_one fun.Abs a = equal_one _
 result_one fun.Text a = equal_one _
+result_one fun.Table a = equal_one _
 result_one fun.Blank a = equal_one _
 result_one fun.IsBlank a = equal_one _
 result_one fun.Coalesce a = equal_one _

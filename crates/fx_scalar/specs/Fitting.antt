@@ -23,10 +23,12 @@ abbrev pub FitPlaces : Fun → List Data → Type 0
 FitPlaces f a = (i : ℕ) → i < length a → fits_place (takes_at (row_of f) (length a) i)
     (argument_at a i) ≡ true
 
--- the answer fits its type; a common one is each type that all arguments fit
+-- the answer fits its type; a common one is each type that all arguments fit, and that of the first
+-- each that this fits
 abbrev pub FitsAnswer : Answer → List Data → Data → Type 0
 FitsAnswer (answer.Scalar s) a r = fits_in r (shape_of s) ≡ true
 FitsAnswer answer.Common a r = (t : Shape) → All (λ d. fits_in d t ≡ true) a → fits_in r t ≡ true
+FitsAnswer answer.Same a r = (t : Shape) → fits_in (argument_at a 0) t ≡ true → fits_in r t ≡ true
 FitsAnswer q a r = Unit {0}
 
 -- a function of values can be applied to arguments that fit its places

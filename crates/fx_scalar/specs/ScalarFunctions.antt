@@ -156,6 +156,7 @@ IsResult fun.StartsWith a = IsTruthAnswer (λ b. IsTrue b
 IsResult fun.EndsWith a = IsTruthAnswer (λ b. IsTrue b
     ↔ EndsWithoutCase (text_at a 0) (text_at a 1))
 IsResult fun.Text a = λ r. r ≡ argument_at a 0
+IsResult fun.Table a = λ r. r ≡ argument_at a 0
 IsResult (fun.FormatNumber f) a = λ r. r ≡ formatted (formatted_number f)
     (maybe_number (argument_at a 0))
 IsResult (fun.FormatDate f) a = λ r. r ≡ formatted (date_text_in f) (date_at a 0)

@@ -113,6 +113,7 @@ fn calculate(alloc: Global, fun: Fun, args: &[Value]) -> Result<Value, Memory>
         Fun::StartsWith => truths::starts_with(alloc, args),
         Fun::EndsWith => truths::ends_with(alloc, args),
         Fun::Text => texts::same(alloc, args),
+        Fun::Table => texts::same(alloc, args),
         Fun::FormatNumber(format) => texts::format_number(alloc, format, args),
         Fun::FormatDate(format) => dates::format_date(alloc, format, args),
         Fun::Blank => Ok(Value::Blank),
@@ -149,6 +150,8 @@ fn calculate(alloc: Global, fun: Fun, args: &[Value]) -> Result<Value, Memory>
         | Fun::DropColumns
         | Fun::ShowColumns
         | Fun::RenameColumns
+        | Fun::GroupBy
+        | Fun::Ungroup
         | Fun::Distinct
         | Fun::ForAll
         | Fun::Concat => unreachable!(),

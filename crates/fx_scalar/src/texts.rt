@@ -138,9 +138,10 @@ pub(crate) fn format_number(
     }
 }
 
-// The argument, which is a text or blank already.
+// The argument, which is a text, a table or blank already.
 pub(crate) fn same(alloc: Global, args: &[Value]) -> Result<Value, Memory>
-    ensures { IfOk result (λ v. IsResult fun.Text (views args.now) (view v)) }
+    ensures text { IfOk result (λ v. IsResult fun.Text (views args.now) (view v)) }
+    ensures table { IfOk result (λ v. IsResult fun.Table (views args.now) (view v)) }
 {
     match at(args, 0) {
         Some(arg) => arg.copy(alloc),

@@ -16,7 +16,7 @@ use Rattle.fx_scalar.proofs.AnswerFits.{answers_fit}
 use Rattle.fx_scalar.specs.Arguments.{argument_at}
 use Rattle.fx_scalar.specs.Fitting.{FitPlaces, FitsAnswer, fits_place}
 use Rattle.fx_scalar.specs.ScalarFunctions.{IsAnswer}
-use Rattle.fx_core.specs.Term.{Terms, call}
+use Rattle.fx_core.specs.Term.{Terms, nil, cons, call}
 use Rattle.fx_typing.specs.WellTyped.{Context, Stands, AllStand, AreAllOfShape, head_of, standing_at, answered_type, first_type, typed_pairs}
 use Rattle.fx_value.specs.Fits.{fits_in}
 use Rattle.fx_semantics.specs.Around.{Meaning}
@@ -47,6 +47,8 @@ call_quiet fun.AddColumns e n i = absurd cc
 call_quiet fun.DropColumns e n i = absurd cc
 call_quiet fun.ShowColumns e n i = absurd cc
 call_quiet fun.RenameColumns e n i = absurd cc
+call_quiet fun.GroupBy e n i = absurd cc
+call_quiet fun.Ungroup e n i = absurd cc
 call_quiet fun.Distinct e n i = absurd cc
 call_quiet fun.ForAll e n i = absurd cc
 call_quiet fun.Concat e n i = absurd cc
@@ -103,12 +105,23 @@ strict_fits g c rows item caught s f r Ps us first common t v a k w e h =
     let P : Answer → Type 0 = λ q. FitsAnswer q h.0 v in
     along (shape_of r) t v e (subst P a (answers_fit f h.0 v (fit_places f first common us h.0 w (values_fit g c Ps us k rows item caught s h.0 h.1)) h.2))
 
+-- `Table`: the value of its one argument
+first_value_fits : (ts : Terms) (us : List Shape) (ds : List Data) (common t : Shape) (v : Data) → answered_type answer.Same common (typed_pairs ts us) ≡ Ok t → AreFit ds us →
+    ((w : Shape) → fits_in (argument_at ds 0) w ≡ true → fits_in v w ≡ true) → fits_in v t ≡ true
+first_value_fits (cons x ts) (u ∷ us) (d ∷ ds) common t v e f k = along u t v e (k u f.0)
+first_value_fits (cons x ts) (u ∷ us) [] common t v e f k = absurd f
+first_value_fits nil us ds common t v e f k = absurd cc
+first_value_fits (cons x ts) [] ds common t v e f k = absurd cc
+
 pub call_fits : (g : Giving) (c : Context) (rows : List Data) (item : Option Data) (caught : Option Fault) → Suits g c rows item →
     (f : Fun) → head_of f ≡ call f → (ts : Terms) (Ps : List Meaning) (us : List Shape) (common t : Shape) → AllPlain g c Ps us →
     AllStand (row_of f) (length us) 0 (first_type us) common us → answered_type (row_of f).answer common (typed_pairs ts us) ≡ Ok t →
     (v : Data) → IsCalled f Ps (stands g rows item caught) v → fits_in v t ≡ true
 call_fits g c rows item caught s fun.Coalesce q ts Ps us common t k w e v h =
     along common t v e (coalesced_fits g c rows item caught s Ps us common k (choice_types (first_type us) common (length us) 0 us w) v h)
+call_fits g c rows item caught s fun.Table q ts Ps us common t k w e v h =
+    let f = values_fit g c Ps us k rows item caught s h.0 h.1 in
+    first_value_fits ts us h.0 common t v e f (answers_fit fun.Table h.0 v (fit_places fun.Table (first_type us) common us h.0 w f) h.2)
 call_fits g c rows item caught s fun.Filter q ts Ps us common t k w e v h = absurd cc
 call_fits g c rows item caught s fun.LookUp q ts Ps us common t k w e v h = absurd cc
 call_fits g c rows item caught s (fun.Sort o) q ts Ps us common t k w e v h = absurd cc
@@ -127,6 +140,8 @@ call_fits g c rows item caught s fun.AddColumns q ts Ps us common t k w e v h = 
 call_fits g c rows item caught s fun.DropColumns q ts Ps us common t k w e v h = absurd cc
 call_fits g c rows item caught s fun.ShowColumns q ts Ps us common t k w e v h = absurd cc
 call_fits g c rows item caught s fun.RenameColumns q ts Ps us common t k w e v h = absurd cc
+call_fits g c rows item caught s fun.GroupBy q ts Ps us common t k w e v h = absurd cc
+call_fits g c rows item caught s fun.Ungroup q ts Ps us common t k w e v h = absurd cc
 call_fits g c rows item caught s fun.Distinct q ts Ps us common t k w e v h = absurd cc
 call_fits g c rows item caught s fun.ForAll q ts Ps us common t k w e v h = absurd cc
 call_fits g c rows item caught s fun.Concat q ts Ps us common t k w e v h = absurd cc

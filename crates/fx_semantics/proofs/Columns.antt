@@ -36,7 +36,7 @@ use Rattle.fx_semantics.proofs.Tables.{RowsFit, AllFit, fit_table, table_fits}
 -- ---- one row
 
 -- a new field at its place
-with_fit : (n : List ℕ) (d : Data) (t : Shape) (r : Row) (cs : ColumnList) → fits_in d t ≡ true → RowFits cs r → field_in n cs ≡ None →
+pub with_fit : (n : List ℕ) (d : Data) (t : Shape) (r : Row) (cs : ColumnList) → fits_in d t ≡ true → RowFits cs r → field_in n cs ≡ None →
     RowFits (put_column n t cs) (with_field n d r)
 with_fit n d t [] no_columns f h e = all_fit n d t (field_list []) no_columns f refl
 with_fit n d t [] (column m u cs) f h e = cc

@@ -1,5 +1,5 @@
 -- The types of a typing have rising columns where those around, and those that the tree names, have.
-use Rattle.std.proofs.Common.{◌≡◌, ℕ, zero, suc, List, [], ◌∷◌, ◌++◌, length, Bool, true, false, Some, Result, Ok, inl, inr, refl, sym, subst}
+use Rattle.std.proofs.Common.{◌≡◌, ℕ, zero, suc, List, [], ◌∷◌, ◌++◌, length, Bool, true, false, is_some, Option, Some, None, Result, Ok, Err, inl, inr, refl, sym, subst}
 use Rattle.std.specs.Prelude.{bytes_eq, slice_get, if◌then◌else◌}
 use Rattle.std.specs.Ordering.{nat_cmp, match_ordering}
 use Rattle.std.specs.Cmp.Lexicographic.{slice_cmp}
@@ -20,8 +20,9 @@ use Rattle.fx_core.specs.declared.sources.Source.{Source}
 use Rattle.fx_core.specs.SourceTypes.{put_column}
 use Rattle.fx_core.specs.Term.{Term, Terms, of, nil, cons, Top}
 use Rattle.fx_core.specs.Term as top
-use Rattle.fx_typing.specs.Columns.{added, dropped, label_of, names_there, columns_shown}
-use Rattle.fx_core.specs.ColumnLists.{field_in, if_there, is_one_of, row_columns, value_column, with_new, with_renamed}
+use Rattle.fx_typing.specs.Columns.{added, are_keys, dropped, first_shared, grouped, grouped_by, label_of, last_label, names_there, out_of, columns_shown, ungrouped, with_group}
+use Rattle.fx_core.specs.Rules as rules
+use Rattle.fx_core.specs.ColumnLists.{and_then, before_last, field_in, if_free, if_there, is_one_of, row_columns, value_column, with_new, with_renamed}
 use Rattle.fx_typing.specs.Columns as columns
 use Rattle.fx_core.specs.ColumnLists as lists
 use Rattle.fx_typing.specs.LawfulTypes.{AreLawfulColumns, IsLawfulType, IsBelowColumns}
@@ -157,6 +158,42 @@ renamed_lawful (x ∷ y ∷ more) cs es l e =
     let own = field_lawful n.0 cs t.0 l (there_ok (field_in n.0 cs) t.0 t.1) in
     renamed_lawful more d.0 es (subst AreLawfulColumns w.1 (put_lawful m.0 t.0 (lists.columns_without n.0 cs) own (without_lawful n.0 cs l))) d.2
 
+-- groups beside their keys
+grouped_lawful : (xs : List (Term × Shape)) (cs es : ColumnList) → AreLawfulColumns cs → grouped xs cs ≡ Ok es → AreLawfulColumns es
+grouped_lawful xs cs es l e =
+    let g = label_ok (last_label xs) _ es e in
+    let y = then_ok (if_free (field_in g.0 cs) cs) (λ ds. grouped_by g.0 (before_last xs) ds) es g.2 in
+    let z = free_ok (field_in g.0 cs) cs y.0 y.1 in
+    by_test (are_keys (before_last xs) y.0) g.0 y.0 (subst AreLawfulColumns z.1 l) y.2
+  where
+    by_test : (b : Bool) (g : List ℕ) (ds : ColumnList) → AreLawfulColumns ds →
+        (if b then and_then (names_there (before_last xs) ds) (λ ns. Ok (with_group g ns ds)) else Err 6) ≡ Ok es → AreLawfulColumns es
+    by_test true g ds k q =
+        let n = then_ok (names_there (before_last xs) ds) (λ ns. Ok (with_group g ns ds)) es q in
+        subst AreLawfulColumns (ok_is (with_group g n.0 ds) es n.2)
+        (put_lawful g (tables (lists.without_all n.0 ds)) (lists.columns_only n.0 ds) (without_all_lawful n.0 ds k) (only_lawful n.0 ds k))
+    by_test false g ds k q = absurd cc
+
+-- the columns of groups beside the others
+joined_lawful : (ds cs : ColumnList) → AreInner ds → AreLawfulColumns cs → AreLawfulColumns (lists.joined_columns ds cs)
+joined_lawful no_columns cs i l = l
+joined_lawful (column n t ds) cs i l = joined_lawful ds (put_column n t cs) i.1 (put_lawful n t cs i.0 l)
+
+out_lawful : (t : Shape) (cs es : ColumnList) → IsLawfulType t → AreLawfulColumns cs → out_of t cs ≡ Ok es → AreLawfulColumns es
+out_lawful (tables ds) cs es k l e = by_shared (first_shared ds cs) e
+  where
+    by_shared : (o : Option (List ℕ)) → (if is_some o then Err rules.name_twice else Ok (lists.joined_columns ds cs)) ≡ Ok es → AreLawfulColumns es
+    by_shared (Some n) q = absurd cc
+    by_shared None q = subst AreLawfulColumns (ok_is (lists.joined_columns ds cs) es q) (joined_lawful ds cs (inner_of ds k) l)
+out_lawful t cs es k l e = absurd cc
+
+ungrouped_lawful : (xs : List (Term × Shape)) (cs es : ColumnList) → AreLawfulColumns cs → ungrouped xs cs ≡ Ok es → AreLawfulColumns es
+ungrouped_lawful (x ∷ []) cs es l e =
+    let g = label_ok (label_of x.0) _ es e in
+    let t = then_ok (if_there (field_in g.0 cs)) _ es g.2 in
+    out_lawful t.0 (lists.columns_without g.0 cs) es (field_lawful g.0 cs t.0 l (there_ok (field_in g.0 cs) t.0 t.1)) (without_lawful g.0 cs l) t.2
+ungrouped_lawful xs cs es l e = absurd cc
+
 -- ---- answers
 scalar_lawful : (s : Scalar) → IsLawfulType (shape_of s)
 scalar_lawful Blank = tt
@@ -211,6 +248,12 @@ answer_lawful answer.Shown common ((x, u) ∷ xs) t c l e = absurd cc
 answer_lawful answer.Renamed common [] t c l e = absurd cc
 answer_lawful answer.Renamed common ((x, tables cs) ∷ xs) t c l e = table_lawful (columns.columns_renamed xs cs) t (λ es q. renamed_lawful xs cs es l.0 q) e
 answer_lawful answer.Renamed common ((x, u) ∷ xs) t c l e = absurd cc
+answer_lawful answer.Grouped common [] t c l e = absurd cc
+answer_lawful answer.Grouped common ((x, tables cs) ∷ xs) t c l e = table_lawful (grouped xs cs) t (λ es q. grouped_lawful xs cs es l.0 q) e
+answer_lawful answer.Grouped common ((x, u) ∷ xs) t c l e = absurd cc
+answer_lawful answer.Ungrouped common [] t c l e = absurd cc
+answer_lawful answer.Ungrouped common ((x, tables cs) ∷ xs) t c l e = table_lawful (ungrouped xs cs) t (λ es q. ungrouped_lawful xs cs es l.0 q) e
+answer_lawful answer.Ungrouped common ((x, u) ∷ xs) t c l e = absurd cc
 answer_lawful answer.Values common [] t c l e = absurd cc
 answer_lawful answer.Values common (x ∷ []) t c l e = absurd cc
 answer_lawful answer.Values common (x ∷ y ∷ xs) t c l e = is_lawful (tables (value_column y.1)) t e (tt, l.1.0, tt)
@@ -305,6 +348,7 @@ node_lawful c (top.call f) ts us t k n l r =
     answer_lawful (row_of f).answer r.1.1 (typed_pairs ts us) t (common_of f us r.1.1 r.1.0 r.1.2 l) (pairs_lawful ts us l) r.1.3
 node_lawful c (top.over f) ts us t k n l r =
     answer_lawful (row_of f).answer r.1.1 (typed_pairs ts us) t (common_of f us r.1.1 r.1.0 r.1.2 l) (pairs_lawful ts us l) r.1.3
+node_lawful c (top.user f) ts us t k n l r = k.of_functions f us t r
 node_lawful c (top.form f) ts us t k n l r =
     answer_lawful (form_row f).answer r.1 (typed_pairs ts us) t (common_branch f us r.1 r.0 r.2 l) (pairs_lawful ts us l) r.3
 node_lawful c top.within ts us t k n l r = within_lawful c ts us t l r
@@ -321,10 +365,10 @@ types_more (u ∷ ts) t l k = (l.0, types_more ts t l.1 k)
 
 pub context_lawful : (st : PartScope) (c : Context) (done : List Shape) → AreLawfulTypes done → IsLawfulContext c → IsLawfulContext (context_for st c done)
 context_lawful inside c [] l k = k
-context_lawful inside c (t ∷ ts) l k = record { of_sources = k.of_sources; of_scopes = types_more c.rows (row_type t) k.of_scopes (row_lawful t l.0); of_item = k.of_item }
+context_lawful inside c (t ∷ ts) l k = record { of_sources = k.of_sources; of_scopes = types_more c.rows (row_type t) k.of_scopes (row_lawful t l.0); of_item = k.of_item; of_functions = k.of_functions }
 context_lawful bound c [] l k = k
-context_lawful bound c (t ∷ ts) l k = record { of_sources = k.of_sources; of_scopes = types_more c.rows t k.of_scopes l.0; of_item = k.of_item }
-context_lawful catching c ts l k = record { of_sources = k.of_sources; of_scopes = k.of_scopes; of_item = k.of_item }
+context_lawful bound c (t ∷ ts) l k = record { of_sources = k.of_sources; of_scopes = types_more c.rows t k.of_scopes l.0; of_item = k.of_item; of_functions = k.of_functions }
+context_lawful catching c ts l k = record { of_sources = k.of_sources; of_scopes = k.of_scopes; of_item = k.of_item; of_functions = k.of_functions }
 context_lawful plain c ts l k = k
 
 own_types : (us : List Shape) (u : Shape) (vs : List Shape) → us ≡ u ∷ vs → IsLawfulType u → AreLawfulTypes vs → AreLawfulTypes us

@@ -4,6 +4,7 @@ pub mod Forms
 pub mod Branches
 pub mod Tables
 pub mod Columns
+pub mod Groups
 pub mod Over
 pub mod Calls
 pub mod Widened

@@ -1,10 +1,10 @@
 -- Calls over tables give values that fit.
-use Rattle.std.proofs.Common.{◌≡◌, ℕ, suc, List, [], ◌∷◌, ◌++◌, length, map, true, false, Option, Some, None, Result, Ok, Err, refl, ap, sym, subst, ◌∙◌, arith}
+use Rattle.std.proofs.Common.{◌≡◌, ℕ, suc, List, [], ◌∷◌, ◌++◌, length, map, flat_map, Bool, true, false, bytes_eq, if◌then◌else◌, Option, Some, None, Result, Ok, Err, refl, ap, sym, subst, ◌∙◌, arith}
 use Rattle.std.specs.Prelude.{nat_eq, ◌%◌}
 use Rattle.std.specs.List.{filter}
 use Rattle.std.proofs.lemmas.Bool.{eq-eqb}
 use Rattle.fx_types.specs.declared.faults.Fault.{Fault}
-use Rattle.fx_types.specs.Types.{Shape, blanks, numbers, texts, booleans, dates, records, tables, ColumnList}
+use Rattle.fx_types.specs.Types.{Shape, blanks, numbers, texts, booleans, dates, records, tables, ColumnList, no_columns, column}
 use Rattle.fx_types.specs.Values.{Data}
 use Rattle.fx_core.specs.Rows.{row_of}
 use Rattle.fx_core.specs.declared.functions.Fun.{Fun}
@@ -19,18 +19,21 @@ use Rattle.fx_primitives.specs.Folds.{IsGreatest, IsLeast}
 use Rattle.fx_value.specs.Aggregates.{numbers_in}
 use Rattle.fx_value.specs.Columns.{Row, fields_only, rows_with_column}
 use Rattle.fx_core.specs.Term.{Term, Terms, nil, cons, Top, over}
-use Rattle.fx_typing.specs.Columns.{added, dropped, columns_shown, columns_renamed, label_of}
-use Rattle.fx_core.specs.ColumnLists.{field_in, row_columns, value_column, with_new}
+use Rattle.fx_typing.specs.Columns.{added, dropped, columns_shown, columns_renamed, grouped, ungrouped, label_of}
+use Rattle.fx_core.specs.ColumnLists.{before_last, field_in, row_columns, value_column, with_new}
 use Rattle.fx_typing.specs.WellTyped.{Context, PartScope, inside, standing_at, context_for, Stands, AllStand, typed_pairs, answered_type, as_table}
 use Rattle.fx_typing.proofs.Operators.{then_ok}
-use Rattle.fx_value.proofs.Unions.{Rises}
+use Rattle.fx_typing.specs.LawfulTypes.{AreLawfulColumns, IsLawfulType}
+use Rattle.fx_tables.specs.Groups.{grouped_by, key_of, last_name, ungrouped_by, value_of}
 use Rattle.fx_value.specs.Fits.{fits_in}
 use Rattle.fx_scalar.specs.LazyForms.{ErrorOr}
 use Rattle.fx_semantics.specs.Around.{Around, Meaning}
 use Rattle.fx_semantics.specs.Fresh.{meaning, meanings}
 use Rattle.fx_semantics.specs.Rows.{AreNew, IsConcat, IsMade, IsTableCall, TakesRows, OfEach, is_falling, rows_in, table_of}
 use Rattle.fx_semantics.proofs.Branches.{differs}
-use Rattle.fx_semantics.proofs.Columns.{SoMany, dropped_rows, fine, free_ok, label_ok, name_is, ok_is, renamed_rows, shown_rows, with_column_fit}
+use Rattle.fx_semantics.proofs.Columns.{SoMany, dropped_rows, fine, free_ok, label_ok, name_is, ok_is, renamed_rows, rises_of, shown_rows, with_column_fit}
+use Rattle.fx_semantics.proofs.Fields.{fault_or_fits}
+use Rattle.fx_semantics.proofs.Groups.{grouped_rows, ungrouped_rows}
 use Rattle.fx_semantics.proofs.Forms.{error_or, given_fits}
 use Rattle.fx_semantics.proofs.Parts.{Giving, stands, Suits, Holds, AllHold}
 use Rattle.fx_semantics.proofs.Tables.{RowsFit, averaged_fits, concatenated_fits, count_fits, distinct_fits, each_fits, filtered_fits, first_error_fits, first_fits, first_some_fit, for_all_fits, found_fits, joined_by_fits, last_fits, last_some_fit, looked_up_fits, number_or_blank_fits, rows_in_fit, sort_fits, sum_fits, table_fits}
@@ -178,74 +181,94 @@ each_made g c rows item caught s cs n m t0 (cons t1 (cons t2 ts)) us common t k 
 each_made g c rows item caught s cs n m t0 (cons t1 nil) [] common t k w e v h = absurd k.1
 each_made g c rows item caught s cs n m t0 (cons t1 nil) (u ∷ u2 ∷ us) common t k w e v h = absurd k.1.1
 
+-- the columns of a column of tables are lawful
+inner_lawful : (n : List ℕ) (cs ds : ColumnList) → AreLawfulColumns cs → field_in n cs ≡ Some (tables ds) → AreLawfulColumns ds
+inner_lawful n no_columns ds l e = absurd cc
+inner_lawful n (column m u cs) ds l e = by (bytes_eq m n) (λ q. inner_lawful n cs ds l.2 q) e
+  where
+    by : (b : Bool) → (field_in n cs ≡ Some (tables ds) → AreLawfulColumns ds) → (if b then Some u else field_in n cs) ≡ Some (tables ds) → AreLawfulColumns ds
+    by true k q = let same : u ≡ tables ds = cc in subst IsLawfulType same l.1
+    by false k q = k q
+
 pub over_table : (g : Giving) (c : Context) (rows : List Data) (item : Option Data) (caught : Option Fault) → Suits g c rows item →
-    (cs : ColumnList) → Rises cs → (f : Fun) → OverFits g c rows item caught f (tables cs)
-over_table g c rows item caught s cs rising fun.Filter n m t0 ts us common t k w e v h =
+    (cs : ColumnList) → AreLawfulColumns cs → (f : Fun) → OverFits g c rows item caught f (tables cs)
+over_table g c rows item caught s cs lawful fun.Filter n m t0 ts us common t k w e v h =
     by_rows g c rows item caught s (meaning t0) cs k.0 (λ tr. IsMade fun.Filter tr (meanings ts) (stands g rows item caught) v) v t
     (λ tr rf q. along (tables cs) t v e (given_fits v (filtered tr q.0) (tables cs) (filtered_fits cs tr q.0 rf) q.2)) h
-over_table g c rows item caught s cs rising fun.LookUp n m t0 ts us common t k w e v h = look_fits g c rows item caught s cs n m t0 ts us common t k w e v h
-over_table g c rows item caught s cs rising (fun.Sort o) n m t0 ts us common t k w e v h =
+over_table g c rows item caught s cs lawful fun.LookUp n m t0 ts us common t k w e v h = look_fits g c rows item caught s cs n m t0 ts us common t k w e v h
+over_table g c rows item caught s cs lawful (fun.Sort o) n m t0 ts us common t k w e v h =
     by_rows g c rows item caught s (meaning t0) cs k.0 (λ tr. IsMade (fun.Sort o) tr (meanings ts) (stands g rows item caught) v) v t
     (λ tr rf q. along (tables cs) t v e (of_each tr (meanings ts) (stands g rows item caught) _ _ (λ ds z. sort_fits (is_falling o) cs tr ds v rf z) q)) h
-over_table g c rows item caught s cs rising fun.First n m t0 ts us common t k w e v h =
+over_table g c rows item caught s cs lawful fun.First n m t0 ts us common t k w e v h =
     by_rows g c rows item caught s (meaning t0) cs k.0 (λ tr. IsMade fun.First tr (meanings ts) (stands g rows item caught) v) v t
     (λ tr rf q. along (records cs) t v e (given_fits v (first_row_record tr) (records cs) (first_fits cs tr rf) q)) h
-over_table g c rows item caught s cs rising fun.Last n m t0 ts us common t k w e v h =
+over_table g c rows item caught s cs lawful fun.Last n m t0 ts us common t k w e v h =
     by_rows g c rows item caught s (meaning t0) cs k.0 (λ tr. IsMade fun.Last tr (meanings ts) (stands g rows item caught) v) v t
     (λ tr rf q. along (records cs) t v e (given_fits v (last_of tr) (records cs) (last_fits cs tr rf) q)) h
-over_table g c rows item caught s cs rising fun.FirstN n m t0 ts us common t k w e v h =
+over_table g c rows item caught s cs lawful fun.FirstN n m t0 ts us common t k w e v h =
     by_rows g c rows item caught s (meaning t0) cs k.0 (λ tr. IsMade fun.FirstN tr (meanings ts) (stands g rows item caught) v) v t
     (λ tr rf q. along (tables cs) t v e (some_taken cs (first_rows tr) (first_some_fit cs tr rf) (meanings ts) (stands g rows item caught) v q)) h
-over_table g c rows item caught s cs rising fun.LastN n m t0 ts us common t k w e v h =
+over_table g c rows item caught s cs lawful fun.LastN n m t0 ts us common t k w e v h =
     by_rows g c rows item caught s (meaning t0) cs k.0 (λ tr. IsMade fun.LastN tr (meanings ts) (stands g rows item caught) v) v t
     (λ tr rf q. along (tables cs) t v e (some_taken cs (last_rows tr) (last_some_fit cs tr rf) (meanings ts) (stands g rows item caught) v q)) h
-over_table g c rows item caught s cs rising fun.CountRows n m t0 ts us common t k w e v h =
+over_table g c rows item caught s cs lawful fun.CountRows n m t0 ts us common t k w e v h =
     by_rows g c rows item caught s (meaning t0) cs k.0 (λ tr. IsMade fun.CountRows tr (meanings ts) (stands g rows item caught) v) v t
     (λ tr rf q. along numbers t v e (count_fits (length tr) v q)) h
-over_table g c rows item caught s cs rising fun.CountIf n m t0 ts us common t k w e v h =
+over_table g c rows item caught s cs lawful fun.CountIf n m t0 ts us common t k w e v h =
     by_rows g c rows item caught s (meaning t0) cs k.0 (λ tr. IsMade fun.CountIf tr (meanings ts) (stands g rows item caught) v) v t
     (λ tr rf q. along numbers t v e (first_error_fits q.0 (IsCountValue (length (filter holds q.0))) v numbers (count_fits (length (filter holds q.0)) v) q.2)) h
-over_table g c rows item caught s cs rising fun.IsEmpty n m t0 ts us common t k w e v h =
+over_table g c rows item caught s cs lawful fun.IsEmpty n m t0 ts us common t k w e v h =
     by_rows g c rows item caught s (meaning t0) cs k.0 (λ tr. IsMade fun.IsEmpty tr (meanings ts) (stands g rows item caught) v) v t
     (λ tr rf q. along booleans t v e (given_fits v (emptiness_of tr) booleans refl q)) h
-over_table g c rows item caught s cs rising fun.SumRows n m t0 ts us common t k w e v h =
+over_table g c rows item caught s cs lawful fun.SumRows n m t0 ts us common t k w e v h =
     by_rows g c rows item caught s (meaning t0) cs k.0 (λ tr. IsMade fun.SumRows tr (meanings ts) (stands g rows item caught) v) v t
     (λ tr rf q. along numbers t v e (of_each tr (meanings ts) (stands g rows item caught) _ _ (λ ds z. first_error_fits ds (IsSumValue (numbers_in ds)) v numbers (sum_fits (numbers_in ds) v) z) q)) h
-over_table g c rows item caught s cs rising fun.MinRows n m t0 ts us common t k w e v h =
+over_table g c rows item caught s cs lawful fun.MinRows n m t0 ts us common t k w e v h =
     by_rows g c rows item caught s (meaning t0) cs k.0 (λ tr. IsMade fun.MinRows tr (meanings ts) (stands g rows item caught) v) v t
     (λ tr rf q. along numbers t v e (of_each tr (meanings ts) (stands g rows item caught) _ _ (λ ds z. first_error_fits ds (IsNumberOrBlank (IsLeast (numbers_in ds))) v numbers (number_or_blank_fits (IsLeast (numbers_in ds)) v) z) q)) h
-over_table g c rows item caught s cs rising fun.MaxRows n m t0 ts us common t k w e v h =
+over_table g c rows item caught s cs lawful fun.MaxRows n m t0 ts us common t k w e v h =
     by_rows g c rows item caught s (meaning t0) cs k.0 (λ tr. IsMade fun.MaxRows tr (meanings ts) (stands g rows item caught) v) v t
     (λ tr rf q. along numbers t v e (of_each tr (meanings ts) (stands g rows item caught) _ _ (λ ds z. first_error_fits ds (IsNumberOrBlank (IsGreatest (numbers_in ds))) v numbers (number_or_blank_fits (IsGreatest (numbers_in ds)) v) z) q)) h
-over_table g c rows item caught s cs rising fun.AverageRows n m t0 ts us common t k w e v h =
+over_table g c rows item caught s cs lawful fun.AverageRows n m t0 ts us common t k w e v h =
     by_rows g c rows item caught s (meaning t0) cs k.0 (λ tr. IsMade fun.AverageRows tr (meanings ts) (stands g rows item caught) v) v t
     (λ tr rf q. along numbers t v e (of_each tr (meanings ts) (stands g rows item caught) _ _ (λ ds z. given_fits v (averaged ds) numbers (averaged_fits ds) z) q)) h
-over_table g c rows item caught s cs rising fun.AddColumns n m t0 ts us common t k w e v h =
+over_table g c rows item caught s cs lawful fun.AddColumns n m t0 ts us common t k w e v h =
     let r = table_ok (added (typed_pairs ts us) cs) t e in
     by_rows g c rows item caught s (meaning t0) cs k.0 (λ tr. IsMade fun.AddColumns tr (meanings ts) (stands g rows item caught) v) v t
     (λ tr rf q. along (tables r.0) t v r.2 (given_fits v (table_of (with_columns q.0 tr)) (tables r.0) (table_fits r.0 (with_columns q.0 tr)
     (added_rows g c rows item caught s cs tr rf n [] ts us cs r.0 tr q.0 refl k.1 r.1 rf q.1)) q.2)) h
-over_table g c rows item caught s cs rising fun.DropColumns n m t0 ts us common t k w e v h =
+over_table g c rows item caught s cs lawful fun.DropColumns n m t0 ts us common t k w e v h =
     let r = table_ok (dropped (typed_pairs ts us) cs) t e in
     by_rows g c rows item caught s (meaning t0) cs k.0 (λ tr. IsMade fun.DropColumns tr (meanings ts) (stands g rows item caught) v) v t
     (λ tr rf q. along (tables r.0) t v r.2 (given_fits v (table_of (without_columns q.0 tr)) (tables r.0)
-    (dropped_rows (stands g rows item caught) ts us cs r.0 q.0 tr (so_many g c (over fun.DropColumns) n (tables cs ∷ []) ts us k.1) rising r.1 q.1 (table_fits cs tr rf)) q.2)) h
-over_table g c rows item caught s cs rising fun.ShowColumns n m t0 ts us common t k w e v h =
+    (dropped_rows (stands g rows item caught) ts us cs r.0 q.0 tr (so_many g c (over fun.DropColumns) n (tables cs ∷ []) ts us k.1) (rises_of cs lawful) r.1 q.1 (table_fits cs tr rf)) q.2)) h
+over_table g c rows item caught s cs lawful fun.ShowColumns n m t0 ts us common t k w e v h =
     let r = table_ok (columns_shown (typed_pairs ts us) cs) t e in
     by_rows g c rows item caught s (meaning t0) cs k.0 (λ tr. IsMade fun.ShowColumns tr (meanings ts) (stands g rows item caught) v) v t
     (λ tr rf q. along (tables r.0) t v r.2 (given_fits v (table_of (map (fields_only q.0) tr)) (tables r.0)
     (shown_rows (stands g rows item caught) ts us cs r.0 q.0 tr (so_many g c (over fun.ShowColumns) n (tables cs ∷ []) ts us k.1) r.1 q.1 (table_fits cs tr rf)) q.2)) h
-over_table g c rows item caught s cs rising fun.RenameColumns n m t0 ts us common t k w e v h =
+over_table g c rows item caught s cs lawful fun.RenameColumns n m t0 ts us common t k w e v h =
     let r = table_ok (columns_renamed (typed_pairs ts us) cs) t e in
     by_rows g c rows item caught s (meaning t0) cs k.0 (λ tr. IsMade fun.RenameColumns tr (meanings ts) (stands g rows item caught) v) v t
     (λ tr rf q. along (tables r.0) t v r.2 (given_fits v (table_of (renamed_columns q.0 tr)) (tables r.0) (table_fits r.0 (renamed_columns q.0 tr)
-    (renamed_rows (stands g rows item caught) ts us cs r.0 q.0 tr (so_many g c (over fun.RenameColumns) n (tables cs ∷ []) ts us k.1) rising r.1 q.1 rf)) q.2)) h
-over_table g c rows item caught s cs rising fun.Distinct n m t0 ts us common t k w e v h = each_distinct g c rows item caught s cs n m t0 ts us common t k w e v h
-over_table g c rows item caught s cs rising fun.ForAll n m t0 ts us common t k w e v h = each_made g c rows item caught s cs n m t0 ts us common t k w e v h
-over_table g c rows item caught s cs rising fun.Concat n m t0 ts us common t k w e v h =
+    (renamed_rows (stands g rows item caught) ts us cs r.0 q.0 tr (so_many g c (over fun.RenameColumns) n (tables cs ∷ []) ts us k.1) (rises_of cs lawful) r.1 q.1 rf)) q.2)) h
+over_table g c rows item caught s cs lawful fun.GroupBy n m t0 ts us common t k w e v h =
+    let r = table_ok (grouped (typed_pairs ts us) cs) t e in
+    by_rows g c rows item caught s (meaning t0) cs k.0 (λ tr. IsMade fun.GroupBy tr (meanings ts) (stands g rows item caught) v) v t
+    (λ tr rf q. along (tables r.0) t v r.2 (given_fits v (grouped_by q.0 tr) (tables r.0) (fault_or_fits (flat_map (key_of (before_last q.0)) tr) _ (tables r.0) (λ none.
+    table_fits r.0 _ (grouped_rows (stands g rows item caught) ts us cs r.0 q.0 tr (so_many g c (over fun.GroupBy) n (tables cs ∷ []) ts us k.1) (rises_of cs lawful) r.1 q.1 rf))) q.2)) h
+over_table g c rows item caught s cs lawful fun.Ungroup n m t0 ts us common t k w e v h =
+    let r = table_ok (ungrouped (typed_pairs ts us) cs) t e in
+    by_rows g c rows item caught s (meaning t0) cs k.0 (λ tr. IsMade fun.Ungroup tr (meanings ts) (stands g rows item caught) v) v t
+    (λ tr rf q. along (tables r.0) t v r.2 (given_fits v (ungrouped_by q.0 tr) (tables r.0) (fault_or_fits (map (value_of (last_name q.0)) tr) _ (tables r.0) (λ none.
+    table_fits r.0 _ (ungrouped_rows (stands g rows item caught) ts us cs r.0 q.0 tr (so_many g c (over fun.Ungroup) n (tables cs ∷ []) ts us k.1) (rises_of cs lawful)
+    (λ x ds i. rises_of ds (inner_lawful x cs ds lawful i)) r.1 q.1 rf))) q.2)) h
+over_table g c rows item caught s cs lawful fun.Distinct n m t0 ts us common t k w e v h = each_distinct g c rows item caught s cs n m t0 ts us common t k w e v h
+over_table g c rows item caught s cs lawful fun.ForAll n m t0 ts us common t k w e v h = each_made g c rows item caught s cs n m t0 ts us common t k w e v h
+over_table g c rows item caught s cs lawful fun.Concat n m t0 ts us common t k w e v h =
     by_rows g c rows item caught s (meaning t0) cs k.0 (λ tr. IsMade fun.Concat tr (meanings ts) (stands g rows item caught) v) v t
     (λ tr rf q. along texts t v e (concat_fits tr (meanings ts) (stands g rows item caught) v q)) h
-over_table g c rows item caught s cs rising f n m t0 ts us common t k w e v h = other_fits h
+over_table g c rows item caught s cs lawful f n m t0 ts us common t k w e v h = other_fits h
   where
     other_fits : (d : Data) × meaning t0 (stands g rows item caught) d × ErrorOr d ⊥ v → fits_in v t ≡ true
     other_fits q = error_or q.0 ⊥ v t (λ z. absurd z) q.2

@@ -7,7 +7,7 @@ use Rattle.fx_types.specs.Types.{Shape, blanks, records, tables, no_columns}
 use Rattle.fx_types.specs.Values.{boolean, number, text}
 use Rattle.fx_semantics.specs.Laws.{AdmittedIsPlaced}
 use Rattle.fx_semantics.specs.Places.{IsPlaced, is_for_all}
-use Rattle.fx_semantics.proofs.PlacedDeeds.{is_filtered, act_placed, name_made, rows_made}
+use Rattle.fx_semantics.proofs.PlacedDeeds.{is_filtered, act_placed, name_made, columns_made}
 use Rattle.fx_semantics.proofs.PlacedParts.{TreePlaced, AllPlaced, PartPlaced, EachPlaced, quiet_placed, tree_still, part_still, terms_placed, node_placed, one_placed, as_part_placed, by_way_placed, put_placed, made_by_placed, made_placed, pieces_placed, values_placed}
 use Rattle.fx_core.specs.declared.functions.Acting.{Acting}
 use Rattle.fx_core.specs.declared.functions.Acting.TheVariants as acts
@@ -30,7 +30,7 @@ use Rattle.fx_core.specs.Tree as tree
 use Rattle.fx_core.specs.Term.{Term, of, nil, cons, all, within}
 use Rattle.fx_core.specs.Term as term
 use Rattle.fx_typing.proofs.Frame.{onward_ok, at_node_ok, put_one}
-use Rattle.fx_typing.proofs.Quiet.{Calm, calm_first, judged_quiet, may_do}
+use Rattle.fx_typing.proofs.Quiet.{Calm, calm_first, judged_quiet, may_do, table_quiet}
 use Rattle.fx_typing.proofs.QuietParts.{AllQuiet, EachQuiet, Made, PartQuiet, TreeQuiet, dot_by_quiet, formed_quiet, global_by_quiet, if_quiet, in_globals_quiet, made_if_quiet, made_quiet, meaning_quiet, name_by_quiet, pieces_quiet, take_quiet, then_quiet, tree_quiet, unless_quiet, values_quiet}
 use Rattle.fx_typing.specs.Breaks.{taken_at, mistells}
 use Rattle.fx_typing.specs.Builds.{as_record, blank_record, bounded, bounded_by, field_names, field_parts, is_bounded, are_names_distinct, list_as, list_by, typed_list, put_field, put_fields, record_by, typed_record, rows_to, typed_table, types_of, with_of}
@@ -43,6 +43,7 @@ use Rattle.fx_typing.specs.Parts.{Grant, nothing, an_alias, aliased_target, on_s
 use Rattle.fx_typing.specs.Parts as part
 use Rattle.fx_typing.specs.Plans.{field_grant, grant_of, pick, plan_act, plan_at, plan_by_row, plan_call, plan_either, plan_literal, argument_rule, setting_at, shape_in}
 use Rattle.fx_typing.specs.Targets.{rows_named}
+use Rattle.fx_typing.specs.Parts.{unless_rule}
 use Rattle.fx_typing.specs.Typing.{admit, alias_by, assigned_of, at_node, chain_as, chain_by, dot_by, global_by, is_too_deep, judge, judge_parts, name_by, outermost_setting, paired_by, position, record_as, to_wanted, whole_argument, woven_by}
 use Rattle.fx_typing.specs.WellTyped.{plain, last_type}
 use Rattle.fx_typing.specs.Ways.{way}
@@ -146,7 +147,9 @@ record_placed ns xs h =
 
 record_part : (g : Grant) (ns : List (List ℕ)) (qs : List JudgedPart) → EachPlaced qs → (may_do (field_grant g) ≡ false → EachQuiet qs) → Made PartPlaced (and_then (values qs) (record_as g ns))
 record_part (on_screen b) ns qs h q =
-    then_quiet AllPlaced PartPlaced (values qs) (assigned_of ns) (values_placed qs h) (λ xs k. if_quiet PartPlaced (are_names_distinct ns) (Ok (assigned ns xs)) (Err 5) k tt)
+    then_quiet AllPlaced PartPlaced (values qs) (assigned_of ns) (values_placed qs h) (λ xs k.
+    let bound = is_bounded (record_by (put_fields ns xs)).1 in
+    if_quiet PartPlaced (are_names_distinct ns) (unless_rule (not bound) 13 (Ok (assigned ns xs))) (Err 5) (unless_quiet PartPlaced (not bound) 13 (Ok (assigned ns xs)) k) tt)
 record_part g ns qs h q = then_quiet AllQuiet PartPlaced (values qs) (record_as g ns) (values_quiet qs (q refl)) (λ xs k. as_part_placed (typed_record ns xs) (record_placed ns xs k))
 
 rows_placed : (t : Shape) (xs : List (Term × Shape)) → AllPlaced xs → Made AllPlaced (rows_to t xs)
@@ -221,10 +224,10 @@ called_by_placed p s (sig.Literal f) n qs h q = literal_placed f qs h (λ e. q (
 called_by_placed p s (sig.Form f) n qs h q = form_placed (part.may_act s.grant) n f qs h q
 called_by_placed p s sig.With n qs h q = then_quiet AllPlaced TreePlaced (values qs) with_of (values_placed qs h) (λ xs k. with_placed xs k)
 called_by_placed p s sig.Table n qs h q =
-    then_quiet AllPlaced TreePlaced (values qs) typed_table (values_placed qs h) (λ xs k. list_as_placed (join_all (Some (records no_columns)) xs) xs k)
+    tree_still (and_then (values qs) typed_table) (then_quiet AllQuiet TreeQuiet (values qs) typed_table (values_quiet qs (q (λ d m. refl))) (λ xs k. table_quiet xs k))
 called_by_placed p s sig.Today n qs h q = quiet_placed (of (term.read source.Today) nil) refl
 called_by_placed p s sig.Defaults n qs h q =
-    name_made qs (defaults_of p.names) (λ x rs k. rows_made (rows_named p.names x) (λ r. Ok (blank_record r.1)) (λ r. quiet_placed (blank_record r.1).0 refl)) h
+    name_made qs (defaults_of p.names) (λ x rs k. columns_made (rows_named p.names x) (λ cs. Ok (blank_record cs)) (λ cs. quiet_placed (blank_record cs).0 refl)) h
 called_by_placed p s (sig.Act a) n qs h q = act_placed p s a qs h (λ e. q (λ d m. calm_filtered a e (part.may_act s.grant) (length d)))
 
 called_with_placed : (p : Place) (s : Setting) (o : Option Signature) (n : ℕ) (qs : List JudgedPart) → EachPlaced qs → Rests (part.may_act s.grant) n (shape_in o) qs →

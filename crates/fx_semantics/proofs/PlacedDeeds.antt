@@ -3,7 +3,7 @@ use Rattle.std.proofs.Common.{◌≡◌, ℕ, List, [], ◌∷◌, Bool, true, f
 use Rattle.fx_types.specs.TypeView.{shape}
 use Rattle.fx_types.specs.Types.{Shape, blanks, numbers, texts, records, tables, ColumnList, no_columns, column}
 use Rattle.fx_semantics.specs.Places.{IsPlaced, ArePlaced, are_of_screen, sets_of_screen}
-use Rattle.fx_semantics.proofs.PlacedParts.{TreePlaced, AllPlaced, EachPlaced, tree_still, terms_placed, node_placed, one_placed, by_way_placed, put_placed, values_placed}
+use Rattle.fx_semantics.proofs.PlacedParts.{TreePlaced, AllPlaced, EachPlaced, quiet_placed, tree_still, terms_placed, node_placed, one_placed, by_way_placed, put_placed, values_placed}
 use Rattle.fx_core.specs.declared.deeds.Deed.{Deed}
 use Rattle.fx_core.specs.declared.deeds.Deed.TheVariants as deed
 use Rattle.fx_core.specs.declared.deeds.Target.{Target}
@@ -18,13 +18,14 @@ use Rattle.fx_core.specs.declared.names.Collection.{Collection}
 use Rattle.fx_core.specs.declared.names.ControlName.{ControlName}
 use Rattle.fx_core.specs.declared.names.Names.{Names}
 use Rattle.fx_core.specs.declared.names.Variable.{Variable}
+use Rattle.fx_types.specs.Values.{rec, no_fields}
 use Rattle.fx_core.specs.Term.{Term, of, nil, cons, all, read}
 use Rattle.fx_core.specs.Term as term
 use Rattle.fx_typing.proofs.QuietParts.{EachQuiet, Made, if_quiet, made_quiet, pieces_quiet, then_quiet, unless_quiet}
 use Rattle.fx_typing.specs.Breaks.{could_act, gives_variables, large_given}
 use Rattle.fx_typing.specs.Calls.{acted_by, acted_on_screen, acted_or_lowest}
 use Rattle.fx_core.specs.ColumnLists.{and_then, field_in}
-use Rattle.fx_typing.specs.Deeds.{done_by, joins_to, given_variable, by_first_name, if_known, by_rows, set_to, set_of, give_one, give_all, given_sources, given_terms, update_of, rows_collected, rows_given, collect_to, collect_of, clear_by, clear_of, by_id, row_typed, rows_named_by, leaves_id, change_of, changes_of, patch_to, patch_of, remove_of, filter_of, remove_if, update_to, update_if, navigate_of, notify_of, reset_by, reset_of, acted, nothing_done, until_settled}
+use Rattle.fx_typing.specs.Deeds.{as_rows, nothing_as, done_by, joins_to, given_variable, by_first_name, if_known, by_rows, by_columns, set_to, set_of, give_one, give_all, given_sources, given_terms, update_of, rows_collected, rows_given, collect_to, collect_of, clear_by, clear_of, by_id, row_typed, rows_named_by, leaves_id, change_of, changes_of, patch_to, patch_of, remove_of, filter_of, remove_if, update_to, update_if, navigate_of, notify_of, reset_by, reset_of, acted, nothing_done, until_settled}
 use Rattle.fx_typing.specs.Local.{value, coerced, by_way, firsts}
 use Rattle.fx_typing.specs.Meaning.{Place}
 use Rattle.fx_typing.specs.Parts.{JudgedPart, piece, meant, target, assigned, Setting, pieces, values, lowest, all_or_lowest}
@@ -60,12 +61,36 @@ known_made : {A : Type 0} (o : Option A) (go : A → Result (Term × Shape) ℕ)
 known_made (Some a) go h = h a
 known_made None go h = tt
 
+-- what is answered where rows are none
+deed_placed : TreePlaced nothing_done
+deed_placed = node_placed (term.act (deed.UpdateContext [])) nil refl tt
+
+nothing_placed : (t : Shape) → TreePlaced (nothing_as t)
+nothing_placed (records ds) =
+    let row = of (term.const (rec no_fields)) nil in
+    node_placed term.chain (cons nothing_done.0 (cons row nil)) refl (deed_placed, (quiet_placed row refl, tt))
+nothing_placed t = deed_placed
+
+nothing_made : (r : Result (Term × Shape) ℕ) → Made TreePlaced (and_then r (λ y. Ok (as_rows true y)))
+nothing_made (Ok y) = nothing_placed y.1
+nothing_made (Err e) = tt
+
+pub columns_made : (o : Option (Target × Shape)) (go : ColumnList → Result (Term × Shape) ℕ) → ((cs : ColumnList) → Made TreePlaced (go cs)) → Made TreePlaced (by_columns o go)
+columns_made (Some r) go h = by_shape r.0 r.1
+  where
+    by_shape : (t : Target) (u : Shape) → Made TreePlaced (by_columns (Some (t, u)) go)
+    by_shape t (tables cs) = h cs
+    by_shape t blanks = h no_columns
+    by_shape t u = tt
+columns_made None go h = tt
+
 pub rows_made : (o : Option (Target × Shape)) (go : Target × ColumnList → Result (Term × Shape) ℕ) → ((r : Target × ColumnList) → Made TreePlaced (go r)) →
     Made TreePlaced (by_rows o go)
 rows_made (Some r) go h = by_shape r.0 r.1
   where
     by_shape : (t : Target) (u : Shape) → Made TreePlaced (by_rows (Some (t, u)) go)
     by_shape t (tables cs) = h (t, cs)
+    by_shape t blanks = nothing_made (go (t, no_columns))
     by_shape t u = tt
 rows_made None go h = tt
 
@@ -139,6 +164,7 @@ clear_placed n x qs = known_made (collection_named n x) (λ (c : ℕ × Collecti
   where
     by_shape : (k : ℕ) (t : Shape) → Made TreePlaced (clear_by k t)
     by_shape k (tables cs) = node_placed (term.act (deed.Clear k)) nil refl tt
+    by_shape k blanks = nothing_placed blanks
     by_shape k t = tt
 
 -- ---- rows and changes
@@ -223,7 +249,7 @@ reset_placed n x qs = known_made (control_named n x) (λ (c : ℕ × ControlName
   where
     by_input : (k : ℕ) (o : Option Shape) → Made TreePlaced (reset_by k o)
     by_input k (Some t) = node_placed (term.act (deed.Reset k)) nil refl tt
-    by_input k None = tt
+    by_input k None = node_placed (term.act (deed.UpdateContext [])) nil refl tt
 
 -- ---- all of them
 -- the parts of these calls don't act

@@ -11,6 +11,7 @@ use Rattle.fx_tables.specs.Laws.{CountIfOnce, CountOnce, GreatestOnce, LeastOnce
 use Rattle.fx_tables.specs.RowCalls.{IsCountIfOf, IsSortOf, distinct_or, filtered, first_row_record, for_all_of, looked_up, verdict_of}
 use Rattle.fx_scalar.specs.LazyForms.{ErrorOr}
 use Rattle.fx_scalar.proofs.Single.{AtMostOne}
+use Rattle.fx_tables.specs.Groups.{grouped_by, ungrouped_by}
 use Rattle.fx_value.specs.Columns.{Row, fields_only}
 use Rattle.fx_semantics.specs.Around.{Around, Meaning, AreEach, AreValues}
 use Rattle.fx_semantics.specs.Rows.{AreNames, AreNew, AreRenamings, IsConcat, IsLookedUp, IsMade, MakesByNames, IsOfFound, IsTableCall, TakesRows, IsConjunction, OfEach, OfVerdicts, is_falling, rows_in, table_of}
@@ -81,8 +82,8 @@ module _ (g : Giving) (rows : List Data) (item : Option Data) (caught : Option F
   names_one (P ∷ Ps) s (m ∷ ms) [] h k = absurd k
   names_one (P ∷ Ps) s (m ∷ ms) (n ∷ ns) h k = cons_same m n ms ns (name_one P s.0 m n h.0 k.0) (names_one Ps s.1 ms ns h.1 k.1)
 
-  named_one : (made : List (List ℕ) → List Row) (Ps : List Meaning) → AllSingle g Ps → AtMostOne (MakesByNames made Ps here)
-  named_one made Ps s = then_one (AreNames Ps here) (λ ns v. v ≡ table_of (made ns)) (names_one Ps s) (λ ns. equal_one (table_of (made ns)))
+  named_one : (made : List (List ℕ) → Data) (Ps : List Meaning) → AllSingle g Ps → AtMostOne (MakesByNames made Ps here)
+  named_one made Ps s = then_one (AreNames Ps here) (λ ns v. v ≡ made ns) (names_one Ps s) (λ ns. equal_one (made ns))
 
   new_one : (rs : List Row) (Ps : List Meaning) → AllSingle g Ps → AtMostOne (AreNew rs Ps here)
   new_one rs [] s [] [] h k = λ i. []
@@ -124,9 +125,11 @@ module _ (g : Giving) (rows : List Data) (item : Option Data) (caught : Option F
   made_one o fun.MaxRows rs Ps s = of_each_one rs Ps s (λ ds v. IsGreatestOf ds v) (λ ds. o.greatest ds)
   made_one o fun.AverageRows rs Ps s = of_each_one rs Ps s (λ ds v. v ≡ averaged ds) (λ ds. equal_one (averaged ds))
   made_one o fun.AddColumns rs Ps s = then_one (AreNew rs Ps here) (λ cs v. v ≡ table_of (with_columns cs rs)) (new_one rs Ps s) (λ cs. equal_one (table_of (with_columns cs rs)))
-  made_one o fun.DropColumns rs Ps s = named_one (λ ns. without_columns ns rs) Ps s
-  made_one o fun.ShowColumns rs Ps s = named_one (λ ns. map (fields_only ns) rs) Ps s
+  made_one o fun.DropColumns rs Ps s = named_one (λ ns. table_of (without_columns ns rs)) Ps s
+  made_one o fun.ShowColumns rs Ps s = named_one (λ ns. table_of (map (fields_only ns) rs)) Ps s
   made_one o fun.RenameColumns rs Ps s = then_one (AreRenamings Ps here) (λ ps v. v ≡ table_of (renamed_columns ps rs)) (pairs_one Ps s) (λ ps. equal_one (table_of (renamed_columns ps rs)))
+  made_one o fun.GroupBy rs Ps s = named_one (λ ns. grouped_by ns rs) Ps s
+  made_one o fun.Ungroup rs Ps s = named_one (λ ns. ungrouped_by ns rs) Ps s
   made_one o fun.Distinct rs Ps s = of_each_one rs Ps s (λ ds v. v ≡ distinct_or ds) (λ ds. equal_one (distinct_or ds))
   made_one o fun.ForAll rs Ps s = of_each_one rs Ps s (λ ds v. v ≡ for_all_of ds) (λ ds. equal_one (for_all_of ds))
   made_one o fun.Concat rs Ps s = concat_one rs Ps s

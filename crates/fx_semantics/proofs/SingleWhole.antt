@@ -77,6 +77,7 @@ module _ (g : Giving) (rows : List Data) (item : Option Data) (caught : Option F
   node_one o e (top.dot n) Ps s = of_one Ps s (λ d v. v ≡ field_of n d) (λ d. equal_one (field_of n d))
   node_one o e (top.call f) Ps s = called_one f Ps s
   node_one o e (top.over f) Ps s = over_one g rows item caught o f Ps s
+  node_one o e (top.user f) Ps s = λ v w h k. absurd h
   node_one o e (top.form f) Ps s = formed_one g rows item caught f Ps s
   node_one o e top.within Ps s = within_one Ps s
   node_one o e (top.rec ns) Ps s = of_all Ps s (λ ds v. v ≡ rec (fields_by ns ds)) (λ ds. equal_one (rec (fields_by ns ds)))

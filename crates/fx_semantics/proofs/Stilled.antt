@@ -1,16 +1,18 @@
 -- A node whose parts do nothing has the type that it has.
 use Rattle.std.proofs.Common.{◌≡◌, ℕ, suc, List, [], ◌∷◌, ◌++◌, length, false, Option, Some, None, Result, Ok, Err, inl, refl, subst, ap, ◌∙◌}
+use Rattle.std.specs.Prelude.{◌&&◌, if◌then◌else◌}
 use Rattle.fx_types.specs.Types.{Shape, blanks, records, tables, ColumnList}
 use Rattle.fx_types.specs.Values.{blank, text}
 use Rattle.fx_semantics.specs.Sound.{AreLawfulTrees, AreLawfulTypes, IsLawfulTree, IsLawfulType}
 use Rattle.fx_core.specs.declared.rows.Answer.{Answer}
 use Rattle.fx_core.specs.declared.rows.Answer.TheVariants as answer
 use Rattle.fx_core.specs.Rows.{form_row, row_of}
+use Rattle.fx_core.specs.Rules as rules
 use Rattle.fx_core.specs.Term.{Term, Terms, of, nil, cons, Top}
 use Rattle.fx_core.specs.Term as top
 use Rattle.fx_typing.specs.Acts.{is_acting}
-use Rattle.fx_typing.specs.Columns.{added, by_label, label_of, names_there, columns_renamed}
-use Rattle.fx_core.specs.ColumnLists.{and_then, field_in, if_there, columns_only, with_new, with_renamed, without_all}
+use Rattle.fx_typing.specs.Columns.{added, are_keys, by_label, grouped, grouped_by, is_key, label_of, last_label, names_there, columns_renamed, ungrouped, with_group}
+use Rattle.fx_core.specs.ColumnLists.{and_then, before_last, field_in, if_free, if_there, columns_only, with_new, with_renamed, without_all}
 use Rattle.fx_typing.specs.WellTyped.{Context, IsRuled, IsTyped, AreTyped, answered_type, as_table, context_for, typed_pairs, parts_count, standing_at}
 
 -- a tree that has every type and does nothing; a name of a column stays
@@ -93,6 +95,33 @@ same_renamed [] cs = refl
 same_renamed (x ∷ []) cs = refl
 same_renamed (x ∷ y ∷ xs) cs = named_same x.0 _ _ (λ n. named_same y.0 _ _ (λ m. then_same (with_renamed n m cs) _ _ (λ ds. same_renamed xs ds)))
 
+same_last : (xs : List (Term × Shape)) → last_label (stilled xs) ≡ last_label xs
+same_last [] = refl
+same_last (x ∷ []) = same_label x.0
+same_last (x ∷ y ∷ xs) = same_last (y ∷ xs)
+
+same_before : (xs : List (Term × Shape)) → before_last (stilled xs) ≡ stilled (before_last xs)
+same_before [] = refl
+same_before (x ∷ []) = refl
+same_before (x ∷ y ∷ xs) = ap (λ ys. (still x.0, x.1) ∷ ys) (same_before (y ∷ xs))
+
+same_keys : (xs : List (Term × Shape)) (cs : ColumnList) → are_keys (stilled xs) cs ≡ are_keys xs cs
+same_keys [] cs = refl
+same_keys (x ∷ xs) cs = λ i. is_key (same_label x.0 i) cs && same_keys xs cs i
+
+same_grouped_by : (g : List ℕ) (xs : List (Term × Shape)) (cs : ColumnList) → grouped_by g (stilled xs) cs ≡ grouped_by g xs cs
+same_grouped_by g xs cs = λ i. if same_keys xs cs i then and_then (same_names xs cs i) (λ ns. Ok (with_group g ns cs)) else Err rules.wrong_type
+
+same_grouped : (xs : List (Term × Shape)) (cs : ColumnList) → grouped (stilled xs) cs ≡ grouped xs cs
+same_grouped xs cs =
+    ap (λ o. by_label o (λ g. and_then (if_free (field_in g cs) cs) (λ ds. grouped_by g (before_last (stilled xs)) ds))) (same_last xs)
+    ∙ label_same (last_label xs) _ _ (λ g. then_same (if_free (field_in g cs) cs) _ _ (λ ds. ap (λ ys. grouped_by g ys ds) (same_before xs) ∙ same_grouped_by g (before_last xs) ds))
+
+same_ungrouped : (xs : List (Term × Shape)) (cs : ColumnList) → ungrouped (stilled xs) cs ≡ ungrouped xs cs
+same_ungrouped [] cs = refl
+same_ungrouped (x ∷ []) cs = named_same x.0 _ _ (λ g. refl)
+same_ungrouped (x ∷ y ∷ xs) cs = refl
+
 same_answer : (a : Answer) (common : Shape) (xs : List (Term × Shape)) → answered_type a common (stilled xs) ≡ answered_type a common xs
 same_answer (answer.Scalar s) common xs = refl
 same_answer answer.Common common xs = refl
@@ -100,6 +129,8 @@ same_answer answer.Added common ((x, tables cs) ∷ xs) = ap as_table (same_adde
 same_answer answer.Dropped common ((x, tables cs) ∷ xs) = ap (λ r. as_table (and_then r (λ ns. Ok (without_all ns cs)))) (same_names xs cs)
 same_answer answer.Shown common ((x, tables cs) ∷ xs) = ap (λ r. as_table (and_then r (λ ns. Ok (columns_only ns cs)))) (same_names xs cs)
 same_answer answer.Renamed common ((x, tables cs) ∷ xs) = ap as_table (same_renamed xs cs)
+same_answer answer.Grouped common ((x, tables cs) ∷ xs) = ap as_table (same_grouped xs cs)
+same_answer answer.Ungrouped common ((x, tables cs) ∷ xs) = ap as_table (same_ungrouped xs cs)
 same_answer answer.Found common (x ∷ y ∷ z ∷ xs) = refl
 same_answer answer.Values common (x ∷ y ∷ xs) = refl
 same_answer answer.Each common (x ∷ y ∷ xs) = refl

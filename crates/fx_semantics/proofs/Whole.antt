@@ -119,6 +119,8 @@ first_table fun.AddColumns e m common u h = h
 first_table fun.DropColumns e m common u h = h
 first_table fun.ShowColumns e m common u h = h
 first_table fun.RenameColumns e m common u h = h
+first_table fun.GroupBy e m common u h = h
+first_table fun.Ungroup e m common u h = h
 first_table fun.Distinct e m common u h = h
 first_table fun.ForAll e m common u h = h
 first_table fun.Concat e m common u h = h
@@ -153,8 +155,7 @@ over_fits g c rows item caught s f n (cons t0 ts) [] t l k r v h = absurd k
 over_fits g c rows item caught s f n (cons t0 ts) (u ∷ us) t l k r v h =
     let x = first_table f r.0 (suc (length us)) r.1.1 u r.1.2.0 in
     let P : Shape → Type 0 = λ z. OverFits g c rows item caught f z in
-    let rising : Rises x.0 = rises_of x.0 (subst IsLawfulType x.1 l.0) in
-    let law = subst P (sym x.1) (over_table g c rows item caught s x.0 rising f) in
+    let law = subst P (sym x.1) (over_table g c rows item caught s x.0 (subst IsLawfulType x.1 l.0) f) in
     law n (suc (length us)) t0 ts us r.1.1 t k r.1.2.1 r.1.3 v h
 
 form_fits : (g : Giving) (c : Context) (rows : List Data) (item : Option Data) (caught : Option Fault) → Suits g c rows item →
@@ -211,6 +212,7 @@ node_fits g c (top.call f) ts us t l ls k r = λ rows item caught v s p.
     call_fits g c rows item caught s f r.0 ts (meanings ts) us r.1.1 t
     (all_quiet g c (top.call f) (parts_count ts) (λ i. call_quiet f r.0 (parts_count ts) i) [] (meanings ts) us k) r.1.2 r.1.3 v p
 node_fits g c (top.over f) ts us t l ls k r = λ rows item caught v s p. over_fits g c rows item caught s f (parts_count ts) ts us t ls k r v p
+node_fits g c (top.user f) ts us t l ls k r = λ rows item caught v s p. absurd p
 node_fits g c (top.form f) ts us t l ls k r = λ rows item caught v s p.
     form_fits g c rows item caught s f ts us t
     (all_quiet g c (top.form f) (parts_count ts) (λ i. form_quiet f (parts_count ts) i) [] (meanings ts) us k) r v p

@@ -211,7 +211,7 @@ names_stay K g (P ∷ Ps) k a m (n ∷ ns) h = (k.0 a (text n) m h.0, names_stay
 names_stay K g [] k a m (n ∷ ns) h = absurd h
 names_stay K g (P ∷ Ps) k a m [] h = absurd h
 
-named_stays : (K : Sources) (g : Giving) (made : List (List ℕ) → List Row) (Ps : List Meaning) → AllStay K g Ps → Stays K g (MakesByNames made Ps)
+named_stays : (K : Sources) (g : Giving) (made : List (List ℕ) → Data) (Ps : List Meaning) → AllStay K g Ps → Stays K g (MakesByNames made Ps)
 named_stays K g made Ps k a v m h = (h.0, names_stay K g Ps k a m h.0 h.1, h.2)
 
 new_stay : (K : Sources) (g : Giving) (rows : List Row) (Ps : List Meaning) → AllStay K g Ps → (a : Around) → GivesMoreOf K g a → (cs : List (List ℕ × List Data)) →
@@ -247,6 +247,8 @@ made_stays K g fun.AverageRows rows Ps k a v m h = of_each K g rows Ps k a m _ h
 made_stays K g fun.AddColumns rows Ps k a v m h = (h.0, new_stay K g rows Ps k a m h.0 h.1, h.2)
 made_stays K g fun.DropColumns rows Ps k a v m h = named_stays K g _ Ps k a v m h
 made_stays K g fun.ShowColumns rows Ps k a v m h = named_stays K g _ Ps k a v m h
+made_stays K g fun.GroupBy rows Ps k a v m h = named_stays K g _ Ps k a v m h
+made_stays K g fun.Ungroup rows Ps k a v m h = named_stays K g _ Ps k a v m h
 made_stays K g fun.RenameColumns rows Ps k a v m h = (h.0, pairs_stay K g Ps k a m h.0 h.1, h.2)
 made_stays K g fun.Distinct rows Ps k a v m h = of_each K g rows Ps k a m _ h
 made_stays K g fun.ForAll rows Ps k a v m h = of_each K g rows Ps k a m _ h
@@ -280,6 +282,7 @@ node_stays K g top.caught Ps r k a v m h = h
 node_stays K g (top.dot n) Ps r k a v m h = of_one K g Ps k a m _ h
 node_stays K g (top.call f) Ps r k a v m h = called_stays K g f Ps k a v m h
 node_stays K g (top.over f) Ps r k a v m h = over_stays K g f Ps k a v m h
+node_stays K g (top.user f) Ps r k a v m h = absurd h
 node_stays K g (top.form f) Ps r k a v m h = formed_stays K g f Ps k a v m h
 node_stays K g top.within Ps r k a v m h = within_stays K g Ps k a v m h
 node_stays K g (top.rec ns) Ps r k a v m h = of_all K g Ps k a m _ h

@@ -47,7 +47,9 @@ abbrev pub IsWithin : List Meaning → Meaning
 IsWithin (P ∷ F ∷ []) a v = (w : Data) × P a w × ErrorOr w (F (inside a w) v) v
 IsWithin Ps a v = ⊥
 
--- what a node means, by its head and the meanings of its parts. A part that acts has no value here.
+-- what a node means, by its head and the meanings of its parts. A part that acts has no value here,
+-- and neither has a call of a function of the app's own, which is expanded before anything is
+-- evaluated.
 abbrev pub IsNode : Top → List Meaning → Meaning
 IsNode (top.const d) Ps a v = v ≡ d
 IsNode (top.read s) Ps a v = a.gives s v
@@ -57,6 +59,7 @@ IsNode top.caught Ps a v = IsCaught a.caught v
 IsNode (top.dot n) Ps a v = OfOne Ps a (λ d. v ≡ field_of n d)
 IsNode (top.call f) Ps a v = IsCalled f Ps a v
 IsNode (top.over f) Ps a v = IsTableCall f Ps a v
+IsNode (top.user f) Ps a v = ⊥
 IsNode (top.form f) Ps a v = IsFormed f Ps a v
 IsNode top.within Ps a v = IsWithin Ps a v
 IsNode (top.rec ns) Ps a v = OfAll Ps a (λ ds. v ≡ rec (fields_by ns ds))

@@ -1,8 +1,7 @@
 -- The functions of tables: from the rows, and from the meanings of the other parts.
 use Rattle.std.specs.Prelude.{◌≡◌, ℕ, Bool, true, false, List, [], ◌∷◌, map, length, Option, Some}
 use Rattle.std.specs.Prelude.{None}
-use Rattle.fx_types.specs.Values.{Data, text, rec, tab, FieldList, no_fields, field, RowList}
-use Rattle.fx_types.specs.Values.{no_rows, row, row_list}
+use Rattle.fx_types.specs.Values.{Data, text, rec}
 use Rattle.fx_core.specs.declared.functions.Fun.{Fun}
 use Rattle.fx_core.specs.declared.functions.Fun.TheVariants as fun
 use Rattle.fx_core.specs.declared.literals.SortOrder.{SortOrder}
@@ -13,29 +12,11 @@ use Rattle.fx_tables.specs.ColumnCalls.{renamed_columns, with_columns, without_c
 use Rattle.fx_tables.specs.Ends.{emptiness_of, first_rows, last_of, last_rows}
 use Rattle.fx_tables.specs.RowCalls.{IsCountIfOf, IsCountValue, IsSortOf, distinct_or, filtered}
 use Rattle.fx_tables.specs.RowCalls.{first_row_record, for_all_of, looked_up, verdict_of}
+pub use Rattle.fx_tables.specs.TableRows.{fields_of, rows_of, rows_in, table_of}
 use Rattle.fx_value.specs.Columns.{Row, fields_only}
+use Rattle.fx_tables.specs.Groups.{grouped_by, ungrouped_by}
 use Rattle.fx_scalar.specs.LazyForms.{ErrorOr}
 use Rattle.fx_semantics.specs.Around.{Around, Meaning, AreEach, AreValues, inside}
-
--- ---- rows
-
--- the fields of a record, one after another
-abbrev pub fields_of : FieldList → Row
-fields_of no_fields = []
-fields_of (field n d fs) = (n, d) ∷ fields_of fs
-
--- the rows of a table, one after another
-abbrev pub rows_of : RowList → List Row
-rows_of no_rows = []
-rows_of (row fs rs) = fields_of fs ∷ rows_of rs
-
--- the rows in a value; a blank table has none
-abbrev pub rows_in : Data → List Row
-rows_in (tab rs) = rows_of rs
-rows_in d = []
-
-abbrev pub table_of : List Row → Data
-table_of rows = tab (row_list rows)
 
 -- ---- formulas
 
@@ -101,9 +82,9 @@ AreRenamings [] a [] = Unit {0}
 AreRenamings (N ∷ M ∷ Ps) a (p ∷ ps) = N a (text p.0) × M a (text p.1) × AreRenamings Ps a ps
 AreRenamings Ps a ps = ⊥
 
--- the rows that are made by the names of columns
-abbrev pub MakesByNames : (List (List ℕ) → List Row) → List Meaning → Meaning
-MakesByNames made Ps a v = (ns : List (List ℕ)) × AreNames Ps a ns × (v ≡ table_of (made ns))
+-- what is made by the names of columns
+abbrev pub MakesByNames : (List (List ℕ) → Data) → List Meaning → Meaning
+MakesByNames made Ps a v = (ns : List (List ℕ)) × AreNames Ps a ns × (v ≡ made ns)
 
 -- ---- the table: what a function makes of the rows
 abbrev pub IsMade : Fun → List Row → List Meaning → Meaning
@@ -123,10 +104,13 @@ IsMade fun.MaxRows rows Ps a v = OfEach rows Ps a (λ ds. IsGreatestOf ds v)
 IsMade fun.AverageRows rows Ps a v = OfEach rows Ps a (λ ds. v ≡ averaged ds)
 IsMade fun.AddColumns rows Ps a v = (cs : List (List ℕ × List Data)) × AreNew rows Ps a cs
     × (v ≡ table_of (with_columns cs rows))
-IsMade fun.DropColumns rows Ps a v = MakesByNames (λ ns. without_columns ns rows) Ps a v
-IsMade fun.ShowColumns rows Ps a v = MakesByNames (λ ns. map (fields_only ns) rows) Ps a v
+IsMade fun.DropColumns rows Ps a v = MakesByNames (λ ns. table_of (without_columns ns rows)) Ps a v
+IsMade fun.ShowColumns rows Ps a v = MakesByNames (λ ns. table_of (map (fields_only ns) rows)) Ps a
+    v
 IsMade fun.RenameColumns rows Ps a v = (ps : List (List ℕ × List ℕ)) × AreRenamings Ps a ps
     × (v ≡ table_of (renamed_columns ps rows))
+IsMade fun.GroupBy rows Ps a v = MakesByNames (λ ns. grouped_by ns rows) Ps a v
+IsMade fun.Ungroup rows Ps a v = MakesByNames (λ ns. ungrouped_by ns rows) Ps a v
 IsMade fun.Distinct rows Ps a v = OfEach rows Ps a (λ ds. v ≡ distinct_or ds)
 IsMade fun.ForAll rows Ps a v = OfEach rows Ps a (λ ds. v ≡ for_all_of ds)
 IsMade fun.Concat rows Ps a v = IsConcat rows Ps a v

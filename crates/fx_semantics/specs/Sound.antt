@@ -1,5 +1,6 @@
 -- What the value of a well typed tree fits.
 use Rattle.std.specs.Prelude.{◌≡◌, ℕ, true, List, [], ◌∷◌, ◌++◌, length, Option, Some, None}
+use Rattle.std.specs.Prelude.{slice_get}
 use Rattle.fx_types.specs.declared.faults.Fault.{Fault}
 use Rattle.fx_types.specs.Types.{Shape}
 use Rattle.fx_types.specs.Values.{Data}
@@ -34,6 +35,8 @@ pub record IsLawfulContext (c : Context) : Type 0 where
   pub of_sources : (s : Source) (t : Shape) → c.sources s ≡ Some t → IsLawfulType t
   pub of_scopes : AreLawfulTypes c.rows
   pub of_item : (t : Shape) → c.item ≡ Some t → IsLawfulType t
+  pub of_functions : (k : ℕ) (us : List Shape) (t : Shape) → slice_get c.functions k ≡ Some (us, t)
+      → IsLawfulType t
 
 -- a tree that doesn't act, and whose named types are lawful
 abbrev pub NamesLawful : Top → Type 0

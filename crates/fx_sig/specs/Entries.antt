@@ -157,6 +157,8 @@ entries =
     ∷ calls (codes "DropColumns") fun.DropColumns
     ∷ calls (codes "ShowColumns") fun.ShowColumns
     ∷ calls (codes "RenameColumns") fun.RenameColumns
+    ∷ calls (codes "GroupBy") fun.GroupBy
+    ∷ calls (codes "Ungroup") fun.Ungroup
     ∷ calls (codes "Distinct") fun.Distinct
     ∷ calls (codes "ForAll") fun.ForAll
     ∷ special_entry (codes "With") shape.With 2 2

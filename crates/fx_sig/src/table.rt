@@ -7,7 +7,7 @@ use fx_core::functions::{Acting, Form, Fun};
 use fx_core::literals::SortOrder;
 use fx_core::signatures::{SigShape, Signature, signature_in};
 
-static ALL: [Signature; 79] = [
+static ALL: [Signature; 81] = [
     Signature {
         name: "Abs",
         shape: SigShape::One(Fun::Abs),
@@ -440,6 +440,20 @@ static ALL: [Signature; 79] = [
         shape: SigShape::One(Fun::RenameColumns),
         least: 3,
         most: 255,
+        acts: false,
+    },
+    Signature {
+        name: "GroupBy",
+        shape: SigShape::One(Fun::GroupBy),
+        least: 3,
+        most: 255,
+        acts: false,
+    },
+    Signature {
+        name: "Ungroup",
+        shape: SigShape::One(Fun::Ungroup),
+        least: 2,
+        most: 2,
         acts: false,
     },
     Signature {

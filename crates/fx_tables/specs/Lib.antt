@@ -5,6 +5,8 @@ pub mod Unions
 pub mod AggregateCalls
 pub mod ColumnCalls
 pub mod Ends
+pub mod Groups
 pub mod Laws
 pub mod NewColumn
 pub mod RowCalls
+pub mod TableRows

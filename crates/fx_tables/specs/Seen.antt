@@ -21,7 +21,7 @@ abbrev pub is_key_among : List ℕ → List Data → Bool
 is_key_among k ds = list_any (λ e. is_eq (slice_cmp nat_cmp (key_bytes e) k)) ds
 
 -- the rows hold each of these values once, and the set holds their keys
-pub record HoldsFirsts (seen : BTreeSet (Vec ℕ Global)) (rows : List Row) (ds : List Data)
-    : Type 0 where
+pub record HoldsFirsts (seen : BTreeSet (Vec ℕ Global)) (rows : List Row) (ds : List Data) :
+    Type 0 where
   pub rows_are : rows ≡ map value_row (distinct_of ds)
   pub keys_are : (k : Vec ℕ Global) → contains key_order seen k ≡ is_key_among k.items ds

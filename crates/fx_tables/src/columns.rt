@@ -85,7 +85,8 @@ fn rows_without(alloc: Global, rows: Rows, name: &Words) -> Result<Rows, Memory>
     let items = rows.into_items();
     let mut kept = Vec::with_capacity(alloc, items.len())?;
     for row in items {
-        kept.push(without(row, name))?;
+        let (_, others) = take_field(row, name);
+        kept.push(others)?;
     }
     Ok(Rows::from_items(kept))
 }
@@ -102,8 +103,8 @@ fn rename_rows(alloc: Global, rows: Rows, from: &Words, to: &Words) -> Result<Ro
     Ok(Rows::from_items(changed))
 }
 
-// A record with one more field.
-fn with_field(row: Fields, name: Words, value: Value) -> Result<Fields, Memory>
+/// A record with one more field.
+pub fn with_field(row: Fields, name: Words, value: Value) -> Result<Fields, Memory>
     requires { item_named name row ≡ None }
     ensures { IfOk result (λ f. f ≡ with_field_of name (view value) row) }
 {
@@ -127,13 +128,14 @@ fn place_of(items: &[(Words, Value)], name: &Words) -> usize
     items.len()
 }
 
-// A record without a field.
-fn without(row: Fields, name: &Words) -> Fields
-    ensures { result ≡ without_of name.now row }
+/// The value of a record's field, blank where it is missing, and the record without the field.
+pub fn take_field(row: Fields, name: &Words) -> (Value, Fields)
+    ensures value { view result.0 ≡ unwrap_or (item_named name.now row) blank }
+    ensures others { result.1 ≡ without_of name.now row }
 {
     let mut items = row.into_items();
-    let _ = take_value(&mut items, name);
-    Fields::from_rising(items)
+    let value = take_value(&mut items, name);
+    (value, Fields::from_rising(items))
 }
 
 // A record with the fields of these names alone.
@@ -156,9 +158,8 @@ fn rename_field(row: Fields, from: &Words, to: Words) -> Result<Fields, Memory>
     requires { item_named to row ≡ None }
     ensures { IfOk result (λ f. f ≡ renamed_of from.now to row) }
 {
-    let mut items = row.into_items();
-    let value = take_value(&mut items, from);
-    with_field(Fields::from_rising(items), to, value)
+    let (value, others) = take_field(row, from);
+    with_field(others, to, value)
 }
 
 // The value under a name, which is taken out, or blank where it is missing.

@@ -3,13 +3,13 @@ use Rattle.std.proofs.Common.{◌≡◌, ℕ, zero, suc, ◌++◌, List, [], ◌
 use Rattle.std.specs.Prelude.{is_some}
 use Rattle.std.proofs.Math.Bool.{or-false}
 use Rattle.std.proofs.lemmas.List.{map_push}
-use Rattle.fx_types.specs.Types.{Shape, booleans}
+use Rattle.fx_types.specs.Types.{Shape}
 use Rattle.fx_core.specs.declared.deeds.Deed.TheVariants as deed
 use Rattle.fx_core.specs.declared.functions.Acting.{Acting}
 use Rattle.fx_core.specs.declared.functions.Acting.TheVariants as acts
 use Rattle.fx_core.specs.declared.signatures.SigShape.TheVariants as sig
 use Rattle.fx_core.specs.Tree as tree
-use Rattle.fx_core.specs.Term.{Term, act}
+use Rattle.fx_core.specs.Term.{Term}
 use Rattle.fx_typing.specs.Meaning.{Place, Scope}
 use Rattle.fx_typing.specs.WellTyped.{Context, plain, inside}
 use Rattle.fx_typing.proofs.Rules.{Typed}
@@ -21,12 +21,12 @@ use Rattle.fx_typing.specs.Plans.{ArgumentRule, if_acting, first_then, plan_act,
 use Rattle.fx_typing.specs.Targets.{target_columns}
 use Rattle.fx_typing.specs.Typing.{context_of}
 use Rattle.fx_typing.proofs.Changes.{patch_typed, remove_typed, remove_if_typed, update_if_typed, navigate_typed, notify_typed, reset_typed}
-use Rattle.fx_typing.proofs.Deeds.{Of, by_name_ok, set_typed, update_typed, collects, clears_and_collects, collect_typed, clear_typed}
+use Rattle.fx_typing.proofs.Deeds.{Of, nothing_typed, by_name_ok, set_typed, update_typed, collects, clears_and_collects, collect_typed, clear_typed}
 use Rattle.fx_typing.proofs.Filters.{in_row}
 use Rattle.fx_typing.proofs.Frame.{PartTyped, PartsTypedAt}
 use Rattle.fx_typing.proofs.Built.{within_limit}
 use Rattle.fx_typing.proofs.Operators.{then_ok}
-use Rattle.fx_typing.proofs.Steps.{place_at, EachTyped, each_plain, values_typed, typed_by}
+use Rattle.fx_typing.proofs.Steps.{place_at, EachTyped, each_plain, values_typed}
 use Rattle.fx_typing.proofs.RelatedSteps.{ok_is}
 
 -- where the parts of an acting call stand
@@ -132,10 +132,7 @@ module _ (p : Place) (s : Setting) (x : List ℕ) (qs : List JudgedPart) (y : Te
       plainly_acts acts.Reset (λ b i. first_plain a_target nothing i)
       (λ h m. by_name_typed (context_of p s) qs (reset_of p.names) y h (λ l rs k i. reset_typed p.names (context_of p s) l rs y known i) m)
 
--- a deed that changes nothing, and what stands for a value of a wrong type until the types are settled
-nothing_typed : (c : Context) → Typed c nothing_done
-nothing_typed c = typed_by c (act (deed.UpdateContext [])) [] booleans (λ m k. refl) tt (refl, refl)
-
+-- what stands for a value of a wrong type until the types are settled
 settled_typed : (c : Context) (b : Bool) (r : Result (Term × Shape) ℕ) (y : Term × Shape) → (r ≡ Ok y → Typed c y) → until_settled b r ≡ Ok y → Typed c y
 settled_typed c b (Ok x) y typed e = typed e
 settled_typed c b (Err n) y typed e = by_rule (not b && nat_eq n 11) e

@@ -1,5 +1,5 @@
 -- What `With`, `Table` and `Defaults` make of well typed parts is well typed.
-use Rattle.std.proofs.Common.{◌≡◌, ℕ, ◌++◌, List, [], ◌∷◌, Bool, true, false, ◌&&◌, not, nat_lt, length, bytes_eq, Result, Ok, Err, refl, ap, sym, subst, ◌∙◌, inr, if◌then◌else◌}
+use Rattle.std.proofs.Common.{◌≡◌, ℕ, ◌++◌, List, [], ◌∷◌, Bool, true, false, ◌&&◌, not, nat_lt, length, bytes_eq, Result, Ok, Err, refl, ap, sym, subst, ◌∙◌, inl, inr, if◌then◌else◌}
 use Rattle.std.specs.Prelude.{Option, Some, None}
 use Rattle.std.proofs.lemmas.Slice.Eq.{bytes_eq-Decides}
 use Rattle.std.proofs.Math.Bool.{or-false}
@@ -16,14 +16,14 @@ use Rattle.fx_typing.specs.Ways.{Way, same, changed, refused, way}
 use Rattle.fx_typing.specs.WellTyped.{Context, PartScope, plain, bound, AreAllOfShape, target_source, HasColumns, IsRuled, parts_count, IsTyped, AreTyped}
 use Rattle.fx_typing.proofs.Rules.{Typed, seconds}
 use Rattle.fx_typing.proofs.Same.{way_same}
-use Rattle.fx_typing.specs.Builds.{is_bounded, bounded, rows_to, list_by, list_as, typed_table, as_record, with_of, blank_fields, blank_record}
+use Rattle.fx_typing.specs.Builds.{is_bounded, bounded, rows_to, list_by, list_as, as_table_call, typed_table, as_record, with_of, blank_fields, blank_record}
 use Rattle.fx_typing.specs.Calls.{defaults_of}
 use Rattle.fx_typing.specs.Deeds.{by_first_name}
 use Rattle.fx_typing.specs.Parts.{JudgedPart, piece, Setting, put_value, values, unless_rule}
 use Rattle.fx_typing.specs.Plans.{plan_with, first_record, record_type}
-use Rattle.fx_typing.specs.Targets.{rows_named}
+use Rattle.fx_typing.specs.Targets.{AreRows, some_table, no_table, rows_named}
 use Rattle.fx_typing.specs.Typing.{context_of}
-use Rattle.fx_typing.proofs.Deeds.{Of, by_name_ok, by_rows_ok, has_columns}
+use Rattle.fx_typing.proofs.Deeds.{Of, by_columns_ok, by_name_ok, has_columns}
 use Rattle.fx_typing.proofs.Frame.{AllTyped}
 use Rattle.fx_typing.proofs.Places.{PartsStand, flat_stood, stood}
 use Rattle.fx_typing.proofs.Operators.{plainly_placed, then_ok}
@@ -121,11 +121,18 @@ list_as_typed c (Some (tables cs)) xs x h e = absurd cc
 list_as_typed c (Some blanks) xs x h e = list_by_typed c blanks xs x refl h e
 list_as_typed c (Some t) xs x h e = list_by_typed c t xs x refl h e
 
+-- the call of `Table` has the type of its list
+table_call_typed : (c : Context) (y : Term × Shape) → Typed c y → Typed c (as_table_call y)
+table_call_typed c y h = (y.1 ∷ [], (y.1, [], refl, h, refl), (refl, (refl, blanks, (tt, tt), refl)))
+
 pub table_typed : (p : Place) (s : Setting) (qs : List JudgedPart) (x : Term × Shape) → PartsStand p s plainly_placed [] qs →
     and_then (values qs) typed_table ≡ Ok x → Typed (context_of p s) x
 table_typed p s qs x t e =
     let a = then_ok (values qs) typed_table x e in
-    list_as_typed (context_of p s) (join_all (Some (records no_columns)) a.0) a.0 x (values_typed p s [] qs a.0 a.1 t) a.2
+    let joined = join_all (Some (records no_columns)) a.0 in
+    let b = then_ok (list_as joined a.0) (λ y. Ok (as_table_call y)) x a.2 in
+    subst (Typed (context_of p s)) (ok_is (as_table_call b.0) x b.2)
+    (table_call_typed (context_of p s) b.0 (list_as_typed (context_of p s) joined a.0 b.0 (values_typed p s [] qs a.0 a.1 t) b.1))
 
 -- `With`: a record, and a formula in its scope
 abbrev pub with_placed : Bool → List JudgedPart → PartScope
@@ -196,5 +203,9 @@ blank_typed c t cs h = ([], refl, (blanks_fit cs, inr (t, cs, h, refl)))
 pub defaults_typed : (c : Context) (n : Names) (qs : List JudgedPart) (x : Term × Shape) → Of n c → by_first_name qs (defaults_of n) ≡ Ok x → Typed c x
 defaults_typed c n qs x here e =
     let b = by_name_ok qs (defaults_of n) x e in
-    let r = by_rows_ok (rows_named n b.0) (λ (r : Target × ColumnList). Ok (blank_record r.1)) x b.3 in
-    subst (Typed c) (ok_is (blank_record r.1) x r.3) (blank_typed c r.0 r.1 (here (target_source r.0) ∙ has_columns n b.0 r.0 r.1 r.2))
+    let r = by_columns_ok (rows_named n b.0) (λ cs. Ok (blank_record cs)) x b.3 in
+    subst (Typed c) (ok_is (blank_record r.1) x r.4) (by_rows b.0 r.0 r.1 r.2 r.3)
+  where
+    by_rows : (m : List ℕ) (t : Target) (cs : ColumnList) (blank : Bool) → AreRows (rows_named n m) t cs blank → Typed c (blank_record cs)
+    by_rows m t cs blank (some_table i) = blank_typed c t cs (here (target_source t) ∙ has_columns n m t cs i)
+    by_rows m t cs blank (no_table i) = ([], refl, (refl, inl tt))

@@ -21,8 +21,8 @@ use Rattle.fx_typing.proofs.Same.{shape_same}
 use Rattle.fx_typing.specs.Builds.{types_of}
 use Rattle.fx_typing.specs.Deeds.{done_by, is_type, joins_to, misfit, settable, when_columns, by_id, row_typed, rows_named_by, leaves_id, row_of_one, change_of, changes_of, patch_to, patch_of, remove_of, filter_of, remove_if, update_to, update_if, navigate_of, notify_of, reset_by, reset_of}
 use Rattle.fx_typing.specs.Parts.{JudgedPart, target, values, pieces}
-use Rattle.fx_typing.specs.Targets.{screen_named, control_named, rows_named, columns_or_none, target_columns}
-use Rattle.fx_typing.proofs.Deeds.{Of, if_known_ok, by_rows_ok, has_columns}
+use Rattle.fx_typing.specs.Targets.{AreRows, some_table, no_table, screen_named, control_named, rows_named, columns_or_none, target_columns}
+use Rattle.fx_typing.proofs.Deeds.{Of, if_known_ok, by_rows_ok, nothing_typed, rows_typed}
 use Rattle.fx_typing.proofs.Filters.{in_row, filter_typed, filter_made}
 use Rattle.fx_typing.proofs.Frame.{AllTyped}
 use Rattle.fx_typing.proofs.Names.{found, read_typed}
@@ -134,17 +134,16 @@ pub patch_typed : (n : Names) (c : Context) (x : List ℕ) (qs : List JudgedPart
 patch_typed n c x qs y here h e =
     let a = then_ok (values qs) _ y e in
     let r = by_rows_ok (rows_named n x) (λ r. patch_to r a.0) y a.2 in
-    patch_to_typed c r.0 r.1 a.0 y (here (target_source r.0) ∙ has_columns n x r.0 r.1 r.2) (values_typed c qs a.0 a.1 h) r.3
+    subst (Typed c) r.6 (rows_typed n c x r.0 r.1 r.2 r.3 here r.4 (λ has. patch_to_typed c r.0 r.1 a.0 r.3 has (values_typed c qs a.0 a.1 h) r.5))
 
 pub remove_typed : (n : Names) (c : Context) (x : List ℕ) (qs : List JudgedPart) (y : Term × Shape) → Of n c → EachTyped c qs → remove_of n x qs ≡ Ok y → Typed c y
 remove_typed n c x qs y here h e =
     let a = then_ok (values qs) _ y e in
     let r = by_rows_ok (rows_named n x) _ y a.2 in
-    let b = then_ok (rows_named_by r.0 r.1 a.0) (λ ys. Ok (done_by (deed.Remove r.0) (firsts ys))) y r.3 in
+    let b = then_ok (rows_named_by r.0 r.1 a.0) (λ ys. Ok (done_by (deed.Remove r.0) (firsts ys))) r.3 r.5 in
     let more = rows_named_typed c r.0 r.1 a.0 b.0 (values_typed c qs a.0 a.1 h) b.1 in
-    subst (Typed c) (ok_is _ y b.2) (
-    typed_by c (act (deed.Remove r.0)) b.0 booleans (λ m i. refl) more.0 (r.1, here (target_source r.0) ∙ has_columns n x r.0 r.1 r.2, more.1, refl)
-    )
+    subst (Typed c) r.6 (rows_typed n c x r.0 r.1 r.2 r.3 here r.4
+    (λ has. subst (Typed c) (ok_is _ r.3 b.2) (typed_by c (act (deed.Remove r.0)) b.0 booleans (λ m i. refl) more.0 (r.1, has, more.1, refl))))
 
 -- `RemoveIf` and `UpdateIf`: their conditions and changes stand inside a row of the target
 abbrev Filtered : Context → Target → ColumnList → Term × Shape → Type 0
@@ -159,17 +158,19 @@ filter_of_typed c t cs a qs f has h e =
       sym (ap (λ (z : Term × Shape). z.1) k.1),
     )
 
-columns_known : (n : Names) (x : List ℕ) (t : Target) (cs : ColumnList) → rows_named n x ≡ Some (t, tables cs) → target_columns n x ≡ cs
-columns_known n x t cs e = ap columns_or_none e
+columns_known : (n : Names) (x : List ℕ) (t : Target) (cs : ColumnList) (blank : Bool) → AreRows (rows_named n x) t cs blank → target_columns n x ≡ cs
+columns_known n x t cs blank (some_table e) = ap columns_or_none e
+columns_known n x t cs blank (no_table e) = ap columns_or_none e
 
 pub remove_if_typed : (n : Names) (c : Context) (a : Option (List ℕ)) (x : List ℕ) (qs : List JudgedPart) (y : Term × Shape) → Of n c → EachTyped (in_row c (target_columns n x)) qs →
     remove_if n (target a x ∷ qs) ≡ Ok y → Typed c y
 remove_if_typed n c a x qs y here h e =
     let r = by_rows_ok (rows_named n x) _ y e in
-    let b = then_ok (filter_of (r.0, r.1) a qs) (λ f. Ok (done_by (deed.RemoveIf r.0) (f.0 ∷ []))) y r.3 in
-    let has = here (target_source r.0) ∙ has_columns n x r.0 r.1 r.2 in
-    let f = filter_of_typed c r.0 r.1 a qs b.0 has (subst (λ cs. EachTyped (in_row c cs) qs) (columns_known n x r.0 r.1 r.2) h) b.1 in
-    subst (Typed c) (ok_is _ y b.2) (typed_by c (act (deed.RemoveIf r.0)) (b.0 ∷ []) booleans (λ m i. refl) (f.0, tt) (f.1, refl))
+    let b = then_ok (filter_of (r.0, r.1) a qs) (λ f. Ok (done_by (deed.RemoveIf r.0) (f.0 ∷ []))) r.3 r.5 in
+    let k = subst (λ cs. EachTyped (in_row c cs) qs) (columns_known n x r.0 r.1 r.2 r.4) h in
+    subst (Typed c) r.6 (rows_typed n c x r.0 r.1 r.2 r.3 here r.4
+    (λ has. let f = filter_of_typed c r.0 r.1 a qs b.0 has k b.1 in
+    subst (Typed c) (ok_is _ r.3 b.2) (typed_by c (act (deed.RemoveIf r.0)) (b.0 ∷ []) booleans (λ m i. refl) (f.0, tt) (f.1, refl))))
 
 update_to_typed : (c : Context) (t : Target) (cs : ColumnList) (a : Option (List ℕ)) (q : JudgedPart) (xs : List (Term × Shape)) (y : Term × Shape) → HasColumns c t cs →
     EachTyped (in_row c cs) (q ∷ []) → AllTyped (in_row c cs) xs → update_to (t, cs) a q xs ≡ Ok y → Typed c y
@@ -193,8 +194,9 @@ pub update_if_typed : (n : Names) (c : Context) (a : Option (List ℕ)) (x : Lis
 update_if_typed n c a x q qs y here h e =
     let v = then_ok (values qs) _ y e in
     let r = by_rows_ok (rows_named n x) (λ r. update_to r a q v.0) y v.2 in
-    let k = subst (λ cs. EachTyped (in_row c cs) (q ∷ qs)) (columns_known n x r.0 r.1 r.2) h in
-    update_to_typed c r.0 r.1 a q v.0 y (here (target_source r.0) ∙ has_columns n x r.0 r.1 r.2) (k.0, tt) (values_typed (in_row c r.1) qs v.0 v.1 k.1) r.3
+    let k = subst (λ cs. EachTyped (in_row c cs) (q ∷ qs)) (columns_known n x r.0 r.1 r.2 r.4) h in
+    subst (Typed c) r.6 (rows_typed n c x r.0 r.1 r.2 r.3 here r.4
+    (λ has. update_to_typed c r.0 r.1 a q v.0 r.3 has (k.0, tt) (values_typed (in_row c r.1) qs v.0 v.1 k.1) r.5))
 
 pub navigate_typed : (n : Names) (c : Context) (x : List ℕ) (qs : List JudgedPart) (y : Term × Shape) → c.screens ≡ length n.screens → navigate_of n x qs ≡ Ok y → Typed c y
 navigate_typed n c x qs y here e =
@@ -214,7 +216,7 @@ notify_typed c (x ∷ z ∷ xs) y h e = absurd cc
 
 reset_by_typed : (c : Context) (k : ℕ) (o : Option Shape) (y : Term × Shape) → c.sources (source.Input k) ≡ o → reset_by k o ≡ Ok y → Typed c y
 reset_by_typed c k (Some t) y h e = subst (Typed c) (ok_is _ y e) ([], refl, (ap is_some h, refl))
-reset_by_typed c k None y h e = absurd cc
+reset_by_typed c k None y h e = subst (Typed c) (ok_is _ y e) (nothing_typed c)
 
 pub reset_typed : (n : Names) (c : Context) (x : List ℕ) (qs : List JudgedPart) (y : Term × Shape) → Of n c → reset_of n x qs ≡ Ok y → Typed c y
 reset_typed n c x qs y here e =

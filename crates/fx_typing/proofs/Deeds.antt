@@ -1,7 +1,8 @@
 -- Acting calls are well typed.
 use Rattle.std.proofs.Common.{◌≡◌, ℕ, List, [], ◌∷◌, Bool, true, false, map, Option, Some, None, Result, Ok, Err, refl, ap, sym, subst, ◌∙◌, inl, inr, if◌then◌else◌}
 use Rattle.fx_types.specs.TypeView.{shape}
-use Rattle.fx_types.specs.Types.{Shape, blanks, numbers, texts, booleans, dates, records, tables, ColumnList}
+use Rattle.fx_types.specs.Types.{Shape, blanks, numbers, texts, booleans, dates, records, tables, ColumnList, no_columns}
+use Rattle.fx_types.specs.Values.{rec, no_fields}
 use Rattle.fx_core.specs.declared.deeds.Deed.{Deed}
 use Rattle.fx_core.specs.declared.deeds.Deed.TheVariants as deed
 use Rattle.fx_core.specs.declared.deeds.Target.{Target}
@@ -13,16 +14,16 @@ use Rattle.fx_core.specs.declared.names.Names.{Names}
 use Rattle.fx_core.specs.declared.names.Variable.{Variable}
 use Rattle.fx_core.specs.declared.schema.TableShape.{TableShape}
 use Rattle.fx_core.specs.SourceTypes.{columns_of, sources}
-use Rattle.fx_core.specs.Term.{Term, list, act}
+use Rattle.fx_core.specs.Term.{Term, of, nil, const, list, chain, act}
 use Rattle.fx_core.specs.ColumnLists.{row_columns}
 use Rattle.fx_typing.specs.Local.{by_way, firsts, put_first}
 use Rattle.fx_typing.specs.WellTyped.{Context, AreAllOfShape, target_source, HasColumns, IsTyped}
 use Rattle.fx_typing.specs.Ways.{way}
 use Rattle.fx_typing.proofs.Rules.{Typed, put_ok}
 use Rattle.fx_typing.specs.Builds.{types_of}
-use Rattle.fx_typing.specs.Deeds.{done_by, joins_to, given_variable, by_first_name, if_known, by_rows, set_to, set_of, give_one, give_all, given_sources, given_terms, update_of, rows_collected, rows_given, collect_to, collect_of, clear_by, clear_of}
+use Rattle.fx_typing.specs.Deeds.{as_rows, done_by, nothing_as, nothing_done, joins_to, given_variable, by_first_name, if_known, by_rows, by_columns, set_to, set_of, give_one, give_all, given_sources, given_terms, update_of, rows_collected, rows_given, collect_to, collect_of, clear_by, clear_of}
 use Rattle.fx_typing.specs.Parts.{JudgedPart, target, assigned, values}
-use Rattle.fx_typing.specs.Targets.{global_variable, screen_variable, collection_named, table_named, rows_named}
+use Rattle.fx_typing.specs.Targets.{AreRows, some_table, no_table, global_variable, screen_variable, collection_named, table_named, rows_named}
 use Rattle.fx_typing.proofs.Frame.{AllTyped}
 use Rattle.fx_typing.proofs.Names.{or_cases, global_read, context_read, gathered_read, table_read}
 use Rattle.fx_typing.proofs.Operators.{then_ok}
@@ -43,21 +44,33 @@ pub if_known_ok : {A : Type 0} (o : Option A) (go : A → Result (Term × Shape)
 if_known_ok (Some a) go y e = (a, refl, e)
 if_known_ok None go y e = absurd cc
 
-abbrev Rows : Option (Target × Shape) → (Target × ColumnList → Result (Term × Shape) ℕ) → Term × Shape → Type 0
-Rows o go y = (t : Target) × (cs : ColumnList) × (o ≡ Some (t, tables cs)) × (go (t, cs) ≡ Ok y)
+-- the rows of a name, and what was made of them
+abbrev pub IsRows : Option (Target × Shape) → (Target × ColumnList → Result (Term × Shape) ℕ) → Term × Shape → Type 0
+IsRows o go y = (t : Target) × (cs : ColumnList) × (blank : Bool) × (z : Term × Shape) × AreRows o t cs blank × (go (t, cs) ≡ Ok z) × (as_rows blank z ≡ y)
 
-by_rows_at : (t : Target) (u : Shape) (go : Target × ColumnList → Result (Term × Shape) ℕ) (y : Term × Shape) → by_rows (Some (t, u)) go ≡ Ok y → Rows (Some (t, u)) go y
-by_rows_at t (tables cs) go y e = (t, cs, refl, e)
-by_rows_at t blanks go y e = absurd cc
-by_rows_at t numbers go y e = absurd cc
-by_rows_at t texts go y e = absurd cc
-by_rows_at t booleans go y e = absurd cc
-by_rows_at t dates go y e = absurd cc
-by_rows_at t (records cs) go y e = absurd cc
+by_rows_at : (t : Target) (u : Shape) (go : Target × ColumnList → Result (Term × Shape) ℕ) (y : Term × Shape) → by_rows (Some (t, u)) go ≡ Ok y → IsRows (Some (t, u)) go y
+by_rows_at t (tables cs) go y e = (t, cs, false, y, some_table refl, e, refl)
+by_rows_at t blanks go y e =
+    let a = then_ok (go (t, no_columns)) (λ z. Ok (as_rows true z)) y e in
+    (t, no_columns, true, a.0, no_table refl, a.1, ok_is (as_rows true a.0) y a.2)
+by_rows_at t u go y e = absurd cc
 
-pub by_rows_ok : (o : Option (Target × Shape)) (go : Target × ColumnList → Result (Term × Shape) ℕ) (y : Term × Shape) → by_rows o go ≡ Ok y → Rows o go y
+pub by_rows_ok : (o : Option (Target × Shape)) (go : Target × ColumnList → Result (Term × Shape) ℕ) (y : Term × Shape) → by_rows o go ≡ Ok y → IsRows o go y
 by_rows_ok (Some r) go y e = by_rows_at r.0 r.1 go y e
 by_rows_ok None go y e = absurd cc
+
+-- their columns, and what was made of these
+abbrev pub HasRows : Option (Target × Shape) → (ColumnList → Result (Term × Shape) ℕ) → Term × Shape → Type 0
+HasRows o go y = (t : Target) × (cs : ColumnList) × (blank : Bool) × AreRows o t cs blank × (go cs ≡ Ok y)
+
+by_columns_at : (t : Target) (u : Shape) (go : ColumnList → Result (Term × Shape) ℕ) (y : Term × Shape) → by_columns (Some (t, u)) go ≡ Ok y → HasRows (Some (t, u)) go y
+by_columns_at t (tables cs) go y e = (t, cs, false, some_table refl, e)
+by_columns_at t blanks go y e = (t, no_columns, true, no_table refl, e)
+by_columns_at t u go y e = absurd cc
+
+pub by_columns_ok : (o : Option (Target × Shape)) (go : ColumnList → Result (Term × Shape) ℕ) (y : Term × Shape) → by_columns o go ≡ Ok y → HasRows o go y
+by_columns_ok (Some r) go y e = by_columns_at r.0 r.1 go y e
+by_columns_ok None go y e = absurd cc
 
 pub has_columns : (n : Names) (x : List ℕ) (t : Target) (cs : ColumnList) → rows_named n x ≡ Some (t, tables cs) → sources n (target_source t) ≡ Some (tables cs)
 has_columns n x t cs e =
@@ -67,6 +80,22 @@ has_columns n x t cs e =
       | inr i ↦ (let a = option_map_some (λ (c : ℕ × Collection). (rows.Gathered c.0, shape c.1.ty)) (collection_named n x) (t, tables cs) i in
           subst (λ (z : Target × Shape). sources n (target_source z.0) ≡ Some z.1) a.2 (gathered_read n x a.0 a.1))
     ]
+
+-- a deed that changes nothing, and what is answered where rows are none
+pub nothing_typed : (c : Context) → Typed c nothing_done
+nothing_typed c = typed_by c (act (deed.UpdateContext [])) [] booleans (λ m k. refl) tt (refl, refl)
+
+nothing_as_typed : (c : Context) (t : Shape) → Typed c (nothing_as t)
+nothing_as_typed c (records ds) =
+    let row : Typed c (of (const (rec no_fields)) nil, records no_columns) = ([], refl, (refl, inl tt)) in
+    typed_by c chain (nothing_done ∷ (of (const (rec no_fields)) nil, records no_columns) ∷ []) (records no_columns) (λ m k. refl) (nothing_typed c, (row, tt)) refl
+nothing_as_typed c t = nothing_typed c
+
+-- what is made of rows is well typed, where it is so of rows that are there
+pub rows_typed : (n : Names) (c : Context) (x : List ℕ) (t : Target) (cs : ColumnList) (blank : Bool) (z : Term × Shape) → Of n c → AreRows (rows_named n x) t cs blank →
+    (HasColumns c t cs → Typed c z) → Typed c (as_rows blank z)
+rows_typed n c x t cs blank z here (some_table i) typed = typed (here (target_source t) ∙ has_columns n x t cs i)
+rows_typed n c x t cs blank z here (no_table i) typed = nothing_as_typed c z.1
 
 -- a value that is given to a variable
 if_joins : {A : Type 0} (b : Bool) (r q : Result A ℕ) (y : A) → (if b then r else q) ≡ Ok y → (b ≡ false → q ≡ Ok y → ⊥) → (b ≡ true) × (r ≡ Ok y)
@@ -208,7 +237,7 @@ collect_typed d gathers n c x qs y here h e =
 
 clear_by_typed : (c : Context) (k : ℕ) (t : Shape) (y : Term × Shape) → c.sources (source.Gathered k) ≡ Some t → clear_by k t ≡ Ok y → Typed c y
 clear_by_typed c k (tables cs) y h e = subst (Typed c) (ok_is _ y e) ([], refl, (cs, h, refl))
-clear_by_typed c k blanks y h e = absurd cc
+clear_by_typed c k blanks y h e = subst (Typed c) (ok_is _ y e) (nothing_typed c)
 clear_by_typed c k numbers y h e = absurd cc
 clear_by_typed c k texts y h e = absurd cc
 clear_by_typed c k booleans y h e = absurd cc

@@ -12,7 +12,7 @@ use Rattle.fx_typing.specs.LawfulTypes.{IsLawfulType}
 use Rattle.fx_typing.specs.Local.{value, label}
 use Rattle.fx_typing.specs.Meaning.{Place, NameMeaning, valued, controlled, screened, enumerated, in_globals, meaning_of, named}
 use Rattle.fx_typing.proofs.Rules.{Typed}
-use Rattle.fx_typing.specs.Builds.{typed_record, typed_list, are_names_distinct}
+use Rattle.fx_typing.specs.Builds.{typed_record, record_by, put_fields, is_bounded, typed_list, are_names_distinct}
 use Rattle.fx_typing.specs.Parts.{Grant, nothing, acting, an_alias, a_column, a_target, aliased_target, a_meaning, on_screen, JudgedPart, piece, meant, target, assigned, Setting, may_act, plainly, as_part, values, unless_rule}
 use Rattle.fx_typing.specs.Typing.{context_of, constant, left_of_dot, name_by, global_by, dot_by, alias_by, assigned_of, record_as, chain_by, admit}
 use Rattle.fx_typing.proofs.Frame.{AllTyped, PartTyped, PartsTypedAt, IsMeant, AreMeant}
@@ -21,7 +21,7 @@ use Rattle.fx_typing.proofs.Records.{record_typed, list_typed, chain_typed}
 use Rattle.fx_typing.proofs.Built.{within_limit}
 use Rattle.fx_typing.proofs.Operators.{then_ok}
 use Rattle.fx_typing.proofs.Steps.{EachTyped, each_plain, values_typed}
-use Rattle.fx_typing.proofs.RelatedSteps.{as_part_ok}
+use Rattle.fx_typing.proofs.RelatedSteps.{as_part_ok, ok_is}
 
 -- a part that is well typed where the node stands, and that means what it says
 abbrev pub IsSound : Place → Setting → JudgedPart → Type 0
@@ -127,8 +127,10 @@ alias_sound p x s qs q e t m = alias_by_sound p s s.grant x qs q (each_plain p s
 assigned_sound : (p : Place) (s : Setting) (ns : List (List ℕ)) (xs : List (Term × Shape)) (q : JudgedPart) → AllTyped (context_of p s) xs → assigned_of ns xs ≡ Ok q → IsSound p s q
 assigned_sound p s ns xs q h e = by_test (are_names_distinct ns) e
   where
-    by_test : (b : Bool) → if◌then◌else◌ {A = Result JudgedPart ℕ} b (Ok (assigned ns xs)) (Err 5) ≡ Ok q → IsSound p s q
-    by_test true i = let k : assigned ns xs ≡ q = cc in subst (IsSound p s) k (h, tt)
+    by_test : (b : Bool) → if◌then◌else◌ {A = Result JudgedPart ℕ} b (unless_rule (not (is_bounded (record_by (put_fields ns xs)).1)) 13 (Ok (assigned ns xs))) (Err 5) ≡ Ok q → IsSound p s q
+    by_test true i =
+        let bound = is_bounded (record_by (put_fields ns xs)).1 in
+        let k : assigned ns xs ≡ q = ok_is (assigned ns xs) q (within_limit (not bound) 13 (Ok (assigned ns xs)) q i) in subst (IsSound p s) k (h, tt)
     by_test false i = absurd cc
 
 record_as_sound : (p : Place) (s : Setting) (g : Grant) (ns : List (List ℕ)) (xs : List (Term × Shape)) (q : JudgedPart) → AllTyped (context_of p s) xs →

@@ -33,6 +33,7 @@ pub mod Elaborates
 pub mod Befores
 pub mod ColumnLists
 pub mod Pairs
+pub mod GroupNames
 pub mod SameColumns
 pub mod Tellings
 pub mod Stops

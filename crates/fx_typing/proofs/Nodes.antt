@@ -27,7 +27,7 @@ use Rattle.fx_typing.specs.Meaning.{Place, NameMeaning, valued, controlled, scre
 use Rattle.fx_typing.specs.Operators.{function_of}
 use Rattle.fx_typing.specs.WellTyped.{last_type, head_of}
 use Rattle.fx_typing.specs.Breaks.{taken_at, mistells, could_act, gives_variables, large_given}
-use Rattle.fx_typing.specs.Builds.{is_bounded, bounded, types_of, are_names_distinct, record_by, put_fields, typed_record, list_as, typed_list, typed_table, with_of, blank_record}
+use Rattle.fx_typing.specs.Builds.{is_bounded, bounded, types_of, are_names_distinct, record_by, put_fields, typed_record, list_as, typed_list, as_table_call, typed_table, with_of, blank_record}
 use Rattle.fx_typing.specs.Calls.{literal_in, made_if, function_by, made_literal, acted_by, acted_on_screen, acted_or_lowest, defaults_of, called_by, called_with}
 use Rattle.fx_typing.specs.Deeds.{by_first_name, acted, until_settled, nothing_done}
 use Rattle.fx_typing.specs.Plans.{shape_in}
@@ -39,7 +39,8 @@ use Rattle.fx_typing.specs.Nodes
 use Rattle.fx_typing.specs.Nodes.{Called, Node, IsForValue, IsForGlobal, IsForTarget, IsForAlias, IsForRecord}
 use Rattle.fx_typing.specs.Places.{first_part, function_chosen, is_fourth_scope}
 use Rattle.fx_typing.specs.Records.{AreValueParts, left_part, left_meaning, list_join}
-use Rattle.fx_typing.proofs.RelatedActing.{by_rows_ok, by_rows_goes, acts_ok, acts_go, acts_could, acts_give, acts_small}
+use Rattle.fx_typing.proofs.Deeds.{by_columns_ok}
+use Rattle.fx_typing.proofs.RelatedActing.{by_columns_goes, acts_ok, acts_go, acts_could, acts_give, acts_small}
 use Rattle.fx_typing.proofs.PartsOfCalls.{MayBeAll, all_pieces}
 use Rattle.fx_typing.proofs.Taken.{ArePieces, none_taken}
 use Rattle.fx_typing.proofs.RelatedFunctions.{when_ok, stands_goes, made_ok, made_goes}
@@ -106,8 +107,8 @@ module _ (p : Place) (s : Setting) where
 
   defaults_ok : (qs : List JudgedPart) (y : Term × Shape) → by_first_name qs (defaults_of p.names) ≡ Ok y → Called p s sig.Defaults qs y
   defaults_ok (target None x ∷ qs) y e =
-      let b = by_rows_ok (rows_named p.names x) (λ r. Ok (blank_record r.1)) y e in
-      subst (Called p s sig.Defaults (target None x ∷ qs)) (ok_is (blank_record b.1) y b.3) (Nodes.defaults b.2)
+      let b = by_columns_ok (rows_named p.names x) (λ cs. Ok (blank_record cs)) y e in
+      subst (Called p s sig.Defaults (target None x ∷ qs)) (ok_is (blank_record b.1) y b.4) (Nodes.defaults b.3)
   defaults_ok qs y e = absurd cc
 
   with_a_record : (qs : List JudgedPart) (y : Term × Shape) → and_then (values qs) with_of ≡ Ok y → Called p s sig.With qs y
@@ -134,7 +135,10 @@ module _ (p : Place) (s : Setting) where
   called_ok st (sig.Form f) qs y e = Nodes.a_form (forms_ok f (pieces qs) y e)
   called_ok st sig.With qs y e = with_a_record qs y e
   called_ok st sig.Table qs y e =
-      let a = then_ok (values qs) typed_table y e in Nodes.table_of_rows (values_ok qs a.0 a.1) (list_ok (join_all (Some (records no_columns)) a.0) a.0 y a.2)
+      let a = then_ok (values qs) typed_table y e in
+      let joined = join_all (Some (records no_columns)) a.0 in
+      let b = then_ok (list_as joined a.0) (λ z. Ok (as_table_call z)) y a.2 in
+      subst (Called p s sig.Table qs) (ok_is (as_table_call b.0) y b.2) (Nodes.table_of_rows (values_ok qs a.0 a.1) (list_ok joined a.0 b.0 b.1))
   called_ok st sig.Today qs y e = subst (Called p s sig.Today qs) (ok_is (of (read source.Today) nil, dates) y e) Nodes.today
   called_ok st sig.Defaults qs y e = defaults_ok qs y e
   called_ok st (sig.Act a) qs y e = acting_ok st a qs y e
@@ -153,9 +157,12 @@ module _ (p : Place) (s : Setting) where
       ∙ calls_go h (take (row_of g).most (pieces qs)) y c
   called_go st f qs y are (Nodes.a_form {f = g} c) = forms_go g (pieces qs) y c
   called_go st f qs y are (Nodes.in_record {r = r} {f = g} {k = k} v i) = then_goes (values qs) with_of (r ∷ g ∷ []) _ (values_are qs (r ∷ g ∷ []) v) (with_goes r g k i)
-  called_go st f qs y are (Nodes.table_of_rows {xs = xs} v r) = then_goes (values qs) typed_table xs y (values_are qs xs v) (list_goes (join_all (Some (records no_columns)) xs) xs y r)
+  called_go st f qs y are (Nodes.table_of_rows {xs = xs} {y = z} v r) =
+      let joined = join_all (Some (records no_columns)) xs in
+      then_goes (values qs) typed_table xs (as_table_call z) (values_are qs xs v)
+      (then_goes (list_as joined xs) (λ w. Ok (as_table_call w)) z (as_table_call z) (list_goes joined xs z r) refl)
   called_go st f qs y are Nodes.today = refl
-  called_go st f qs y are (Nodes.defaults {x = x} {t = t} {cs = cs} i) = by_rows_goes (rows_named p.names x) (λ r. Ok (blank_record r.1)) t cs (blank_record cs) i refl
+  called_go st f qs y are (Nodes.defaults {x = x} {t = t} {cs = cs} {blank = blank} i) = by_columns_goes (rows_named p.names x) (λ ds. Ok (blank_record ds)) t cs blank (blank_record cs) i refl
   called_go st f qs y are (Nodes.acting_call {a = a} m d) =
       unless_goes (not (may_act s.grant)) 9 (unless_rule (not (could_act a qs)) 6 (acted_by p a qs)) y (not_from_true (may_act s.grant) m)
       (unless_goes (not (could_act a qs)) 6 (acted_by p a qs) y (not_from_true (could_act a qs) (acts_could p a qs y d))
@@ -306,8 +313,10 @@ module _ (p : Place) (s : Setting) where
   record_ok : (g : Grant) (ns : List (List ℕ)) (ps : List ℕ) (qs : List JudgedPart) (xs : List (Term × Shape)) (q : JudgedPart) → s.grant ≡ g → AreValueParts qs xs → record_as g ns xs ≡ Ok q →
       Node p s (tree.rec ns ps) qs q
   record_ok (on_screen b) ns ps qs xs q i v e =
-      let a = if_ok (are_names_distinct ns) (Ok (assigned ns xs)) 5 q e in
-      subst (Node p s (tree.rec ns ps) qs) (ok_is (assigned ns xs) q a.1) (Nodes.screen_variables i v a.0)
+      let bound = is_bounded (record_by (put_fields ns xs)).1 in
+      let a = if_ok (are_names_distinct ns) (unless_rule (not bound) 13 (Ok (assigned ns xs))) 5 q e in
+      let b = unless_ok (not bound) 13 (Ok (assigned ns xs)) q a.1 in
+      subst (Node p s (tree.rec ns ps) qs) (ok_is (assigned ns xs) q b.1) (Nodes.screen_variables i v a.0 (not-false bound b.0))
   record_ok a_column ns ps qs xs q i v e = plain_record ns ps qs xs q (subst IsForRecord (sym i) tt) v e
   record_ok a_target ns ps qs xs q i v e = plain_record ns ps qs xs q (subst IsForRecord (sym i) tt) v e
   record_ok aliased_target ns ps qs xs q i v e = plain_record ns ps qs xs q (subst IsForRecord (sym i) tt) v e
@@ -441,9 +450,11 @@ module _ (p : Place) (s : Setting) where
       (record_is s.grant ns xs i
       ∙ ap as_part (if_true (are_names_distinct ns) (bounded (Ok (record_by (put_fields ns xs)))) (Err 5) d
       ∙ bounded_goes (Ok (record_by (put_fields ns xs))) (record_by (put_fields ns xs)) refl b))
-  node_goes st h qs q n may (Nodes.screen_variables {ns = ns} {b = b} {xs = xs} i v d) =
+  node_goes st h qs q n may (Nodes.screen_variables {ns = ns} {b = b} {xs = xs} i v d l) =
       then_goes (values qs) (record_as s.grant ns) xs (assigned ns xs) (values_are qs xs v)
-      (ap (λ g. record_as g ns xs) i ∙ if_true (are_names_distinct ns) (Ok (assigned ns xs)) (Err 5) d)
+      (ap (λ g. record_as g ns xs) i
+      ∙ if_true (are_names_distinct ns) (unless_rule (not (is_bounded (record_by (put_fields ns xs)).1)) 13 (Ok (assigned ns xs))) (Err 5) d
+      ∙ unless_goes (not (is_bounded (record_by (put_fields ns xs)).1)) 13 (Ok (assigned ns xs)) (assigned ns xs) (not_from_true (is_bounded (record_by (put_fields ns xs)).1) l) refl)
   node_goes st h qs q n may (Nodes.a_list {xs = xs} {y = y} v r b) =
       ap as_part (then_goes (values qs) typed_list xs y (values_are qs xs v) (list_is xs ∙ bounded_goes (list_as (list_join xs) xs) y (list_goes (list_join xs) xs y r) b))
   node_goes st h qs q n may Nodes.empty_weave = refl

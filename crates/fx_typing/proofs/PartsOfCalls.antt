@@ -51,7 +51,7 @@ node_may p s h qs q (Nodes.named_left {b = b} {m = m} i j) = left_may s.grant b 
 node_may p s h qs q (Nodes.global_target i) = i
 node_may p s h qs q (Nodes.global_left {b = b} {m = m} i j) = left_may s.grant b m i
 node_may p s h qs q (Nodes.target_with_name i) = subst IsForTarget (sym i) tt
-node_may p s h qs q (Nodes.screen_variables i v d) = subst IsForScreen (sym i) tt
+node_may p s h qs q (Nodes.screen_variables i v d l) = subst IsForScreen (sym i) tt
 node_may p s h qs q Nodes.a_number = tt
 node_may p s h qs q Nodes.a_text = tt
 node_may p s h qs q Nodes.a_truth = tt

@@ -29,10 +29,10 @@ use Rattle.fx_typing.specs.Meaning.{Place, in_globals, meaning_of}
 use Rattle.fx_typing.specs.Operators.{function_of}
 use Rattle.fx_typing.specs.Ways.{way}
 use Rattle.fx_typing.specs.WellTyped.{PartScope, plain}
-use Rattle.fx_typing.specs.Builds.{bounded_by, bounded, is_bounded, put_field, put_fields, field_names, field_parts, are_names_distinct, record_by, typed_record, rows_to, list_by, list_as, typed_list, typed_table, as_record, with_of, blank_record}
+use Rattle.fx_typing.specs.Builds.{bounded_by, bounded, is_bounded, put_field, put_fields, field_names, field_parts, are_names_distinct, record_by, typed_record, rows_to, list_by, list_as, typed_list, as_table_call, typed_table, as_record, with_of, blank_record}
 use Rattle.fx_typing.specs.Breaks.{taken_at, mistells, could_act}
 use Rattle.fx_typing.specs.Calls.{literal_in, function_by, made_literal, made_or_lowest, acted_by, defaults_of, called_by, called_with, called}
-use Rattle.fx_typing.specs.Deeds.{by_first_name, by_rows}
+use Rattle.fx_typing.specs.Deeds.{by_first_name, by_columns}
 use Rattle.fx_typing.specs.Parts.{Grant, nothing, acting, aliased_target, a_meaning, on_screen, JudgedPart, piece, target, assigned, Setting, may_act, pieces, values, unless_rule, part_count}
 use Rattle.fx_typing.specs.Plans.{ArgumentRule, argument_rule, if_acting, grant_of, plan_by_row, pick, plan_either, plan_literal, plan_with, first_then, plan_act, plan_call, called_as, alias_grant, field_grant, plan_at, setting_at}
 use Rattle.fx_typing.specs.Targets.{rows_named}
@@ -82,7 +82,9 @@ record_quiet ns xs h =
     (bounded_quiet (Ok (record_by fs)) (tree_quiet (term.rec (field_names fs)) (field_parts fs) refl (fields_quiet ns xs h))) tt
 
 assigned_quiet : (ns : List (List ℕ)) (xs : List (Term × Shape)) → AllQuiet xs → Made PartQuiet (assigned_of ns xs)
-assigned_quiet ns xs h = if_quiet PartQuiet (are_names_distinct ns) (Ok (assigned ns xs)) (Err 5) h tt
+assigned_quiet ns xs h =
+    let bound = is_bounded (record_by (put_fields ns xs)).1 in
+    if_quiet PartQuiet (are_names_distinct ns) (unless_rule (not bound) 13 (Ok (assigned ns xs))) (Err 5) (unless_quiet PartQuiet (not bound) 13 (Ok (assigned ns xs)) h) tt
 
 record_as_quiet : (g : Grant) (ns : List (List ℕ)) (xs : List (Term × Shape)) → AllQuiet xs → Made PartQuiet (record_as g ns xs)
 record_as_quiet (on_screen b) ns xs h = assigned_quiet ns xs h
@@ -114,6 +116,12 @@ list_quiet (x ∷ xs) h =
     let joined = join_all (Some blanks) (x ∷ xs) in
     bounded_quiet (list_as joined (x ∷ xs)) (list_as_quiet joined (x ∷ xs) h)
 
+pub table_quiet : (xs : List (Term × Shape)) → AllQuiet xs → Made TreeQuiet (typed_table xs)
+table_quiet xs h =
+    let joined = join_all (Some (records no_columns)) xs in
+    then_quiet TreeQuiet TreeQuiet (list_as joined xs) (λ y. Ok (as_table_call y)) (list_as_quiet joined xs h)
+    (λ y k. tree_quiet (term.call fun.Table) (y ∷ []) refl (k, tt))
+
 -- calls
 as_record_quiet : (c : Term) (t : Shape) → deeds.acts c ≡ false → Made (λ k. deeds.acts k ≡ false) (as_record (c, t))
 as_record_quiet c (records cs) h = h
@@ -133,13 +141,14 @@ made_literal_quiet f qs h =
     (made_if_quiet (function_by f (literal_in (drop (row_of f).most (pieces qs)))) (take (row_of f).most (pieces qs))
     (take_quiet (row_of f).most (pieces qs) (pieces_quiet qs h))) tt)
 
-by_rows_quiet : (o : Option (Target × Shape)) (go : Target × ColumnList → Result (Term × Shape) ℕ) → ((r : Target × ColumnList) → Made TreeQuiet (go r)) → Made TreeQuiet (by_rows o go)
-by_rows_quiet (Some r) go h = by_shape r.0 r.1
+by_columns_quiet : (o : Option (Target × Shape)) (go : ColumnList → Result (Term × Shape) ℕ) → ((cs : ColumnList) → Made TreeQuiet (go cs)) → Made TreeQuiet (by_columns o go)
+by_columns_quiet (Some r) go h = by_shape r.0 r.1
   where
-    by_shape : (t : Target) (u : Shape) → Made TreeQuiet (by_rows (Some (t, u)) go)
-    by_shape t (tables cs) = h (t, cs)
+    by_shape : (t : Target) (u : Shape) → Made TreeQuiet (by_columns (Some (t, u)) go)
+    by_shape t (tables cs) = h cs
+    by_shape t blanks = h no_columns
     by_shape t u = tt
-by_rows_quiet None go h = tt
+by_columns_quiet None go h = tt
 
 by_name_quiet : (qs : List JudgedPart) (go : List ℕ → List JudgedPart → Result (Term × Shape) ℕ) → ((x : List ℕ) (rs : List JudgedPart) → Made TreeQuiet (go x rs)) → Made TreeQuiet (by_first_name qs go)
 by_name_quiet (target None x ∷ qs) go h = h x qs
@@ -156,9 +165,9 @@ called_by_quiet p s (sig.Either f g) qs e h = made_quiet (pick f g qs) (pieces q
 called_by_quiet p s (sig.Literal f) qs e h = made_literal_quiet f qs h
 called_by_quiet p s (sig.Form f) qs e h = formed_quiet f (pieces qs) (pieces_quiet qs h)
 called_by_quiet p s sig.With qs e h = then_quiet AllQuiet TreeQuiet (values qs) with_of (values_quiet qs h) (λ xs k. with_quiet xs k)
-called_by_quiet p s sig.Table qs e h = then_quiet AllQuiet TreeQuiet (values qs) typed_table (values_quiet qs h) (λ xs k. list_as_quiet (join_all (Some (records no_columns)) xs) xs k)
+called_by_quiet p s sig.Table qs e h = then_quiet AllQuiet TreeQuiet (values qs) typed_table (values_quiet qs h) (λ xs k. table_quiet xs k)
 called_by_quiet p s sig.Today qs e h = refl
-called_by_quiet p s sig.Defaults qs e h = by_name_quiet qs (defaults_of p.names) (λ x rs. by_rows_quiet (rows_named p.names x) (λ r. Ok (blank_record r.1)) (λ r. refl))
+called_by_quiet p s sig.Defaults qs e h = by_name_quiet qs (defaults_of p.names) (λ x rs. by_columns_quiet (rows_named p.names x) (λ cs. Ok (blank_record cs)) (λ cs. refl))
 called_by_quiet p s (sig.Act a) qs e h = unless_refuses TreeQuiet (may_act s.grant) 9 (unless_rule (not (could_act a qs)) 6 (acted_by p a qs)) e
 
 called_with_quiet : (p : Place) (s : Setting) (o : Option Signature) (qs : List JudgedPart) → may_act s.grant ≡ false → EachQuiet qs → Made TreeQuiet (called_with p s o qs)

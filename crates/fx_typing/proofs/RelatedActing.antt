@@ -28,9 +28,9 @@ use Rattle.fx_typing.specs.WellTyped.{target_source, head_of}
 use Rattle.fx_typing.specs.Ways.{Way, same, changed, refused, way, is_open}
 use Rattle.fx_typing.specs.Breaks.{could_be_row, could_be_condition, all_could, could_act, all_on_screen, gives_variables, too_large, large_variable, large_collection, large_on_screen, large_given}
 use Rattle.fx_typing.specs.Builds.{is_bounded}
-use Rattle.fx_typing.specs.Deeds.{done_by, joins_to, given_variable, by_first_name, if_known, by_rows, set_to, set_of, give_one, give_all, given_sources, given_terms, update_of, rows_collected, rows_given, collect_to, collect_of, clear_by, clear_of, misfit, settable, by_id, row_typed, rows_named_by, leaves_id, row_of_one, change_of, changes_of, patch_to, patch_of, remove_of, filter_of, remove_if, update_to, update_if, navigate_of, notify_of, reset_by, reset_of, acted}
+use Rattle.fx_typing.specs.Deeds.{as_rows, done_by, nothing_done, joins_to, given_variable, by_first_name, if_known, by_rows, by_columns, set_to, set_of, give_one, give_all, given_sources, given_terms, update_of, rows_collected, rows_given, collect_to, collect_of, clear_by, clear_of, misfit, settable, by_id, row_typed, rows_named_by, leaves_id, row_of_one, change_of, changes_of, patch_to, patch_of, remove_of, filter_of, remove_if, update_to, update_if, navigate_of, notify_of, reset_by, reset_of, acted}
 use Rattle.fx_typing.specs.Parts.{JudgedPart, piece, meant, target, assigned, piece_of, pieces, values, lowest, all_or_lowest}
-use Rattle.fx_typing.specs.Targets.{global_variable, screen_variable, collection_named, screen_named, control_named, rows_named}
+use Rattle.fx_typing.specs.Targets.{AreRows, some_table, no_table, global_variable, screen_variable, collection_named, screen_named, control_named, rows_named}
 use Rattle.fx_typing.specs.Acting.{IsAssignable, given_as, GivenAll, no_names, no_values_left, one_given, Collected, none_collected, one_collected, NamedRow, by_number, by_blank, no_row_of_table, by_all, no_row_of_collection, Change, some_columns, no_change, Each, none_each, one_each, ActingCallHasType}
 use Rattle.fx_typing.specs.Acting
 use Rattle.fx_typing.specs.Functions.{StandFrom, none_stand, one_stands, first_and_others, by_row}
@@ -38,6 +38,7 @@ use Rattle.fx_typing.specs.Records
 use Rattle.fx_typing.specs.Records.{AreValueParts}
 use Rattle.fx_typing.proofs.RelatedFunctions.{becomes_ok, becomes_goes, stands_goes, made_ok, made_goes}
 use Rattle.fx_typing.proofs.RelatedSteps.{ok_is, then_goes, put_first_ok, lowest_ok, if_true, if_ok, values_ok, values_are}
+use Rattle.fx_typing.proofs.Deeds.{by_rows_ok}
 use Rattle.fx_typing.proofs.Filters.{condition_at, Filtering}
 use Rattle.fx_typing.proofs.Operators.{then_ok}
 
@@ -155,20 +156,15 @@ known_ok None go y e = absurd cc
 known_goes : {A : Type 0} (o : Option A) (go : A → Result (Term × Shape) ℕ) (a : A) (y : Term × Shape) → o ≡ Some a → go a ≡ Ok y → if_known o go ≡ Ok y
 known_goes o go a y e f = ap (λ z. if_known z go) e ∙ f
 
-abbrev IsRows : Option (Target × Shape) → (Target × ColumnList → Result (Term × Shape) ℕ) → Term × Shape → Type 0
-IsRows o go y = (t : Target) × (cs : ColumnList) × (o ≡ Some (t, tables cs)) × (go (t, cs) ≡ Ok y)
+pub by_rows_goes : (o : Option (Target × Shape)) (go : Target × ColumnList → Result (Term × Shape) ℕ) (t : Target) (cs : ColumnList) (blank : Bool) (y : Term × Shape) →
+    AreRows o t cs blank → go (t, cs) ≡ Ok y → by_rows o go ≡ Ok (as_rows blank y)
+by_rows_goes o go t cs blank y (some_table e) f = ap (λ z. by_rows z go) e ∙ f
+by_rows_goes o go t cs blank y (no_table e) f = ap (λ z. by_rows z go) e ∙ ap (λ r. and_then r (λ z. Ok (as_rows true z))) f
 
-pub by_rows_at : (t : Target) (u : Shape) (go : Target × ColumnList → Result (Term × Shape) ℕ) (y : Term × Shape) → by_rows (Some (t, u)) go ≡ Ok y → IsRows (Some (t, u)) go y
-by_rows_at t (tables cs) go y e = (t, cs, refl, e)
-by_rows_at t u go y e = absurd cc
-
-pub by_rows_ok : (o : Option (Target × Shape)) (go : Target × ColumnList → Result (Term × Shape) ℕ) (y : Term × Shape) → by_rows o go ≡ Ok y → IsRows o go y
-by_rows_ok (Some r) go y e = by_rows_at r.0 r.1 go y e
-by_rows_ok None go y e = absurd cc
-
-pub by_rows_goes : (o : Option (Target × Shape)) (go : Target × ColumnList → Result (Term × Shape) ℕ) (t : Target) (cs : ColumnList) (y : Term × Shape) →
-    o ≡ Some (t, tables cs) → go (t, cs) ≡ Ok y → by_rows o go ≡ Ok y
-by_rows_goes o go t cs y e f = ap (λ z. by_rows z go) e ∙ f
+pub by_columns_goes : (o : Option (Target × Shape)) (go : ColumnList → Result (Term × Shape) ℕ) (t : Target) (cs : ColumnList) (blank : Bool) (y : Term × Shape) →
+    AreRows o t cs blank → go cs ≡ Ok y → by_columns o go ≡ Ok y
+by_columns_goes o go t cs blank y (some_table e) f = ap (λ z. by_columns z go) e ∙ f
+by_columns_goes o go t cs blank y (no_table e) f = ap (λ z. by_columns z go) e ∙ f
 
 -- what is given a value is of a type that keeps to the limits
 bounded_small : (t : Shape) → too_large t ≡ None → is_bounded t ≡ true
@@ -258,30 +254,31 @@ module _ (p : Place) where
     where
       by_type : (k : ℕ) (c : Collection) (t : Shape) → collection_named p.names x ≡ Some (k, c) → shape c.ty ≡ t → clear_by k t ≡ Ok y → ActingCallHasType p acts.Clear (target None x ∷ qs) y
       by_type k c (tables cs) i j f = subst (ActingCallHasType p acts.Clear (target None x ∷ qs)) (ok_is (done_by (deed.Clear k) []) y f) (Acting.clear i j)
+      by_type k c blanks i j f = subst (ActingCallHasType p acts.Clear (target None x ∷ qs)) (ok_is nothing_done y f) (Acting.clear_nothing i j)
       by_type k c t i j f = absurd cc
 
   patch_ok : (x : List ℕ) (qs : List JudgedPart) (y : Term × Shape) → patch_of p.names x qs ≡ Ok y → ActingCallHasType p acts.Patch (target None x ∷ qs) y
   patch_ok x qs y e =
       let a = then_ok (values qs) (λ xs. by_rows (rows_named p.names x) (λ r. patch_to r xs)) y e in
       let b = by_rows_ok (rows_named p.names x) (λ r. patch_to r a.0) y a.2 in
-      by_values b.0 b.1 a.0 (values_ok qs a.0 a.1) b.2 b.3
+      subst (ActingCallHasType p acts.Patch (target None x ∷ qs)) b.6 (by_values b.0 b.1 b.2 b.3 a.0 (values_ok qs a.0 a.1) b.4 b.5)
     where
-      by_values : (t : Target) (cs : ColumnList) (xs : List (Term × Shape)) → AreValueParts qs xs → rows_named p.names x ≡ Some (t, tables cs) → patch_to (t, cs) xs ≡ Ok y →
-          ActingCallHasType p acts.Patch (target None x ∷ qs) y
-      by_values t cs (base ∷ vs) h i f =
-          let c = lowest_ok (λ b ys. (of (act (deed.Patch t)) (all (b.0 ∷ firsts ys)), records cs)) (row_typed t cs base) (changes_of t cs vs) y f in
-          subst (ActingCallHasType p acts.Patch (target None x ∷ qs)) c.4
+      by_values : (t : Target) (cs : ColumnList) (blank : Bool) (z : Term × Shape) (xs : List (Term × Shape)) → AreValueParts qs xs → AreRows (rows_named p.names x) t cs blank →
+          patch_to (t, cs) xs ≡ Ok z → ActingCallHasType p acts.Patch (target None x ∷ qs) (as_rows blank z)
+      by_values t cs blank z (base ∷ vs) h i f =
+          let c = lowest_ok (λ b ys. (of (act (deed.Patch t)) (all (b.0 ∷ firsts ys)), records cs)) (row_typed t cs base) (changes_of t cs vs) z f in
+          subst (λ w. ActingCallHasType p acts.Patch (target None x ∷ qs) (as_rows blank w)) c.4
           (Acting.patch h i (named_ok cs t base c.0 c.1) (each_ok (change_of t cs) (Change cs t) (change_ok cs t) vs c.2 c.3))
-      by_values t cs [] h i f = absurd cc
+      by_values t cs blank z [] h i f = absurd cc
 
   remove_ok : (x : List ℕ) (qs : List JudgedPart) (y : Term × Shape) → remove_of p.names x qs ≡ Ok y → ActingCallHasType p acts.Remove (target None x ∷ qs) y
   remove_ok x qs y e =
       let a = then_ok (values qs) (λ xs. by_rows (rows_named p.names x)
       (λ r. and_then (rows_named_by r.0 r.1 xs) (λ ys. Ok (done_by (deed.Remove r.0) (firsts ys))))) y e in
       let b = by_rows_ok (rows_named p.names x) (λ r. and_then (rows_named_by r.0 r.1 a.0) (λ ys. Ok (done_by (deed.Remove r.0) (firsts ys)))) y a.2 in
-      let c = then_ok (rows_named_by b.0 b.1 a.0) (λ ys. Ok (done_by (deed.Remove b.0) (firsts ys))) y b.3 in
-      subst (ActingCallHasType p acts.Remove (target None x ∷ qs)) (ok_is (done_by (deed.Remove b.0) (firsts c.0)) y c.2)
-      (Acting.remove (values_ok qs a.0 a.1) b.2 (each_ok (row_typed b.0 b.1) (NamedRow b.1 b.0) (named_ok b.1 b.0) a.0 c.0 c.1))
+      let c = then_ok (rows_named_by b.0 b.1 a.0) (λ ys. Ok (done_by (deed.Remove b.0) (firsts ys))) b.3 b.5 in
+      subst (ActingCallHasType p acts.Remove (target None x ∷ qs)) (ap (as_rows b.2) (ok_is (done_by (deed.Remove b.0) (firsts c.0)) b.3 c.2) ∙ b.6)
+      (Acting.remove (values_ok qs a.0 a.1) b.4 (each_ok (row_typed b.0 b.1) (NamedRow b.1 b.0) (named_ok b.1 b.0) a.0 c.0 c.1))
 
   filtered_ok : (t : Target) (cs : ColumnList) (a : Option (List ℕ)) (qs : List JudgedPart) (f : Term × Shape) → filter_of (t, cs) a qs ≡ Ok f → Acting.Filtered t cs a qs f
   filtered_ok t cs a qs f e = made_ok (row_of fun.Filter) (head_of fun.Filter) (value a (of (read (target_source t)) nil) (tables cs) ∷ pieces qs) f e
@@ -292,25 +289,25 @@ module _ (p : Place) where
   remove_if_ok : (qs : List JudgedPart) (y : Term × Shape) → remove_if p.names qs ≡ Ok y → ActingCallHasType p acts.RemoveIf qs y
   remove_if_ok (target a x ∷ qs) y e =
       let b = by_rows_ok (rows_named p.names x) (λ r. and_then (filter_of r a qs) (λ f. Ok (done_by (deed.RemoveIf r.0) (f.0 ∷ [])))) y e in
-      let c = then_ok (filter_of (b.0, b.1) a qs) (λ f. Ok (done_by (deed.RemoveIf b.0) (f.0 ∷ []))) y b.3 in
-      subst (ActingCallHasType p acts.RemoveIf (target a x ∷ qs)) (ok_is (done_by (deed.RemoveIf b.0) (c.0.0 ∷ [])) y c.2)
-      (Acting.remove_if b.2 (filtered_ok b.0 b.1 a qs c.0 c.1))
+      let c = then_ok (filter_of (b.0, b.1) a qs) (λ f. Ok (done_by (deed.RemoveIf b.0) (f.0 ∷ []))) b.3 b.5 in
+      subst (ActingCallHasType p acts.RemoveIf (target a x ∷ qs)) (ap (as_rows b.2) (ok_is (done_by (deed.RemoveIf b.0) (c.0.0 ∷ [])) b.3 c.2) ∙ b.6)
+      (Acting.remove_if b.4 (filtered_ok b.0 b.1 a qs c.0 c.1))
   remove_if_ok qs y e = absurd cc
 
   update_if_ok : (qs : List JudgedPart) (y : Term × Shape) → update_if p.names qs ≡ Ok y → ActingCallHasType p acts.UpdateIf qs y
   update_if_ok (target a x ∷ q ∷ qs) y e =
       let v = then_ok (values qs) (λ xs. by_rows (rows_named p.names x) (λ r. update_to r a q xs)) y e in
       let b = by_rows_ok (rows_named p.names x) (λ r. update_to r a q v.0) y v.2 in
-      by_values b.0 b.1 v.0 (values_ok qs v.0 v.1) b.2 b.3
+      subst (ActingCallHasType p acts.UpdateIf (target a x ∷ q ∷ qs)) b.6 (by_values b.0 b.1 b.2 b.3 v.0 (values_ok qs v.0 v.1) b.4 b.5)
     where
-      by_values : (t : Target) (cs : ColumnList) (xs : List (Term × Shape)) → AreValueParts qs xs → rows_named p.names x ≡ Some (t, tables cs) → update_to (t, cs) a q xs ≡ Ok y →
-          ActingCallHasType p acts.UpdateIf (target a x ∷ q ∷ qs) y
-      by_values t cs (w ∷ []) h i f =
-          let c = then_ok (filter_of (t, cs) a (q ∷ [])) (λ g. and_then (change_of t cs w) (λ z. Ok (done_by (deed.UpdateIf t) (g.0 ∷ z.0 ∷ [])))) y f in
-          let d = then_ok (change_of t cs w) (λ z. Ok (done_by (deed.UpdateIf t) (c.0.0 ∷ z.0 ∷ []))) y c.2 in
-          subst (ActingCallHasType p acts.UpdateIf (target a x ∷ q ∷ qs)) (ok_is (done_by (deed.UpdateIf t) (c.0.0 ∷ d.0.0 ∷ [])) y d.2)
+      by_values : (t : Target) (cs : ColumnList) (blank : Bool) (s : Term × Shape) (xs : List (Term × Shape)) → AreValueParts qs xs → AreRows (rows_named p.names x) t cs blank →
+          update_to (t, cs) a q xs ≡ Ok s → ActingCallHasType p acts.UpdateIf (target a x ∷ q ∷ qs) (as_rows blank s)
+      by_values t cs blank s (w ∷ []) h i f =
+          let c = then_ok (filter_of (t, cs) a (q ∷ [])) (λ g. and_then (change_of t cs w) (λ z. Ok (done_by (deed.UpdateIf t) (g.0 ∷ z.0 ∷ [])))) s f in
+          let d = then_ok (change_of t cs w) (λ z. Ok (done_by (deed.UpdateIf t) (c.0.0 ∷ z.0 ∷ []))) s c.2 in
+          subst (λ r. ActingCallHasType p acts.UpdateIf (target a x ∷ q ∷ qs) (as_rows blank r)) (ok_is (done_by (deed.UpdateIf t) (c.0.0 ∷ d.0.0 ∷ [])) s d.2)
           (Acting.update_if h i (filtered_ok t cs a (q ∷ []) c.0 c.1) (change_ok cs t w d.0 d.1))
-      by_values t cs xs h i f = absurd cc
+      by_values t cs blank s xs h i f = absurd cc
   update_if_ok qs y e = absurd cc
 
   navigate_ok : (x : List ℕ) (qs : List JudgedPart) (y : Term × Shape) → navigate_of p.names x qs ≡ Ok y → ActingCallHasType p acts.Navigate (target None x ∷ qs) y
@@ -335,7 +332,7 @@ module _ (p : Place) where
     where
       by_type : (k : ℕ) (c : ControlName) (o : Option Shape) → control_named p.names x ≡ Some (k, c) → input_type c.kind ≡ o → reset_by k o ≡ Ok y → ActingCallHasType p acts.Reset (target None x ∷ qs) y
       by_type k c (Some t) i j f = subst (ActingCallHasType p acts.Reset (target None x ∷ qs)) (ok_is (done_by (deed.Reset k) []) y f) (Acting.reset i j)
-      by_type k c None i j f = absurd cc
+      by_type k c None i j f = subst (ActingCallHasType p acts.Reset (target None x ∷ qs)) (ok_is nothing_done y f) (Acting.reset_nothing i j)
 
   -- a call by the name of what changes
   named_call : (a : Acting) (qs : List JudgedPart) (go : List ℕ → List JudgedPart → Result (Term × Shape) ℕ) (y : Term × Shape) → large_given p.names p.screen a qs ≡ None →
@@ -378,22 +375,24 @@ module _ (p : Place) where
   acts_go a qs z (Acting.collect {x = x} {qs = more} {v = v} {vs = vs} {ys = ys} {k = k} {c = c} h i b g) = collect_goes deed.Collect x more v vs ys k c h i g
   acts_go a qs z (Acting.clear {x = x} {k = k} {c = c} i j) =
       known_goes (collection_named p.names x) (λ (c : ℕ × Collection). clear_by c.0 (shape c.1.ty)) (k, c) (done_by (deed.Clear k) []) i (ap (clear_by k) j)
+  acts_go a qs z (Acting.clear_nothing {x = x} {k = k} {c = c} i j) =
+      known_goes (collection_named p.names x) (λ (c : ℕ × Collection). clear_by c.0 (shape c.1.ty)) (k, c) nothing_done i (ap (clear_by k) j)
   acts_go a qs z (Acting.clear_collect {x = x} {qs = more} {v = v} {vs = vs} {ys = ys} {k = k} {c = c} h i b g) = collect_goes deed.ClearCollect x more v vs ys k c h i g
-  acts_go a qs z (Acting.patch {x = x} {qs = more} {t = t} {cs = cs} {base = base} {b = b} {vs = vs} {ys = ys} h i r e) =
+  acts_go a qs z (Acting.patch {x = x} {qs = more} {t = t} {cs = cs} {blank = blank} {base = base} {b = b} {vs = vs} {ys = ys} h i r e) =
       then_goes (values more) (λ xs. by_rows (rows_named p.names x) (λ r. patch_to r xs)) (base ∷ vs) _ (values_are more (base ∷ vs) h)
-      (by_rows_goes (rows_named p.names x) (λ r. patch_to r (base ∷ vs)) t cs _ i
+      (by_rows_goes (rows_named p.names x) (λ r. patch_to r (base ∷ vs)) t cs blank _ i
       (both_lowest (λ b ys. (of (act (deed.Patch t)) (all (b.0 ∷ firsts ys)), records cs)) (row_typed t cs base) (changes_of t cs vs) b ys
       (named_goes cs t base b r) (each_goes (change_of t cs) (Change cs t) (change_goes cs t) vs ys e)))
-  acts_go a qs z (Acting.remove {x = x} {qs = more} {t = t} {cs = cs} {vs = vs} {ys = ys} h i e) =
+  acts_go a qs z (Acting.remove {x = x} {qs = more} {t = t} {cs = cs} {blank = blank} {vs = vs} {ys = ys} h i e) =
       then_goes (values more) (λ xs. by_rows (rows_named p.names x) (λ r. and_then (rows_named_by r.0 r.1 xs) (λ ys. Ok (done_by (deed.Remove r.0) (firsts ys))))) vs _ (values_are more vs h)
-      (by_rows_goes (rows_named p.names x) (λ r. and_then (rows_named_by r.0 r.1 vs) (λ ys. Ok (done_by (deed.Remove r.0) (firsts ys)))) t cs _ i
+      (by_rows_goes (rows_named p.names x) (λ r. and_then (rows_named_by r.0 r.1 vs) (λ ys. Ok (done_by (deed.Remove r.0) (firsts ys)))) t cs blank _ i
       (then_goes (rows_named_by t cs vs) (λ ys. Ok (done_by (deed.Remove t) (firsts ys))) ys _ (each_goes (row_typed t cs) (NamedRow cs t) (named_goes cs t) vs ys e) refl))
-  acts_go a qs z (Acting.remove_if {a = b} {x = x} {qs = more} {t = t} {cs = cs} {f = f} i e) =
-      by_rows_goes (rows_named p.names x) (λ r. and_then (filter_of r b more) (λ f. Ok (done_by (deed.RemoveIf r.0) (f.0 ∷ [])))) t cs _ i
+  acts_go a qs z (Acting.remove_if {a = b} {x = x} {qs = more} {t = t} {cs = cs} {blank = blank} {f = f} i e) =
+      by_rows_goes (rows_named p.names x) (λ r. and_then (filter_of r b more) (λ f. Ok (done_by (deed.RemoveIf r.0) (f.0 ∷ [])))) t cs blank _ i
       (then_goes (filter_of (t, cs) b more) (λ f. Ok (done_by (deed.RemoveIf t) (f.0 ∷ []))) f _ (filtered_goes t cs b more f e) refl)
-  acts_go a qs z (Acting.update_if {a = b} {x = x} {q = q} {qs = more} {t = t} {cs = cs} {f = f} {v = v} {y = y} h i e c) =
+  acts_go a qs z (Acting.update_if {a = b} {x = x} {q = q} {qs = more} {t = t} {cs = cs} {blank = blank} {f = f} {v = v} {y = y} h i e c) =
       then_goes (values more) (λ xs. by_rows (rows_named p.names x) (λ r. update_to r b q xs)) (v ∷ []) _ (values_are more (v ∷ []) h)
-      (by_rows_goes (rows_named p.names x) (λ r. update_to r b q (v ∷ [])) t cs _ i
+      (by_rows_goes (rows_named p.names x) (λ r. update_to r b q (v ∷ [])) t cs blank _ i
       (then_goes (filter_of (t, cs) b (q ∷ [])) (λ g. and_then (change_of t cs v) (λ u. Ok (done_by (deed.UpdateIf t) (g.0 ∷ u.0 ∷ [])))) f _ (filtered_goes t cs b (q ∷ []) f e)
       (then_goes (change_of t cs v) (λ u. Ok (done_by (deed.UpdateIf t) (f.0 ∷ u.0 ∷ []))) y _ (change_goes cs t v y c) refl)))
   acts_go a qs z (Acting.navigate {x = x} {name = name} {k = k} i) =
@@ -402,6 +401,8 @@ module _ (p : Place) where
       then_goes (values more) notify_of ((c, u) ∷ []) _ (values_are more ((c, u) ∷ []) h)
       (then_goes (by_way (way u texts) c texts) (λ v. Ok (done_by deed.Notify (v.0 ∷ []))) (d, texts) _ (becomes_goes (way u texts) c texts d b) refl)
   acts_go a qs z (Acting.reset {x = x} {k = k} {c = c} i j) =
+      known_goes (control_named p.names x) (λ (c : ℕ × ControlName). reset_by c.0 (input_type c.1.kind)) (k, c) _ i (ap (reset_by k) j)
+  acts_go a qs z (Acting.reset_nothing {x = x} {k = k} {c = c} i j) =
       known_goes (control_named p.names x) (λ (c : ℕ × ControlName). reset_by c.0 (input_type c.1.kind)) (k, c) _ i (ap (reset_by k) j)
 
 -- ---- what is one of its parts could be
@@ -489,10 +490,12 @@ acts_could p a qs z (Acting.set h i b w) = refl
 acts_could p a qs z (Acting.update_context i all g) = refl
 acts_could p a qs z (Acting.collect h i b g) = refl
 acts_could p a qs z (Acting.clear i j) = refl
+acts_could p a qs z (Acting.clear_nothing i j) = refl
 acts_could p a qs z (Acting.clear_collect h i b g) = refl
 acts_could p a qs z (Acting.navigate i) = refl
 acts_could p a qs z (Acting.notify h b) = refl
 acts_could p a qs z (Acting.reset i j) = refl
+acts_could p a qs z (Acting.reset_nothing i j) = refl
 
 pub acts_give : (p : Place) (a : Acting) (qs : List JudgedPart) (y : Term × Shape) → ActingCallHasType p a qs y → gives_variables p.names p.screen a qs ≡ true
 acts_give p a qs z (Acting.update_context {ms = ms} i all g) = (from_screen p.names p.screen ms all).0
@@ -503,10 +506,12 @@ acts_give p a qs z (Acting.update_if h i e c) = refl
 acts_give p a qs z (Acting.set h i b w) = refl
 acts_give p a qs z (Acting.collect h i b g) = refl
 acts_give p a qs z (Acting.clear i j) = refl
+acts_give p a qs z (Acting.clear_nothing i j) = refl
 acts_give p a qs z (Acting.clear_collect h i b g) = refl
 acts_give p a qs z (Acting.navigate i) = refl
 acts_give p a qs z (Acting.notify h b) = refl
 acts_give p a qs z (Acting.reset i j) = refl
+acts_give p a qs z (Acting.reset_nothing i j) = refl
 
 pub acts_small : (p : Place) (a : Acting) (qs : List JudgedPart) (y : Term × Shape) → ActingCallHasType p a qs y → large_given p.names p.screen a qs ≡ None
 acts_small p a qs z (Acting.update_context {ms = ms} i all g) = (from_screen p.names p.screen ms all).1
@@ -518,6 +523,8 @@ acts_small p a qs z (Acting.remove h i e) = refl
 acts_small p a qs z (Acting.remove_if i e) = refl
 acts_small p a qs z (Acting.update_if h i e c) = refl
 acts_small p a qs z (Acting.clear i j) = refl
+acts_small p a qs z (Acting.clear_nothing i j) = refl
 acts_small p a qs z (Acting.navigate i) = refl
 acts_small p a qs z (Acting.notify h b) = refl
 acts_small p a qs z (Acting.reset i j) = refl
+acts_small p a qs z (Acting.reset_nothing i j) = refl

@@ -1,5 +1,5 @@
 -- The one rule of the table of functions: the relation admits what the definition admits.
-use Rattle.std.proofs.Common.{◌≡◌, ℕ, suc, List, [], ◌∷◌, Bool, true, false, ◌&&◌, length, Option, Some, None, Result, Ok, Err, refl, ap, subst, ◌∙◌, if◌then◌else◌}
+use Rattle.std.proofs.Common.{◌≡◌, ℕ, suc, List, [], ◌∷◌, Bool, true, false, ◌&&◌, is_some, length, Option, Some, None, Result, Ok, Err, refl, ap, sym, subst, ◌∙◌, if◌then◌else◌}
 use Rattle.fx_types.specs.Types.{Shape, blanks, numbers, texts, booleans, dates, records, tables, ColumnList, no_columns}
 use Rattle.fx_core.specs.declared.rows.Answer.{Answer}
 use Rattle.fx_core.specs.declared.rows.Answer.TheVariants as answer
@@ -9,13 +9,14 @@ use Rattle.fx_core.specs.declared.rows.Takes.TheVariants as takes
 use Rattle.fx_core.specs.Rows.{shape_of, takes_at, takes_count}
 use Rattle.fx_core.specs.Term.{Term, of, all, Top}
 use Rattle.fx_core.specs.SourceTypes.{put_column}
-use Rattle.fx_typing.specs.Columns.{tells_error, label_of, by_label, names_there, added, dropped, columns_shown, columns_renamed}
-use Rattle.fx_core.specs.ColumnLists.{and_then, field_in, columns_without, without_all, columns_only, if_there, if_free, with_new, with_renamed, value_column, row_columns}
+use Rattle.std.proofs.lemmas.Bool.{and_parts, and_from}
+use Rattle.fx_typing.specs.Columns.{tells_error, label_of, by_label, names_there, added, dropped, columns_shown, columns_renamed, last_label, may_be_key, is_key, are_keys, with_group, grouped_by, grouped, first_shared, out_of, ungrouped}
+use Rattle.fx_core.specs.ColumnLists.{and_then, field_in, columns_without, without_all, columns_only, if_there, if_free, with_new, with_renamed, value_column, row_columns, joined_columns, before_last}
 use Rattle.fx_typing.specs.Local.{Piece, value, label, coerced, by_way, exact_way, branch_way, part_or_rule, without_kind, stand, put_first, stand_rest, stand_all, branches, join_all, all_scalar, some_text, some_acts, or_blank, common_or, common_of, firsts, answer_by, made_as, made_by}
 use Rattle.fx_typing.specs.WellTyped.{row_type, as_table, answered_type}
 use Rattle.fx_typing.specs.Ways.{Way, same, changed, refused, way, is_scalar, is_comparable}
 use Rattle.fx_typing.specs.Functions
-use Rattle.fx_typing.specs.Functions.{Becomes, as_it_is, by_coercion, IsNoTableType, StandsAs, StandFrom, none_stand, one_stands, AllPartsStand, no_parts, first_and_others, Common, their_join, as_texts, as_blanks, Adds, nothing_added, no_formula, one_added, Renames, nothing_renamed, no_new_name, one_renamed, AreColumns, none_named, one_named, AnswerType, Made, by_row}
+use Rattle.fx_typing.specs.Functions.{Becomes, as_it_is, by_coercion, IsNoTableType, StandsAs, StandFrom, none_stand, one_stands, AllPartsStand, no_parts, first_and_others, Common, their_join, as_texts, as_blanks, Adds, nothing_added, no_formula, one_added, Renames, nothing_renamed, no_new_name, one_renamed, AreColumns, none_named, one_named, Groups, the_group, one_key, AnswerType, Made, by_row}
 use Rattle.fx_typing.proofs.RelatedSteps.{ok_is, some_is, then_goes, put_first_ok, if_true, if_ok}
 use Rattle.fx_typing.proofs.Operators.{then_ok}
 
@@ -232,6 +233,78 @@ columns_go cs xs ns (one_named {x = x} {n = n} {t = t} {xs = others} {ns = after
     (then_goes (if_there (field_in n cs)) (λ t. and_then (names_there others cs) (λ ms. Ok (n ∷ ms))) t (n ∷ after) (ap if_there j)
     (then_goes (names_there others cs) (λ ms. Ok (n ∷ ms)) after (n ∷ after) (columns_go cs others after more) refl))
 
+-- keys, and behind them the new name
+keys_ok : (cs : ColumnList) (g : List ℕ) (xs : List (Term × Shape)) (ns : List (List ℕ)) → last_label xs ≡ Some g → field_in g cs ≡ None →
+    are_keys (before_last xs) cs ≡ true → names_there (before_last xs) cs ≡ Ok ns → Groups cs xs ns g
+keys_ok cs g [] ns l f k e = absurd cc
+keys_ok cs g (x ∷ []) ns l f k e = subst (λ ms. Groups cs (x ∷ []) ms g) (ok_is [] ns e) (the_group l f)
+keys_ok cs g (x ∷ y ∷ xs) ns l f k e =
+    let b = and_parts (is_key (label_of x.0) cs) (are_keys (before_last (y ∷ xs)) cs) k in
+    let a = by_label_ok (label_of x.0) (λ n. and_then (if_there (field_in n cs)) (λ t. and_then (names_there (before_last (y ∷ xs)) cs) (λ ms. Ok (n ∷ ms)))) ns e in
+    let c = then_ok (if_there (field_in a.0 cs)) (λ t. and_then (names_there (before_last (y ∷ xs)) cs) (λ ms. Ok (a.0 ∷ ms))) ns a.2 in
+    let d = then_ok (names_there (before_last (y ∷ xs)) cs) (λ ms. Ok (a.0 ∷ ms)) ns c.2 in
+    let there = there_ok (field_in a.0 cs) c.0 c.1 in
+    let scalar : is_scalar c.0 ≡ true = sym (ap may_be_key there) ∙ sym (ap (λ o. is_key o cs) a.1) ∙ b.0 in
+    subst (λ ms. Groups cs (x ∷ y ∷ xs) ms g) (ok_is (a.0 ∷ d.0) ns d.2) (one_key a.1 there scalar (keys_ok cs g (y ∷ xs) d.0 l f b.1 d.1))
+
+groups_ok : (xs : List (Term × Shape)) (cs ds : ColumnList) → grouped xs cs ≡ Ok ds →
+    (ns : List (List ℕ)) × (g : List ℕ) × Groups cs xs ns g × (with_group g ns cs ≡ ds)
+groups_ok xs cs ds e =
+    let a = by_label_ok (last_label xs) (λ g. and_then (if_free (field_in g cs) cs) (λ es. grouped_by g (before_last xs) es)) ds e in
+    let b = then_ok (if_free (field_in a.0 cs) cs) (λ es. grouped_by a.0 (before_last xs) es) ds a.2 in
+    let f = free_ok (field_in a.0 cs) cs b.0 b.1 in
+    let whole : grouped_by a.0 (before_last xs) cs ≡ Ok ds = subst (λ es. grouped_by a.0 (before_last xs) es ≡ Ok ds) (sym f.1) b.2 in
+    let k = if_ok (are_keys (before_last xs) cs) (and_then (names_there (before_last xs) cs) (λ ns. Ok (with_group a.0 ns cs))) 6 ds whole in
+    let n = then_ok (names_there (before_last xs) cs) (λ ns. Ok (with_group a.0 ns cs)) ds k.1 in
+    (n.0, a.0, keys_ok cs a.0 xs n.0 a.1 f.0 k.0 n.1, ok_is (with_group a.0 n.0 cs) ds n.2)
+
+pub groups_go : (cs : ColumnList) (xs : List (Term × Shape)) (ns : List (List ℕ)) (g : List ℕ) → Groups cs xs ns g →
+    (last_label xs ≡ Some g) × (field_in g cs ≡ None) × (are_keys (before_last xs) cs ≡ true) × (names_there (before_last xs) cs ≡ Ok ns)
+groups_go cs xs ns g (the_group l f) = (l, f, refl, refl)
+groups_go cs xs ns g (one_key {x = x} {y = y} {n = n} {t = t} {xs = others} {ns = after} i j s more) =
+    let r = groups_go cs (y ∷ others) after g more in (
+      r.0,
+      r.1,
+      and_from (is_key (label_of x.0) cs) (are_keys (before_last (y ∷ others)) cs) (ap (λ o. is_key o cs) i ∙ ap may_be_key j ∙ s) r.2,
+      by_label_goes (label_of x.0) (λ m. and_then (if_there (field_in m cs)) (λ t. and_then (names_there (before_last (y ∷ others)) cs) (λ ms. Ok (m ∷ ms)))) n (n ∷ after) i
+          (then_goes (if_there (field_in n cs)) (λ t. and_then (names_there (before_last (y ∷ others)) cs) (λ ms. Ok (n ∷ ms))) t (n ∷ after) (ap if_there j)
+          (then_goes (names_there (before_last (y ∷ others)) cs) (λ ms. Ok (n ∷ ms)) after (n ∷ after) r.3 refl)),
+    )
+
+grouped_goes : (cs : ColumnList) (xs : List (Term × Shape)) (ns : List (List ℕ)) (g : List ℕ) → Groups cs xs ns g → grouped xs cs ≡ Ok (with_group g ns cs)
+grouped_goes cs xs ns g h =
+    let r = groups_go cs xs ns g h in
+    by_label_goes (last_label xs) (λ m. and_then (if_free (field_in m cs) cs) (λ es. grouped_by m (before_last xs) es)) g (with_group g ns cs) r.0
+    (then_goes (if_free (field_in g cs) cs) (λ es. grouped_by g (before_last xs) es) cs (with_group g ns cs) (ap (λ o. if_free o cs) r.1)
+    (if_true (are_keys (before_last xs) cs) (and_then (names_there (before_last xs) cs) (λ ms. Ok (with_group g ms cs))) (Err 6) r.2
+    ∙ ap (λ q. and_then q (λ ms. Ok (with_group g ms cs))) r.3))
+
+-- the columns of groups beside the others
+module _ (common : Shape) (c : Term) (x : Term × Shape) (cs : ColumnList) (g : List ℕ) (label : label_of x.0 ≡ Some g) where
+  shared_ok : (es ds : ColumnList) (o : Option (List ℕ)) → field_in g cs ≡ Some (tables es) → first_shared es (columns_without g cs) ≡ o →
+      if◌then◌else◌ {A = Result ColumnList ℕ} (is_some o) (Err 5) (Ok (joined_columns es (columns_without g cs))) ≡ Ok ds → AnswerType common answer.Ungrouped ((c, tables cs) ∷ x ∷ []) (tables ds)
+  shared_ok es ds (Some n) i j f = absurd cc
+  shared_ok es ds None i j f =
+      subst (λ z. AnswerType common answer.Ungrouped ((c, tables cs) ∷ x ∷ []) (tables z)) (ok_is (joined_columns es (columns_without g cs)) ds f) (Functions.out_of_groups label i j)
+
+  out_ok : (t : Shape) (ds : ColumnList) → field_in g cs ≡ Some t → out_of t (columns_without g cs) ≡ Ok ds → AnswerType common answer.Ungrouped ((c, tables cs) ∷ x ∷ []) (tables ds)
+  out_ok (tables es) ds i f = shared_ok es ds (first_shared es (columns_without g cs)) i refl f
+  out_ok t ds i f = absurd cc
+
+ungrouped_ok : (common : Shape) (c : Term) (xs : List (Term × Shape)) (cs ds : ColumnList) → ungrouped xs cs ≡ Ok ds → AnswerType common answer.Ungrouped ((c, tables cs) ∷ xs) (tables ds)
+ungrouped_ok common c (x ∷ []) cs ds e =
+    let a = by_label_ok (label_of x.0) (λ g. and_then (if_there (field_in g cs)) (λ t. out_of t (columns_without g cs))) ds e in
+    let b = then_ok (if_there (field_in a.0 cs)) (λ t. out_of t (columns_without a.0 cs)) ds a.2 in
+    out_ok common c x cs a.0 a.1 b.0 ds (there_ok (field_in a.0 cs) b.0 b.1) b.2
+ungrouped_ok common c xs cs ds e = absurd cc
+
+ungrouped_goes : (x : Term × Shape) (cs ds : ColumnList) (g : List ℕ) → label_of x.0 ≡ Some g → field_in g cs ≡ Some (tables ds) → first_shared ds (columns_without g cs) ≡ None →
+    ungrouped (x ∷ []) cs ≡ Ok (joined_columns ds (columns_without g cs))
+ungrouped_goes x cs ds g i j k =
+    by_label_goes (label_of x.0) (λ m. and_then (if_there (field_in m cs)) (λ t. out_of t (columns_without m cs))) g (joined_columns ds (columns_without g cs)) i
+    (then_goes (if_there (field_in g cs)) (λ t. out_of t (columns_without g cs)) (tables ds) (joined_columns ds (columns_without g cs)) (ap if_there j)
+    (ap (λ o. if is_some o then Err 5 else Ok (joined_columns ds (columns_without g cs))) k))
+
 answer_ok : (common : Shape) (a : Answer) (xs : List (Term × Shape)) (t : Shape) → answered_type a common xs ≡ Ok t → AnswerType common a xs t
 answer_ok common (answer.Scalar s) xs t e = subst (AnswerType common (answer.Scalar s) xs) (ok_is (shape_of s) t e) Functions.this
 answer_ok common answer.Same (x ∷ xs) t e = subst (AnswerType common answer.Same (x ∷ xs)) (ok_is x.1 t e) Functions.the_first
@@ -252,6 +325,13 @@ answer_ok common answer.Shown ((c, tables cs) ∷ xs) t e =
     subst (AnswerType common answer.Shown ((c, tables cs) ∷ xs)) (ap tables (ok_is (columns_only b.0 cs) a.0 b.2) ∙ a.2) (Functions.columns_alone (columns_ok cs xs b.0 b.1))
 answer_ok common answer.Renamed ((c, tables cs) ∷ xs) t e =
     let a = as_table_ok (columns_renamed xs cs) t e in subst (AnswerType common answer.Renamed ((c, tables cs) ∷ xs)) a.2 (Functions.columns_anew (renames_ok xs cs a.0 a.1))
+answer_ok common answer.Grouped ((c, tables cs) ∷ xs) t e =
+    let a = as_table_ok (grouped xs cs) t e in
+    let b = groups_ok xs cs a.0 a.1 in
+    subst (AnswerType common answer.Grouped ((c, tables cs) ∷ xs)) (ap tables b.3 ∙ a.2) (Functions.in_groups b.2)
+answer_ok common answer.Ungrouped ((c, tables cs) ∷ xs) t e =
+    let a = as_table_ok (ungrouped xs cs) t e in
+    subst (AnswerType common answer.Ungrouped ((c, tables cs) ∷ xs)) a.2 (ungrouped_ok common c xs cs a.0 a.1)
 answer_ok common answer.Values (x ∷ y ∷ xs) t e = subst (AnswerType common answer.Values (x ∷ y ∷ xs)) (ok_is (tables (value_column y.1)) t e) Functions.values_of
 answer_ok common answer.Each (x ∷ y ∷ xs) t e = subst (AnswerType common answer.Each (x ∷ y ∷ xs)) (ok_is (tables (row_columns y.1)) t e) Functions.rows_of_each
 answer_ok common a xs t e = absurd cc
@@ -268,6 +348,8 @@ answer_goes common a xs t (Functions.with_columns {cs = cs} {ds = ds} {xs = more
 answer_goes common a xs t (Functions.without_columns {cs = cs} {xs = more} {ns = ns} e) = ap as_table (ap (λ r. and_then r (λ ms. Ok (without_all ms cs))) (columns_go cs more ns e))
 answer_goes common a xs t (Functions.columns_alone {cs = cs} {xs = more} {ns = ns} e) = ap as_table (ap (λ r. and_then r (λ ms. Ok (columns_only ms cs))) (columns_go cs more ns e))
 answer_goes common a xs t (Functions.columns_anew {cs = cs} {ds = ds} {xs = more} e) = ap as_table (renames_go more cs ds e)
+answer_goes common a xs t (Functions.in_groups {cs = cs} {xs = more} {ns = ns} {g = g} e) = ap as_table (grouped_goes cs more ns g e)
+answer_goes common a xs t (Functions.out_of_groups {x = x} {cs = cs} {ds = ds} {g = g} i j k) = ap as_table (ungrouped_goes x cs ds g i j k)
 answer_goes common a xs t Functions.values_of = refl
 answer_goes common a xs t Functions.rows_of_each = refl
 

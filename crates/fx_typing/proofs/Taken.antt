@@ -16,14 +16,14 @@ use Rattle.fx_core.specs.declared.rows.Takes.TheVariants as takes
 use Rattle.fx_core.specs.Rows.{row_of, takes_at, takes_count}
 use Rattle.fx_core.specs.SourceTypes.{put_column, item_columns}
 use Rattle.fx_core.specs.Term.{Term}
-use Rattle.fx_typing.specs.Columns.{label_of, by_label, added, columns_renamed}
+use Rattle.fx_typing.specs.Columns.{label_of, by_label, added, columns_renamed, last_label, first_shared, shared_by}
 use Rattle.fx_core.specs.ColumnLists.{field_in, columns_without, is_one_of, if_there, if_free, and_then, with_new, with_renamed}
 use Rattle.fx_typing.specs.Local.{Piece, value, label, stand}
-use Rattle.fx_typing.specs.Breaks.{names_of_columns, names_in, name_taken_or, taken_added, taken_renamed, taken_by, taken_at}
+use Rattle.fx_typing.specs.Breaks.{names_of_columns, names_in, part_name, columns_in, name_taken_or, taken_added, taken_renamed, taken_name, taken_grouped, shared_as, taken_by, taken_at}
 use Rattle.fx_typing.specs.Parts.{JudgedPart, piece, meant, target, assigned, piece_of, pieces}
 use Rattle.fx_typing.specs.Functions
 use Rattle.fx_typing.specs.Functions.{StandsAs, StandFrom, none_stand, one_stands, first_and_others, AnswerType, Calls, by_row}
-use Rattle.fx_typing.proofs.RelatedFunctions.{stands_goes, adds_go, renames_go, free_ok}
+use Rattle.fx_typing.proofs.RelatedFunctions.{stands_goes, adds_go, renames_go, groups_go, free_ok}
 use Rattle.fx_typing.proofs.RelatedSteps.{ok_is}
 use Rattle.fx_typing.proofs.Operators.{then_ok}
 use Rattle.fx_typing.proofs.RelatedActing.{never_first}
@@ -251,7 +251,47 @@ renamed_free n i first common (meant m ∷ g ∷ qs) ps xs ns cs ds p a (one_sta
 renamed_free n i first common (target w m ∷ g ∷ qs) ps xs ns cs ds p a (one_stands s (one_stands t f)) h e = absurd a.0
 renamed_free n i first common (assigned ms vs ∷ g ∷ qs) ps xs ns cs ds p a (one_stands s (one_stands t f)) h e = absurd a.0
 
+-- ---- the new name behind keys, and the columns of groups
+name_free : (k : Takes) (first common : Shape) (q : JudgedPart) (x : Term × Shape) (cs : ColumnList) (g : List ℕ) → stand k first common (piece_of q) ≡ Ok x →
+    label_of x.0 ≡ Some g → field_in g cs ≡ None → taken_name (part_name q) cs ≡ None
+name_free k first common (piece (label l)) x cs g e i f =
+    let same : g ≡ l = let z : Some g ≡ Some l = sym i ∙ labelled k first common l x e in cc in
+    ap (λ o. if is_some o then Some l else None) (subst (λ z. field_in z cs ≡ None) same f)
+name_free k first common (piece (value a c t)) x cs g e i f = refl
+name_free k first common (meant m) x cs g e i f = refl
+name_free k first common (target w l) x cs g e i f = refl
+name_free k first common (assigned ms vs) x cs g e i f = refl
+
+grouped_free : (r : Row) (n i : ℕ) (first common : Shape) (qs : List JudgedPart) (ps : List Piece) (xs : List (Term × Shape)) (cs : ColumnList) (g : List ℕ) →
+    pieces qs ≡ ps → StandFrom r n first common i ps xs → last_label xs ≡ Some g → field_in g cs ≡ None → taken_grouped qs cs ≡ None
+grouped_free r n i first common [] ps xs cs g p f l h = refl
+grouped_free r n i first common (q ∷ []) ps xs cs g p none_stand l h = absurd cc
+grouped_free r n i first common (q ∷ []) ps xs cs g p (one_stands {p = k} {x = x} s none_stand) l h =
+    let first_piece : piece_of q ≡ k = cc in
+    name_free (takes_at r n i) first common q x cs g (stood_at (takes_at r n i) first common (piece_of q) k x first_piece s) l h
+grouped_free r n i first common (q ∷ []) ps xs cs g p (one_stands s (one_stands t f)) l h = absurd cc
+grouped_free r n i first common (q ∷ d ∷ qs) ps xs cs g p none_stand l h = absurd cc
+grouped_free r n i first common (q ∷ d ∷ qs) ps xs cs g p (one_stands s none_stand) l h = absurd cc
+grouped_free r n i first common (q ∷ d ∷ qs) ps xs cs g p (one_stands s (one_stands {p = k} {ps = more} {x = x} {xs = others} t f)) l h =
+    let rest : pieces (d ∷ qs) ≡ k ∷ more = cc in
+    grouped_free r n (suc i) first common (d ∷ qs) (k ∷ more) (x ∷ others) cs g rest (one_stands t f) l h
+
+shared_free : (k : Takes) (first common : Shape) (q : JudgedPart) (x : Term × Shape) (cs ds : ColumnList) (g : List ℕ) → stand k first common (piece_of q) ≡ Ok x →
+    label_of x.0 ≡ Some g → field_in g cs ≡ Some (tables ds) → first_shared ds (columns_without g cs) ≡ None → shared_as (part_name q) cs ≡ None
+shared_free k first common (piece (label l)) x cs ds g e i j h =
+    let same : g ≡ l = let z : Some g ≡ Some l = sym i ∙ labelled k first common l x e in cc in
+    ap (λ o. shared_by l o cs) (subst (λ z. field_in z cs ≡ Some (tables ds)) same j) ∙ subst (λ z. first_shared ds (columns_without z cs) ≡ None) same h
+shared_free k first common (piece (value a c t)) x cs ds g e i j h = refl
+shared_free k first common (meant m) x cs ds g e i j h = refl
+shared_free k first common (target w l) x cs ds g e i j h = refl
+shared_free k first common (assigned ms vs) x cs ds g e i j h = refl
+
 -- ---- of a call
+first_columns : (common : Shape) (q : JudgedPart) (c : Term) (cs : ColumnList) → stand takes.Table blanks common (piece_of q) ≡ Ok (c, tables cs) → columns_in q ≡ cs
+first_columns common (piece (value a m (tables ds))) c cs e = ap (λ (z : Term × Shape). item_columns z.1) (ok_is (m, tables ds) (c, tables cs) e)
+first_columns common (piece (value a m blanks)) c cs e = ap (λ (z : Term × Shape). item_columns z.1) (ok_is _ (c, tables cs) e)
+first_columns common q c cs e = absurd cc
+
 first_names : (common : Shape) (q : JudgedPart) (c : Term) (cs : ColumnList) → stand takes.Table blanks common (piece_of q) ≡ Ok (c, tables cs) → HasAll (names_in q) cs
 first_names common (piece (value a m (tables ds))) c cs e =
     let k : (m, tables ds) ≡ (c, tables cs) = ok_is (m, tables ds) (c, tables cs) e in
@@ -265,6 +305,15 @@ added_answer common x xs t (Functions.with_columns {c = c} {cs = cs} {ds = ds} e
 renamed_answer : (common : Shape) (x : Term × Shape) (xs : List (Term × Shape)) (t : Shape) → AnswerType common answer.Renamed (x ∷ xs) t →
     (c : Term) × (cs : ColumnList) × (ds : ColumnList) × (x ≡ (c, tables cs)) × (columns_renamed xs cs ≡ Ok ds)
 renamed_answer common x xs t (Functions.columns_anew {c = c} {cs = cs} {ds = ds} e) = (c, cs, ds, refl, renames_go xs cs ds e)
+
+grouped_answer : (common : Shape) (x : Term × Shape) (xs : List (Term × Shape)) (t : Shape) → AnswerType common answer.Grouped (x ∷ xs) t →
+    (c : Term) × (cs : ColumnList) × (g : List ℕ) × (x ≡ (c, tables cs)) × (last_label xs ≡ Some g) × (field_in g cs ≡ None)
+grouped_answer common x xs t (Functions.in_groups {c = c} {cs = cs} {ns = ns} {g = g} e) = let r = groups_go cs xs ns g e in (c, cs, g, refl, r.0, r.1)
+
+ungrouped_answer : (common : Shape) (x y : Term × Shape) (t : Shape) → AnswerType common answer.Ungrouped (x ∷ y ∷ []) t →
+    (c : Term) × (cs : ColumnList) × (g : List ℕ) × (ds : ColumnList) × (x ≡ (c, tables cs)) × (label_of y.0 ≡ Some g) × (field_in g cs ≡ Some (tables ds))
+    × (first_shared ds (columns_without g cs) ≡ None)
+ungrouped_answer common x y t (Functions.out_of_groups {c = c} {cs = cs} {ds = ds} {g = g} i j k) = (c, cs, g, ds, refl, i, j, k)
 
 either_none : (b : Bool) (o : Option (List ℕ)) → o ≡ None → (if b then o else None) ≡ None
 either_none true o e = e
@@ -281,4 +330,18 @@ none_taken fun.RenameColumns (q ∷ qs) y a (by_row {common = u} {t = t} count j
     let table : stand takes.Table blanks u (piece_of q) ≡ Ok (b.0, tables b.1) = stands_goes blanks u takes.Table (piece_of q) x s ∙ ap Ok b.3 in
     either_none (takes_count (row_of fun.RenameColumns) (length (q ∷ qs))) (taken_renamed qs (names_in q))
     (renamed_free (suc (length (pieces qs))) 0 x.1 u qs (pieces qs) xs (names_in q) b.1 b.2 refl a.1 f (first_names u q b.0 b.1 table) b.4)
+none_taken fun.GroupBy (q ∷ qs) y a (by_row {common = u} {t = t} count join (first_and_others {x = x} {xs = xs} s f) answers) =
+    let b = grouped_answer u x xs t answers in
+    let table : stand takes.Table blanks u (piece_of q) ≡ Ok (b.0, tables b.1) = stands_goes blanks u takes.Table (piece_of q) x s ∙ ap Ok b.3 in
+    either_none (takes_count (row_of fun.GroupBy) (length (q ∷ qs))) (taken_grouped qs (columns_in q))
+    (ap (taken_grouped qs) (first_columns u q b.0 b.1 table)
+    ∙ grouped_free (row_of fun.GroupBy) (suc (length (pieces qs))) 1 x.1 u qs (pieces qs) xs b.1 b.2 refl f b.4 b.5)
+none_taken fun.Ungroup (q ∷ []) y a c = either_none (takes_count (row_of fun.Ungroup) 1) None refl
+none_taken fun.Ungroup (q ∷ d ∷ []) y a (by_row {common = u} {t = t} count join (first_and_others {x = x} s (one_stands {x = z} w none_stand)) answers) =
+    let b = ungrouped_answer u x z t answers in
+    let table : stand takes.Table blanks u (piece_of q) ≡ Ok (b.0, tables b.1) = stands_goes blanks u takes.Table (piece_of q) x s ∙ ap Ok b.4 in
+    either_none (takes_count (row_of fun.Ungroup) 2) (shared_as (part_name d) (columns_in q))
+    (ap (shared_as (part_name d)) (first_columns u q b.0 b.1 table)
+    ∙ shared_free takes.Column x.1 u d z b.1 b.3 b.2 (stands_goes x.1 u takes.Column (piece_of d) z w) b.5 b.6 b.7)
+none_taken fun.Ungroup (q ∷ d ∷ e ∷ qs) y a c = either_none (takes_count (row_of fun.Ungroup) (length (q ∷ d ∷ e ∷ qs))) None refl
 none_taken f qs y a c = either_none (takes_count (row_of f) (length qs)) (taken_by (row_of f).answer qs) refl

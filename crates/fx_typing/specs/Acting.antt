@@ -1,5 +1,5 @@
 -- What the functions that change state are, of their parts.
-use Rattle.std.specs.Prelude.{◌≡◌, ℕ, List, [], ◌∷◌, true, codes, Option, Some, None}
+use Rattle.std.specs.Prelude.{◌≡◌, ℕ, List, [], ◌∷◌, Bool, true, codes, Option, Some, None}
 use Rattle.fx_types.specs.TypeView.{shape}
 use Rattle.fx_types.specs.Types.{Shape, blanks, numbers, texts, records, tables, ColumnList}
 use Rattle.fx_types.specs.Types.{no_columns, column}
@@ -23,10 +23,10 @@ use Rattle.fx_typing.specs.Meaning.{Place}
 use Rattle.fx_typing.specs.WellTyped.{target_source}
 use Rattle.fx_typing.specs.Ways.{way}
 use Rattle.fx_typing.specs.Builds.{is_bounded}
-use Rattle.fx_typing.specs.Deeds.{done_by, joins_to, given_sources, given_terms, rows_collected}
-use Rattle.fx_typing.specs.Deeds.{leaves_id, row_of_one}
+use Rattle.fx_typing.specs.Deeds.{as_rows, done_by, nothing_done, joins_to, given_sources}
+use Rattle.fx_typing.specs.Deeds.{given_terms, rows_collected, leaves_id, row_of_one}
 use Rattle.fx_typing.specs.Parts.{JudgedPart, target, assigned, pieces}
-use Rattle.fx_typing.specs.Targets.{global_variable, screen_variable, collection_named}
+use Rattle.fx_typing.specs.Targets.{AreRows, global_variable, screen_variable, collection_named}
 use Rattle.fx_typing.specs.Targets.{screen_named, control_named, rows_named}
 use Rattle.fx_typing.specs.Functions.{Becomes, Calls}
 use Rattle.fx_typing.specs.Records.{AreValueParts}
@@ -100,7 +100,8 @@ abbrev pub Filtered : Target → ColumnList → Option (List ℕ) → List Judge
 Filtered t cs a qs y = Calls fun.Filter (value a (of (read (target_source t)) nil) (tables cs)
     ∷ pieces qs) y
 
--- an acting call of these parts. But for Patch it answers true.
+-- an acting call of these parts. But for Patch it answers true. On a collection of type Blank
+-- nothing is done.
 pub data ActingCallHasType (p : Place) : Acting → List JudgedPart → Term × Shape → Type 0 where
   set : {x : List ℕ} {qs : List JudgedPart} {v y : Term × Shape} {k : ℕ} {g : Variable}
       → AreValueParts qs (v ∷ []) →
@@ -122,32 +123,36 @@ pub data ActingCallHasType (p : Place) : Acting → List JudgedPart → Term × 
       → collection_named p.names x ≡ Some (k, c) →
       shape c.ty ≡ tables cs → ActingCallHasType p acts.Clear (target None x ∷ qs)
       (done_by (deed.Clear k) [])
+  clear_nothing : {x : List ℕ} {qs : List JudgedPart} {k : ℕ} {c : Collection}
+      → collection_named p.names x ≡ Some (k, c) →
+      shape c.ty ≡ blanks → ActingCallHasType p acts.Clear (target None x ∷ qs) nothing_done
   clear_collect : {x : List ℕ} {qs : List JudgedPart} {v : Term × Shape}
       {vs ys : List (Term × Shape)} {k : ℕ} {c : Collection} → AreValueParts qs (v ∷ vs) →
       collection_named p.names x ≡ Some (k, c) → is_bounded (shape c.ty) ≡ true
       → Collected (shape c.ty) (v ∷ vs) ys
       → ActingCallHasType p acts.ClearCollect (target None x ∷ qs)
       (done_by (deed.ClearCollect k) (firsts ys))
-  patch : {x : List ℕ} {qs : List JudgedPart} {t : Target} {cs : ColumnList} {base b : Term × Shape}
-      {vs ys : List (Term × Shape)} → AreValueParts qs (base ∷ vs) →
-      rows_named p.names x ≡ Some (t, tables cs) → NamedRow cs t base b → Each (Change cs t) vs ys →
+  patch : {x : List ℕ} {qs : List JudgedPart} {t : Target} {cs : ColumnList} {blank : Bool}
+      {base b : Term × Shape} {vs ys : List (Term × Shape)} → AreValueParts qs (base ∷ vs) →
+      AreRows (rows_named p.names x) t cs blank → NamedRow cs t base b → Each (Change cs t) vs ys →
       ActingCallHasType p acts.Patch (target None x ∷ qs)
-      (of (act (deed.Patch t)) (all (b.0 ∷ firsts ys)), records cs)
-  remove : {x : List ℕ} {qs : List JudgedPart} {t : Target} {cs : ColumnList}
+      (as_rows blank (of (act (deed.Patch t)) (all (b.0 ∷ firsts ys)), records cs))
+  remove : {x : List ℕ} {qs : List JudgedPart} {t : Target} {cs : ColumnList} {blank : Bool}
       {vs ys : List (Term × Shape)} → AreValueParts qs vs →
-      rows_named p.names x ≡ Some (t, tables cs) → Each (NamedRow cs t) vs ys
+      AreRows (rows_named p.names x) t cs blank → Each (NamedRow cs t) vs ys
       → ActingCallHasType p acts.Remove (target None x ∷ qs)
-      (done_by (deed.Remove t) (firsts ys))
+      (as_rows blank (done_by (deed.Remove t) (firsts ys)))
   remove_if : {a : Option (List ℕ)} {x : List ℕ} {qs : List JudgedPart} {t : Target}
-      {cs : ColumnList} {f : Term × Shape} →
-      rows_named p.names x ≡ Some (t, tables cs) → Filtered t cs a qs f
+      {cs : ColumnList} {blank : Bool} {f : Term × Shape} →
+      AreRows (rows_named p.names x) t cs blank → Filtered t cs a qs f
       → ActingCallHasType p acts.RemoveIf (target a x ∷ qs)
-      (done_by (deed.RemoveIf t) (f.0 ∷ []))
+      (as_rows blank (done_by (deed.RemoveIf t) (f.0 ∷ [])))
   update_if : {a : Option (List ℕ)} {x : List ℕ} {q : JudgedPart} {qs : List JudgedPart}
-      {t : Target} {cs : ColumnList} {f v y : Term × Shape} → AreValueParts qs (v ∷ []) →
-      rows_named p.names x ≡ Some (t, tables cs) → Filtered t cs a (q ∷ []) f → Change cs t v y →
+      {t : Target} {cs : ColumnList} {blank : Bool} {f v y : Term × Shape}
+      → AreValueParts qs (v ∷ []) →
+      AreRows (rows_named p.names x) t cs blank → Filtered t cs a (q ∷ []) f → Change cs t v y →
       ActingCallHasType p acts.UpdateIf (target a x ∷ q ∷ qs)
-      (done_by (deed.UpdateIf t) (f.0 ∷ y.0 ∷ []))
+      (as_rows blank (done_by (deed.UpdateIf t) (f.0 ∷ y.0 ∷ [])))
   navigate : {x name : List ℕ} {qs : List JudgedPart} {k : ℕ}
       → screen_named p.names x ≡ Some (k, name)
       → ActingCallHasType p acts.Navigate (target None x ∷ qs) (done_by (deed.Navigate k) [])
@@ -157,3 +162,6 @@ pub data ActingCallHasType (p : Place) : Acting → List JudgedPart → Term × 
   reset : {x : List ℕ} {qs : List JudgedPart} {k : ℕ} {c : ControlName} {t : Shape}
       → control_named p.names x ≡ Some (k, c) → input_type c.kind ≡ Some t →
       ActingCallHasType p acts.Reset (target None x ∷ qs) (done_by (deed.Reset k) [])
+  reset_nothing : {x : List ℕ} {qs : List JudgedPart} {k : ℕ} {c : ControlName}
+      → control_named p.names x ≡ Some (k, c) → input_type c.kind ≡ None →
+      ActingCallHasType p acts.Reset (target None x ∷ qs) nothing_done

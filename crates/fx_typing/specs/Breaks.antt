@@ -15,7 +15,7 @@ use Rattle.fx_core.specs.Rows.{row_of, takes_count}
 use Rattle.fx_core.specs.declared.names.Collection.{Collection}
 use Rattle.fx_core.specs.declared.names.Names.{Names}
 use Rattle.fx_core.specs.declared.names.Variable.{Variable}
-use Rattle.fx_typing.specs.Columns.{is_told_or_missing}
+use Rattle.fx_typing.specs.Columns.{is_told_or_missing, shared_by}
 use Rattle.fx_core.specs.ColumnLists.{field_in, is_one_of}
 use Rattle.fx_typing.specs.Local.{value, label}
 use Rattle.fx_typing.specs.Meaning.{or_else}
@@ -61,9 +61,36 @@ taken_renamed (q ∷ r ∷ qs) ns = name_taken_or (part_name r) ns
     (taken_renamed qs (names_renamed (part_name q) (part_name r) ns))
 taken_renamed qs ns = None
 
+-- the columns of a table; what is none has none
+abbrev pub columns_in : JudgedPart → ColumnList
+columns_in (piece (value a c (tables cs))) = cs
+columns_in q = no_columns
+
+-- the name of the column of groups, where a column has it
+abbrev pub taken_name : Option (List ℕ) → ColumnList → Option (List ℕ)
+taken_name (Some x) cs = if is_some (field_in x cs) then Some x else None
+taken_name None cs = None
+
+abbrev pub taken_grouped : List JudgedPart → ColumnList → Option (List ℕ)
+taken_grouped [] cs = None
+taken_grouped (q ∷ []) cs = taken_name (part_name q) cs
+taken_grouped (q ∷ r ∷ qs) cs = taken_grouped (r ∷ qs) cs
+
+-- the first column of groups that another column has the name of, where the column of groups has
+-- this name
+abbrev pub shared_as : Option (List ℕ) → ColumnList → Option (List ℕ)
+shared_as (Some g) cs = shared_by g (field_in g cs) cs
+shared_as None cs = None
+
+abbrev pub taken_ungrouped : List JudgedPart → ColumnList → Option (List ℕ)
+taken_ungrouped (q ∷ []) cs = shared_as (part_name q) cs
+taken_ungrouped qs cs = None
+
 abbrev pub taken_by : Answer → List JudgedPart → Option (List ℕ)
 taken_by answer.Added (q ∷ qs) = taken_added qs (names_in q)
 taken_by answer.Renamed (q ∷ qs) = taken_renamed qs (names_in q)
+taken_by answer.Grouped (q ∷ qs) = taken_grouped qs (columns_in q)
+taken_by answer.Ungrouped (q ∷ qs) = taken_ungrouped qs (columns_in q)
 taken_by a qs = None
 
 -- of a call that has as many parts as it takes

@@ -5,7 +5,8 @@ use Rattle.std.specs.Ordering.{nat_cmp, match_ordering}
 use Rattle.std.specs.Cmp.Lexicographic.{slice_cmp}
 use Rattle.fx_types.specs.Types.{Shape, blanks, records, tables, ColumnList, no_columns, column}
 use Rattle.fx_types.specs.Values.{blank, rec, FieldList, no_fields, field}
-use Rattle.fx_core.specs.Term.{Term, of, nil, cons, all, const, within, list}
+use Rattle.fx_core.specs.declared.functions.Fun.TheVariants as fun
+use Rattle.fx_core.specs.Term.{Term, of, nil, cons, all, call, const, within, list}
 use Rattle.fx_core.specs.Term as term
 use Rattle.fx_core.specs.Rules as rules
 use Rattle.fx_core.specs.ColumnLists.{and_then, is_one_of, row_columns}
@@ -108,10 +109,14 @@ abbrev pub typed_list : List (Term × Shape) → Result (Term × Shape) ℕ
 typed_list [] = bounded (list_as (Some (records no_columns)) [])
 typed_list (x ∷ xs) = bounded (list_as (join_all (Some blanks) (x ∷ xs)) (x ∷ xs))
 
--- `Table`: records, where one of type Blank is one without columns. As of every call, its limits
--- are its caller's.
+-- `Table`: records, where one of type Blank is one without columns. Their list stands in a call of
+-- its own. As of every call, its limits are its caller's.
+abbrev pub as_table_call : Term × Shape → Term × Shape
+as_table_call y = (of (call fun.Table) (cons y.0 nil), y.1)
+
 abbrev pub typed_table : List (Term × Shape) → Result (Term × Shape) ℕ
-typed_table xs = list_as (join_all (Some (records no_columns)) xs) xs
+typed_table xs = and_then (list_as (join_all (Some (records no_columns)) xs) xs)
+    (λ y. Ok (as_table_call y))
 
 -- `With`: a record, where one of type Blank is one without fields, and a formula in its scope
 abbrev pub as_record : Term × Shape → Result Term ℕ

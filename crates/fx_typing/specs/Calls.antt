@@ -21,7 +21,7 @@ use Rattle.fx_typing.specs.Local.{Piece, value, node_made, formed}
 use Rattle.fx_typing.specs.Meaning.{Place}
 use Rattle.fx_typing.specs.Breaks.{taken_at, mistells, could_act, gives_variables, large_given}
 use Rattle.fx_typing.specs.Builds.{bounded, typed_table, with_of, blank_record}
-use Rattle.fx_typing.specs.Deeds.{by_first_name, by_rows, acted, until_settled}
+use Rattle.fx_typing.specs.Deeds.{by_first_name, by_columns, acted, until_settled}
 use Rattle.fx_typing.specs.Parts.{JudgedPart, Setting, may_act, unless_rule, pieces, values}
 use Rattle.fx_typing.specs.Plans.{pick}
 use Rattle.fx_typing.specs.Targets.{rows_named}
@@ -69,7 +69,7 @@ acted_or_lowest p s a qs = unless_rule (not (may_act s.grant)) rules.behaviour_i
     (unless_rule (not (could_act a qs)) rules.wrong_type (acted_by p a qs))
 
 abbrev pub defaults_of : Names → List ℕ → List JudgedPart → Result (Term × Shape) ℕ
-defaults_of n x qs = by_rows (rows_named n x) (λ r. Ok (blank_record r.1))
+defaults_of n x qs = by_columns (rows_named n x) (λ cs. Ok (blank_record cs))
 
 abbrev pub called_by : Place → Setting → SigShape → List JudgedPart → Result (Term × Shape) ℕ
 called_by p s (sig.One f) qs = made_or_lowest f qs

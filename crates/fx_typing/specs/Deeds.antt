@@ -4,6 +4,7 @@ use Rattle.std.specs.Prelude.{Some, None, is_some, Result, Ok, Err, if◌then◌
 use Rattle.fx_types.specs.TypeView.{shape}
 use Rattle.fx_types.specs.Types.{Shape, blanks, numbers, texts, booleans, records, tables}
 use Rattle.fx_types.specs.Types.{ColumnList, no_columns, column}
+use Rattle.fx_types.specs.Values.{rec, no_fields}
 use Rattle.fx_value.specs.Join.{join_of}
 use Rattle.fx_core.specs.declared.deeds.Deed.{Deed}
 use Rattle.fx_core.specs.declared.deeds.Deed.TheVariants as deed
@@ -19,7 +20,7 @@ use Rattle.fx_core.specs.declared.names.Collection.{Collection}
 use Rattle.fx_core.specs.declared.names.ControlName.{ControlName}
 use Rattle.fx_core.specs.declared.names.Names.{Names}
 use Rattle.fx_core.specs.declared.names.Variable.{Variable}
-use Rattle.fx_core.specs.Term.{Term, of, nil, cons, all, read, list, act}
+use Rattle.fx_core.specs.Term.{Term, of, nil, cons, all, const, read, list, chain, act}
 use Rattle.fx_core.specs.Rules as rules
 use Rattle.fx_core.specs.ColumnLists.{and_then, field_in, columns_without, row_columns}
 use Rattle.fx_typing.specs.Local.{value, coerced, by_way, firsts, put_first, node_made}
@@ -33,6 +34,23 @@ use Rattle.fx_typing.specs.Targets.{screen_named, control_named, rows_named}
 -- a deed, which answers true
 abbrev pub done_by : Deed → List Term → Term × Shape
 done_by d cs = (of (act d) (all cs), booleans)
+
+-- a deed that changes nothing
+abbrev pub nothing_done : Term × Shape
+nothing_done = done_by (deed.UpdateContext []) []
+
+-- what a call answers whose rows are none: for a row one without columns
+abbrev pub nothing_as : Shape → Term × Shape
+nothing_as (records ds) = (
+  of chain (cons nothing_done.0
+      (cons (of (const (rec no_fields)) nil) nil)),
+  records no_columns,
+)
+nothing_as t = nothing_done
+
+abbrev pub as_rows : Bool → Term × Shape → Term × Shape
+as_rows true y = nothing_as y.1
+as_rows false y = y
 
 -- whether a type joins to exactly another
 abbrev pub is_type : Option Shape → Shape → Bool
@@ -58,12 +76,22 @@ abbrev pub if_known : {A : Type 0} → Option A → (A → Result (Term × Shape
 if_known (Some a) go = go a
 if_known None go = Err rules.not_a_variable
 
--- goes on with rows of a table or a collection; a collection that has no type of a table has none
+-- goes on with rows of a table or a collection; a collection of type Blank is a table without
+-- columns, where nothing changes
 abbrev pub by_rows : Option (Target × Shape) → (Target × ColumnList → Result (Term × Shape) ℕ)
     → Result (Term × Shape) ℕ
 by_rows (Some (t, tables cs)) go = go (t, cs)
+by_rows (Some (t, blanks)) go = and_then (go (t, no_columns)) (λ y. Ok (as_rows true y))
 by_rows (Some r) go = Err rules.wrong_type
 by_rows None go = Err rules.not_a_variable
+
+-- goes on with their columns
+abbrev pub by_columns : Option (Target × Shape) → (ColumnList → Result (Term × Shape) ℕ)
+    → Result (Term × Shape) ℕ
+by_columns (Some (t, tables cs)) go = go cs
+by_columns (Some (t, blanks)) go = go no_columns
+by_columns (Some r) go = Err rules.wrong_type
+by_columns None go = Err rules.not_a_variable
 
 -- `Set`
 abbrev pub set_to : ℕ × Variable → List (Term × Shape) → Result (Term × Shape) ℕ
@@ -121,6 +149,7 @@ collect_of d n x qs = and_then (values qs) (λ xs. if_known (collection_named n 
 
 abbrev pub clear_by : ℕ → Shape → Result (Term × Shape) ℕ
 clear_by k (tables cs) = Ok (done_by (deed.Clear k) [])
+clear_by k blanks = Ok nothing_done
 clear_by k t = Err rules.wrong_type
 
 abbrev pub clear_of : Names → List ℕ → List JudgedPart → Result (Term × Shape) ℕ
@@ -233,7 +262,8 @@ update_if n (target a x ∷ q ∷ qs) = and_then (values qs)
     (λ xs. by_rows (rows_named n x) (λ r. update_to r a q xs))
 update_if n qs = Err rules.not_a_variable
 
--- `Navigate`, `Notify`, `Reset`: a screen, a text, a control that takes input
+-- `Navigate`, `Notify`, `Reset`: a screen, a text, a control. Of one that takes no input nothing is
+-- reset.
 abbrev pub navigate_of : Names → List ℕ → List JudgedPart → Result (Term × Shape) ℕ
 navigate_of n x qs = if_known (screen_named n x)
     (λ (s : ℕ × List ℕ). Ok (done_by (deed.Navigate s.0) []))
@@ -245,7 +275,7 @@ notify_of xs = Err rules.wrong_count
 
 abbrev pub reset_by : ℕ → Option Shape → Result (Term × Shape) ℕ
 reset_by k (Some t) = Ok (done_by (deed.Reset k) [])
-reset_by k None = Err rules.not_a_variable
+reset_by k None = Ok nothing_done
 
 abbrev pub reset_of : Names → List ℕ → List JudgedPart → Result (Term × Shape) ℕ
 reset_of n x qs = if_known (control_named n x)
@@ -265,10 +295,6 @@ acted n s acts.UpdateIf qs = update_if n qs
 acted n s acts.Navigate qs = by_first_name qs (navigate_of n)
 acted n s acts.Notify qs = and_then (values qs) notify_of
 acted n s acts.Reset qs = by_first_name qs (reset_of n)
-
--- a deed that changes nothing
-abbrev pub nothing_done : Term × Shape
-nothing_done = done_by (deed.UpdateContext []) []
 
 -- until the types of variables and collections are settled, no value is of a wrong type for one: a
 -- call that gives it is done, and changes nothing

@@ -25,7 +25,7 @@ use Rattle.fx_core.specs.Tree.{Tree, node, Forest, none, more, Head}
 use Rattle.fx_core.specs.Tree as tree
 use Rattle.fx_core.specs.Term.{Term}
 use Rattle.fx_core.specs.Rules as rules
-use Rattle.fx_core.specs.ColumnLists.{field_in, with_renamed, is_one_of, row_columns}
+use Rattle.fx_core.specs.ColumnLists.{field_in, with_renamed, is_one_of, row_columns, before_last}
 use Rattle.fx_typing.specs.Local.{Piece, value, label, join_all}
 use Rattle.fx_typing.specs.Meaning.{Place, or_else}
 use Rattle.fx_typing.specs.Breaks.{taken_at, large_given}
@@ -167,6 +167,10 @@ stuck_by answer.Shown (value a c (tables cs) ∷ ps) = stuck_sought ps cs
 stuck_by answer.Shown (value a c t ∷ ps) = stuck_sought ps no_columns
 stuck_by answer.Renamed (value a c (tables cs) ∷ ps) = stuck_renamed ps cs
 stuck_by answer.Renamed (value a c t ∷ ps) = stuck_renamed ps no_columns
+stuck_by answer.Grouped (value a c (tables cs) ∷ ps) = stuck_sought (before_last ps) cs
+stuck_by answer.Grouped (value a c t ∷ ps) = stuck_sought (before_last ps) no_columns
+stuck_by answer.Ungrouped (value a c (tables cs) ∷ ps) = stuck_sought ps cs
+stuck_by answer.Ungrouped (value a c t ∷ ps) = stuck_sought ps no_columns
 stuck_by a ps = codes "Kind"
 
 -- the first field of a record that is none of some columns

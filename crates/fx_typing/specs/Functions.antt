@@ -15,9 +15,9 @@ use Rattle.fx_core.specs.declared.rows.Takes.TheVariants as takes
 use Rattle.fx_core.specs.Rows.{shape_of, row_of, form_row, takes_at, takes_count}
 use Rattle.fx_core.specs.SourceTypes.{put_column}
 use Rattle.fx_core.specs.Term.{Term, of, nil, all, Top, const, form}
-use Rattle.fx_typing.specs.Columns.{tells_error, label_of}
+use Rattle.fx_typing.specs.Columns.{tells_error, label_of, with_group, first_shared}
 use Rattle.fx_core.specs.ColumnLists.{value_column, row_columns, field_in, columns_without}
-use Rattle.fx_core.specs.ColumnLists.{columns_only, without_all}
+use Rattle.fx_core.specs.ColumnLists.{columns_only, without_all, joined_columns}
 use Rattle.fx_typing.specs.Local.{Piece, value, label, coerced, exact_way, branch_way, branches}
 use Rattle.fx_typing.specs.Local.{join_all, all_scalar, some_text, some_acts, firsts}
 use Rattle.fx_typing.specs.WellTyped.{head_of, row_type}
@@ -129,6 +129,15 @@ pub data AreColumns (cs : ColumnList) : List (Term × Shape) → List (List ℕ)
       label_of x.0 ≡ Some n → field_in n cs ≡ Some t → AreColumns cs xs ns
       → AreColumns cs (x ∷ xs) (n ∷ ns)
 
+-- names of columns without parts, and behind them a new one
+pub data Groups (cs : ColumnList) : List (Term × Shape) → List (List ℕ) → List ℕ → Type 0 where
+  the_group : {x : Term × Shape} {g : List ℕ} → label_of x.0 ≡ Some g → field_in g cs ≡ None
+      → Groups cs (x ∷ []) [] g
+  one_key : {x y : Term × Shape} {n g : List ℕ} {t : Shape} {xs : List (Term × Shape)}
+      {ns : List (List ℕ)} →
+      label_of x.0 ≡ Some n → field_in n cs ≡ Some t → is_scalar t ≡ true → Groups cs (y ∷ xs) ns g
+      → Groups cs (x ∷ y ∷ xs) (n ∷ ns) g
+
 -- the type that a call answers, from its parts as they stand and the common type of its branches
 pub data AnswerType (common : Shape) : Answer → List (Term × Shape) → Shape → Type 0 where
   this : {s : Scalar} {xs : List (Term × Shape)}
@@ -152,6 +161,15 @@ pub data AnswerType (common : Shape) : Answer → List (Term × Shape) → Shape
       (tables (columns_only ns cs))
   columns_anew : {c : Term} {cs ds : ColumnList} {xs : List (Term × Shape)} →
       Renames xs cs ds → AnswerType common answer.Renamed ((c, tables cs) ∷ xs) (tables ds)
+  in_groups : {c : Term} {cs : ColumnList} {xs : List (Term × Shape)} {ns : List (List ℕ)}
+      {g : List ℕ} →
+      Groups cs xs ns g → AnswerType common answer.Grouped ((c, tables cs) ∷ xs)
+      (tables (with_group g ns cs))
+  out_of_groups : {c : Term} {x : Term × Shape} {cs ds : ColumnList} {g : List ℕ}
+      → label_of x.0 ≡ Some g → field_in g cs ≡ Some (tables ds) →
+      first_shared ds (columns_without g cs) ≡ None
+      → AnswerType common answer.Ungrouped ((c, tables cs) ∷ x ∷ [])
+      (tables (joined_columns ds (columns_without g cs)))
   values_of : {x y : Term × Shape} {xs : List (Term × Shape)}
       → AnswerType common answer.Values (x ∷ y ∷ xs) (tables (value_column y.1))
   rows_of_each : {x y : Term × Shape} {xs : List (Term × Shape)}

@@ -1,8 +1,8 @@
 -- What a node is, where it stands, by its head and by what its parts are.
 use Rattle.std.specs.Prelude.{◌≡◌, ℕ, suc, ℤ, List, [], ◌∷◌, Bool, true, false, nat_eq, nat_le}
 use Rattle.std.specs.Prelude.{length, take, drop, encode_utf8_all, Option, Some, None}
-use Rattle.fx_types.specs.Types.{Shape, numbers, texts, booleans, dates, records, tables}
-use Rattle.fx_types.specs.Types.{ColumnList, no_columns}
+use Rattle.fx_types.specs.Types.{Shape, numbers, texts, booleans, dates, records, ColumnList}
+use Rattle.fx_types.specs.Types.{no_columns}
 use Rattle.fx_types.specs.Values as values
 use Rattle.fx_core.specs.declared.deeds.Target.{Target}
 use Rattle.fx_core.specs.declared.functions.Acting.{Acting}
@@ -26,12 +26,12 @@ use Rattle.fx_typing.specs.Meaning.{Place, NameMeaning, valued}
 use Rattle.fx_typing.specs.Operators.{function_of}
 use Rattle.fx_typing.specs.WellTyped.{last_type}
 use Rattle.fx_typing.specs.Builds.{is_bounded, types_of, are_names_distinct, record_by, put_fields}
-use Rattle.fx_typing.specs.Builds.{blank_record}
+use Rattle.fx_typing.specs.Builds.{as_table_call, blank_record}
 use Rattle.fx_typing.specs.Calls.{literal_in}
 use Rattle.fx_typing.specs.Parts.{Grant, an_alias, a_column, a_target, aliased_target, a_meaning}
 use Rattle.fx_typing.specs.Parts.{on_screen, JudgedPart, piece, target, assigned, Setting, may_act}
 use Rattle.fx_typing.specs.Parts.{plainly, pieces}
-use Rattle.fx_typing.specs.Targets.{rows_named}
+use Rattle.fx_typing.specs.Targets.{AreRows, rows_named}
 use Rattle.fx_typing.specs.Acting.{ActingCallHasType}
 use Rattle.fx_typing.specs.Functions.{Calls, Forms}
 use Rattle.fx_typing.specs.Meanings.{IsGlobal, NameMeans}
@@ -60,10 +60,11 @@ pub data Called (p : Place) (s : Setting) : SigShape → List JudgedPart → Ter
       Called p s sig.With qs (of within (cons k (cons f.0 nil)), f.1)
   table_of_rows : {qs : List JudgedPart} {xs : List (Term × Shape)} {y : Term × Shape}
       → AreValueParts qs xs →
-      Rows (join_all (Some (records no_columns)) xs) xs y → Called p s sig.Table qs y
+      Rows (join_all (Some (records no_columns)) xs) xs y
+      → Called p s sig.Table qs (as_table_call y)
   today : {qs : List JudgedPart} → Called p s sig.Today qs (of (read source.Today) nil, dates)
-  defaults : {x : List ℕ} {qs : List JudgedPart} {t : Target} {cs : ColumnList}
-      → rows_named p.names x ≡ Some (t, tables cs) →
+  defaults : {x : List ℕ} {qs : List JudgedPart} {t : Target} {cs : ColumnList} {blank : Bool}
+      → AreRows (rows_named p.names x) t cs blank →
       Called p s sig.Defaults (target None x ∷ qs) (blank_record cs)
   acting_call : {a : Acting} {qs : List JudgedPart} {y : Term × Shape} → may_act s.grant ≡ true
       → ActingCallHasType p a qs y → Called p s (sig.Act a) qs y
@@ -158,7 +159,8 @@ pub data Node (p : Place) (s : Setting) : Head → List JudgedPart → JudgedPar
       → Node p s (tree.rec ns ps) qs (plainly (record_by (put_fields ns xs)))
   screen_variables : {ns : List (List ℕ)} {ps : List ℕ} {b : Bool} {qs : List JudgedPart}
       {xs : List (Term × Shape)} → s.grant ≡ on_screen b → AreValueParts qs xs →
-      are_names_distinct ns ≡ true → Node p s (tree.rec ns ps) qs (assigned ns xs)
+      are_names_distinct ns ≡ true → is_bounded (record_by (put_fields ns xs)).1 ≡ true
+      → Node p s (tree.rec ns ps) qs (assigned ns xs)
   a_list : {qs : List JudgedPart} {xs : List (Term × Shape)} {y : Term × Shape}
       → AreValueParts qs xs → Rows (list_join xs) xs y → is_bounded y.1 ≡ true →
       Node p s tree.list qs (plainly y)

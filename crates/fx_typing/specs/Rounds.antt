@@ -220,6 +220,7 @@ pub record SameNames (n : Names) (m : Names) : Type 0 where
   pub signatures : n.signatures ≡ m.signatures
   pub schema : n.schema ≡ m.schema
   pub screens : n.screens ≡ m.screens
+  pub functions : n.functions ≡ m.functions
   pub properties : n.properties ≡ m.properties
   pub controls : AllSame SameControl n.controls m.controls
   pub formulas : AllSame SameFormula n.formulas m.formulas

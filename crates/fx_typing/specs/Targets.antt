@@ -1,7 +1,8 @@
 -- What acting calls change, by its name among the global ones.
-use Rattle.std.specs.Prelude.{ℕ, List, ◌&&◌, Option, Some, None, option_map, bytes_eq}
+use Rattle.std.specs.Prelude.{◌≡◌, ℕ, Bool, true, false, List, ◌&&◌, Option, Some, None, option_map}
+use Rattle.std.specs.Prelude.{bytes_eq}
 use Rattle.fx_types.specs.TypeView.{shape}
-use Rattle.fx_types.specs.Types.{Shape, tables, ColumnList, no_columns}
+use Rattle.fx_types.specs.Types.{Shape, blanks, tables, ColumnList, no_columns}
 use Rattle.fx_core.specs.declared.deeds.Target.{Target}
 use Rattle.fx_core.specs.declared.deeds.Target.TheVariants as rows
 use Rattle.fx_core.specs.declared.names.Collection.{Collection}
@@ -39,6 +40,12 @@ rows_named n x =
     or_else (option_map (λ (t : ℕ × TableShape). (rows.Table t.0, tables (columns_of t.1)))
     (table_named n x))
     (option_map (λ (c : ℕ × Collection). (rows.Gathered c.0, shape c.1.ty)) (collection_named n x))
+
+-- rows of this name with their columns: those of a table, and none where a collection is of type
+-- Blank, which has no rows
+pub data AreRows (o : Option (Target × Shape)) : Target → ColumnList → Bool → Type 0 where
+  some_table : {t : Target} {cs : ColumnList} → o ≡ Some (t, tables cs) → AreRows o t cs false
+  no_table : {t : Target} → o ≡ Some (t, blanks) → AreRows o t no_columns true
 
 abbrev pub columns_or_none : Option (Target × Shape) → ColumnList
 columns_or_none (Some r) = item_columns r.1

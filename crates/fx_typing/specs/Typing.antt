@@ -2,11 +2,14 @@
 use Rattle.std.specs.Prelude.{ℕ, List, [], ◌∷◌, ◌++◌, Bool, true, false, ◌&&◌, not, nat_lt, length}
 use Rattle.std.specs.Prelude.{map, option_map, slice_get, Option, Some, None, Result, Ok, Err}
 use Rattle.std.specs.Prelude.{if◌then◌else◌}
+use Rattle.fx_types.specs.TypeView.{shape}
 use Rattle.fx_types.specs.Types.{Shape, numbers, texts, booleans, tables, no_columns}
 use Rattle.fx_types.specs.Values.{Data, number, text, boolean}
 use Rattle.fx_core.specs.declared.functions.Form.TheVariants as form
 use Rattle.fx_core.specs.declared.functions.Fun.TheVariants as fun
+use Rattle.fx_core.specs.declared.names.FunctionName.{FunctionName}
 use Rattle.fx_core.specs.declared.names.Names.{Names}
+use Rattle.fx_core.specs.declared.names.Parameter.{Parameter}
 use Rattle.fx_core.specs.SourceTypes.{item_type, sources}
 use Rattle.fx_core.specs.declared.expr.Op.{Op}
 use Rattle.fx_core.specs.Tree.{Tree, node, Forest, none, more, Head}
@@ -20,7 +23,8 @@ use Rattle.fx_typing.specs.Meaning.{named, dotted}
 use Rattle.fx_typing.specs.Operators.{function_of}
 use Rattle.fx_typing.specs.WellTyped.{Context, last_type}
 use Rattle.fx_typing.specs.Ways.{way}
-use Rattle.fx_typing.specs.Builds.{types_of, typed_record, typed_list, are_names_distinct}
+use Rattle.fx_typing.specs.Builds.{types_of, typed_record, record_by, put_fields, is_bounded}
+use Rattle.fx_typing.specs.Builds.{typed_list, are_names_distinct}
 use Rattle.fx_typing.specs.Calls.{called, made_if}
 use Rattle.fx_typing.specs.Parts.{Grant, nothing, acting, an_alias, a_column, a_target}
 use Rattle.fx_typing.specs.Parts.{aliased_target, a_meaning, on_screen, JudgedPart, piece, meant}
@@ -65,9 +69,11 @@ alias_by aliased_target x (piece (value a c t) ∷ []) = Ok (piece (value (Some 
 alias_by aliased_target x (target None y ∷ []) = Ok (target (Some x) y)
 alias_by g x qs = Err rules.wrong_type
 
--- a record; or variables of a screen with their values
+-- a record; or variables of a screen with their values, which are a record too
 abbrev pub assigned_of : List (List ℕ) → List (Term × Shape) → Result JudgedPart ℕ
-assigned_of ns xs = if are_names_distinct ns then Ok (assigned ns xs) else Err rules.name_twice
+assigned_of ns xs =
+    if are_names_distinct ns then unless_rule (not (is_bounded (record_by (put_fields ns xs)).1))
+    rules.limit_passed (Ok (assigned ns xs)) else Err rules.name_twice
 
 abbrev pub record_as : Grant → List (List ℕ) → List (Term × Shape) → Result JudgedPart ℕ
 record_as (on_screen b) ns xs = assigned_of ns xs
@@ -155,6 +161,10 @@ abbrev pub item_context : Names → Option ℕ → Option Shape
 item_context n (Some g) = option_map item_type (slice_get n.controls g)
 item_context n None = None
 
+-- what a function of the app's own takes and answers
+abbrev pub function_types : FunctionName → List Shape × Shape
+function_types f = (map (λ (q : Parameter). shape q.ty) f.params, shape f.result)
+
 abbrev pub context_of : Place → Setting → Context
 context_of p s = record {
   sources = sources p.names;
@@ -162,6 +172,7 @@ context_of p s = record {
   rows = map (λ (r : Scope). r.row_type) s.scopes;
   item = item_context p.names p.gallery;
   caught = s.catches;
+  functions = map function_types p.names.functions;
 }
 
 -- what is wanted of a formula: a table type without columns lets every table be

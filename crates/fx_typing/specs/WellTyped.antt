@@ -21,23 +21,24 @@ use Rattle.fx_core.specs.declared.sources.Source.{Source}
 use Rattle.fx_core.specs.declared.sources.Source.TheVariants as source
 use Rattle.fx_core.specs.Rows.{shape_of, row_of, form_row, takes_at, takes_count}
 use Rattle.fx_core.specs.Term.{Term, Terms, of, nil, cons, Top, const, read, row, item, caught, dot}
-use Rattle.fx_core.specs.Term.{call, over, form, within, rec, list, coerce, chain, act}
+use Rattle.fx_core.specs.Term.{call, over, user, form, within, rec, list, coerce, chain, act}
 use Rattle.fx_core.specs.Rules as rules
 use Rattle.fx_typing.specs.Ways.{way, changed, is_scalar, is_comparable}
 use Rattle.fx_typing.specs.LawfulTypes.{IsLawfulType}
 use Rattle.fx_typing.specs.Columns.{field_shape, added, dropped, columns_shown, columns_renamed}
-use Rattle.fx_typing.specs.Columns.{fault_type, tells_error}
+use Rattle.fx_typing.specs.Columns.{grouped, ungrouped, fault_type, tells_error}
 use Rattle.fx_core.specs.ColumnLists.{field_in, value_column, row_columns}
 
 -- what a tree stands in: the types of the sources, how many screens there are, the types of the
--- scopes from the outside, that of the gallery's item if there is one, and whether an error is
--- caught around
+-- scopes from the outside, that of the gallery's item if there is one, whether an error is caught
+-- around, and of each function of the app's own the types of its parameters, and that of its result
 pub record Context : Type 0 where
   pub sources : Source → Option Shape
   pub screens : ℕ
   pub rows : List Shape
   pub item : Option Shape
   pub caught : Bool
+  pub functions : List (List Shape × Shape)
 
 -- the head of a call: a function whose first argument is a table is called over it
 abbrev pub head_by : Takes → Fun → Top
@@ -141,6 +142,8 @@ answered_type answer.Added common ((c, tables cs) ∷ xs) = as_table (added xs c
 answered_type answer.Dropped common ((c, tables cs) ∷ xs) = as_table (dropped xs cs)
 answered_type answer.Shown common ((c, tables cs) ∷ xs) = as_table (columns_shown xs cs)
 answered_type answer.Renamed common ((c, tables cs) ∷ xs) = as_table (columns_renamed xs cs)
+answered_type answer.Grouped common ((c, tables cs) ∷ xs) = as_table (grouped xs cs)
+answered_type answer.Ungrouped common ((c, tables cs) ∷ xs) = as_table (ungrouped xs cs)
 answered_type answer.Values common (x ∷ y ∷ xs) = Ok (tables (value_column y.1))
 answered_type answer.Each common (x ∷ y ∷ xs) = Ok (tables (row_columns y.1))
 answered_type a common xs = Err rules.wrong_type
@@ -259,6 +262,7 @@ IsRuled c caught cs us t = (c.caught ≡ true) × (t ≡ fault_type)
 IsRuled c (dot x) cs (u ∷ []) t = field_shape x u ≡ Some t
 IsRuled c (call f) cs us t = (head_of f ≡ call f) × IsByRow (row_of f) cs us t
 IsRuled c (over f) cs us t = (head_of f ≡ over f) × IsByRow (row_of f) cs us t
+IsRuled c (user f) cs us t = slice_get c.functions f ≡ Some (us, t)
 IsRuled c (form f) cs us t = IsByRow (form_row f) cs us t
 IsRuled c within cs (records ds ∷ u ∷ []) t = t ≡ u
 IsRuled c (rec ns) cs us t = (length ns ≡ length us) × NamesRise ns

@@ -13,7 +13,7 @@ ghost use Rattle.fx_typing.specs.ColumnPlaces.{column_rank};
 ghost use Rattle.fx_typing.specs.TypedView.{typed};
 
 use crate::typed::Typed;
-use crate::ways::{Way, way_to};
+use crate::ways::{Way, is_scalar, way_to};
 use crate::wrong::Wrong;
 use fx_base::Memory;
 use fx_core::{Core, CoreNode, Rule};
@@ -218,6 +218,142 @@ pub fn show_columns(alloc: Global, parts: &[Typed], columns: Columns) -> Result<
 {
     let names = names_there(alloc, parts, &columns)?;
     Ok(only(names.as_slice(), columns))
+}
+
+// Whether each of these names of columns, if it is there, is that of values without parts.
+fn are_keys(parts: &[Typed], columns: &Columns) -> bool
+    ensures { result ≡ typing.are_keys (map typed parts.now) (column_list columns.now) }
+{
+    for part in parts {
+        if !is_key(&part.core, columns) {
+            return false;
+        }
+    }
+    true
+}
+
+// Whether a name of a column, if it is there, is that of values without parts.
+fn is_key(core: &Core, columns: &Columns) -> bool
+    ensures { result ≡ typing.is_key (typing.label_of core.now) (column_list columns.now) }
+{
+    let Some(name) = label_of(core) else {
+        return true;
+    };
+    match field_in(name, columns) {
+        Some(ty) => is_scalar(ty),
+        None => true,
+    }
+}
+
+/// The columns of groups: those of these names, which are all there, and at the last name, which is
+/// new, a table of the columns that aren't named.
+pub fn group_columns(alloc: Global, parts: &[Typed], columns: Columns) -> Result<Columns, Wrong>
+    ensures { IsAnswerOf column_list (typing.grouped (map typed parts.now) (column_list columns))
+        result }
+{
+    let [keys @ .., last] = parts else {
+        return Err(Wrong::Refused(Rule::WrongType));
+    };
+    let group = name_of(alloc, &last.core)?;
+    if field_in(&group, &columns).is_some() {
+        return Err(Wrong::Refused(Rule::NameTwice));
+    }
+    group_under(alloc, group, keys, columns)
+}
+
+// The columns of groups under a name that is new.
+fn group_under(
+    alloc: Global,
+    group: Words,
+    keys: &[Typed],
+    columns: Columns,
+) -> Result<Columns, Wrong>
+    ensures { IsAnswerOf column_list (typing.grouped_by group (map typed keys.now)
+        (column_list columns)) result }
+{
+    if !are_keys(keys, &columns) {
+        return Err(Wrong::Refused(Rule::WrongType));
+    }
+    let names = names_there(alloc, keys, &columns)?;
+    let others = without_all(names.as_slice(), columns.copy(alloc)?);
+    let shown = only(names.as_slice(), columns);
+    Ok(put_column(group, Ty::Tab(others), shown)?)
+}
+
+// The first column of some that others have too.
+fn first_shared<'a>(inner: &'a Columns, columns: &Columns) -> Option<&'a Words>
+    ensures { option_map (λ w. w.now) result ≡ typing.first_shared (column_list inner.now)
+        (column_list columns.now) }
+{
+    for (name, _) in inner.as_slice() {
+        if field_in(name, columns).is_some() {
+            return Some(name);
+        }
+    }
+    None
+}
+
+// Columns beside others.
+fn join_columns(alloc: Global, inner: &Columns, columns: Columns) -> Result<Columns, Memory>
+    ensures { IfOk result (λ cs. column_list cs
+        ≡ lists.joined_columns (column_list inner.now) (column_list columns)) }
+{
+    let mut joined = columns;
+    for (name, ty) in inner.as_slice() {
+        joined = put_column(name.copy(alloc)?, ty.copy(alloc)?, joined)?;
+    }
+    Ok(joined)
+}
+
+/// The first column of the tables in a column that another column has the name of.
+pub fn shared_column<'a>(
+    alloc: Global,
+    group: &Words,
+    columns: &'a Columns,
+) -> Result<Option<&'a Words>, Memory>
+    ensures { IfOk result (λ o. option_map (λ w. w.now) o
+        ≡ typing.shared_by group.now (lists.field_in group.now (column_list columns.now))
+        (column_list columns.now)) }
+{
+    match field_in(group, columns) {
+        Some(Ty::Tab(inner)) => {
+            let others = without(group, columns.copy(alloc)?);
+            Ok(first_shared(inner, &others))
+        }
+        _ => Ok(None),
+    }
+}
+
+/// The columns without one of groups, beside those of its tables.
+pub fn ungroup_columns(alloc: Global, parts: &[Typed], columns: Columns) -> Result<Columns, Wrong>
+    ensures { IsAnswerOf column_list (typing.ungrouped (map typed parts.now) (column_list columns))
+        result }
+{
+    let [part] = parts else {
+        return Err(Wrong::Refused(Rule::WrongCount));
+    };
+    let group = name_of(alloc, &part.core)?;
+    match field_in(&group, &columns) {
+        None => Err(Wrong::Refused(Rule::UnknownColumn)),
+        Some(ty) => {
+            let ty = ty.copy(alloc)?;
+            let others = without(&group, columns);
+            out_of(alloc, &ty, others)
+        }
+    }
+}
+
+// The columns of the tables of a column of groups beside the others.
+fn out_of(alloc: Global, ty: &Ty, others: Columns) -> Result<Columns, Wrong>
+    ensures { IsAnswerOf column_list (typing.out_of (shape ty.now) (column_list others)) result }
+{
+    let Ty::Tab(inner) = ty else {
+        return Err(Wrong::Refused(Rule::WrongType));
+    };
+    if first_shared(inner, &others).is_some() {
+        return Err(Wrong::Refused(Rule::NameTwice));
+    }
+    Ok(join_columns(alloc, inner, others)?)
 }
 
 /// The one column, `Value`, of a table of values.

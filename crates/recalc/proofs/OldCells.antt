@@ -53,6 +53,7 @@ top_of W K top.caught u r o = o
 top_of W K (top.dot n) u r o = o
 top_of W K (top.call f) u r o = o
 top_of W K (top.over f) u r o = o
+top_of W K (top.user f) u r o = o
 top_of W K (top.form f) u r o = o
 top_of W K top.within u r o = o
 top_of W K (top.rec ns) u r o = o

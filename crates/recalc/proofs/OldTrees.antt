@@ -183,7 +183,7 @@ names_stay W g (P ∷ Ps) k a m (n ∷ ns) h = (k.0 a (text n) m h.0, names_stay
 names_stay W g [] k a m (n ∷ ns) h = absurd h
 names_stay W g (P ∷ Ps) k a m [] h = absurd h
 
-named_stays : (W : Was) (g : Giving) (made : List (List ℕ) → List Row) (Ps : List Two) → AllStay W g Ps → Stays W g (MakesByNames made (olds Ps), MakesByNames made (news Ps))
+named_stays : (W : Was) (g : Giving) (made : List (List ℕ) → Data) (Ps : List Two) → AllStay W g Ps → Stays W g (MakesByNames made (olds Ps), MakesByNames made (news Ps))
 named_stays W g made Ps k a v m h = (h.0, names_stay W g Ps k a m h.0 h.1, h.2)
 
 new_stay : (W : Was) (g : Giving) (rows : List Row) (Ps : List Two) → AllStay W g Ps → (a : Around) → GivesMoreOf W g a → (cs : List (List ℕ × List Data)) →
@@ -219,6 +219,8 @@ made_stays W g fun.AverageRows rows Ps k a v m h = of_each W g rows Ps k a m _ h
 made_stays W g fun.AddColumns rows Ps k a v m h = (h.0, new_stay W g rows Ps k a m h.0 h.1, h.2)
 made_stays W g fun.DropColumns rows Ps k a v m h = named_stays W g _ Ps k a v m h
 made_stays W g fun.ShowColumns rows Ps k a v m h = named_stays W g _ Ps k a v m h
+made_stays W g fun.GroupBy rows Ps k a v m h = named_stays W g _ Ps k a v m h
+made_stays W g fun.Ungroup rows Ps k a v m h = named_stays W g _ Ps k a v m h
 made_stays W g fun.RenameColumns rows Ps k a v m h = (h.0, pairs_stay W g Ps k a m h.0 h.1, h.2)
 made_stays W g fun.Distinct rows Ps k a v m h = of_each W g rows Ps k a m _ h
 made_stays W g fun.ForAll rows Ps k a v m h = of_each W g rows Ps k a m _ h
@@ -257,6 +259,7 @@ node_stays W g top.caught Ps r k a v m h = h
 node_stays W g (top.dot n) Ps r k a v m h = of_one W g Ps k a m _ h
 node_stays W g (top.call f) Ps r k a v m h = called_stays W g f Ps k a v m h
 node_stays W g (top.over f) Ps r k a v m h = over_stays W g f Ps k a v m h
+node_stays W g (top.user f) Ps r k a v m h = absurd h
 node_stays W g (top.form f) Ps r k a v m h = formed_stays W g f Ps k a v m h
 node_stays W g top.within Ps r k a v m h = within_stays W g Ps k a v m h
 node_stays W g (top.rec ns) Ps r k a v m h = of_all W g Ps k a m _ h
@@ -278,6 +281,7 @@ old_node W g top.caught u Ps o k a v m x = same_node W g top.caught u Ps tt k o 
 old_node W g (top.dot n) u Ps o k a v m x = same_node W g (top.dot n) u Ps tt k o a v m x
 old_node W g (top.call f) u Ps o k a v m x = same_node W g (top.call f) u Ps tt k o a v m x
 old_node W g (top.over f) u Ps o k a v m x = same_node W g (top.over f) u Ps tt k o a v m x
+old_node W g (top.user f) u Ps o k a v m x = same_node W g (top.user f) u Ps tt k o a v m x
 old_node W g (top.form f) u Ps o k a v m x = same_node W g (top.form f) u Ps tt k o a v m x
 old_node W g top.within u Ps o k a v m x = same_node W g top.within u Ps tt k o a v m x
 old_node W g (top.rec ns) u Ps o k a v m x = same_node W g (top.rec ns) u Ps tt k o a v m x

@@ -218,10 +218,11 @@ ready_by a c item S w quiet fit keeps here =
       of_sources = λ x t e. calm.context.of_sources x t (here x t e);
       of_scopes = tt;
       of_item = calm.context.of_item;
+      of_functions = λ k us t e. absurd cc;
     } in
     record {
       context = record whole { sources = S };
-      suits = record { sources = refl; rows = tt; item = fit; caught = λ e. absurd cc };
+      suits = record { sources = refl; rows = tt; item = fit; caught = λ e. absurd cc; functions = refl };
       typed = typed;
       lawful = typings_lawful (record whole { sources = S }) tree (shape c.ty) typed around (limited_lawful ts a.limit 0 false c.core calm.lawful);
       quiet = of_tree.1;

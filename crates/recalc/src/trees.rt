@@ -267,6 +267,7 @@ fn is_old_top(old: &App, new: &App, places: &[Option<usize>], tree: &Core, was: 
         CoreNode::IfError(_) => matches!(&was.node, CoreNode::IfError(_)),
         CoreNode::Coerce(_, a) => matches!(&was.node, CoreNode::Coerce(_, b) if is_same_type(a, b)),
         CoreNode::Chain(_) => matches!(&was.node, CoreNode::Chain(_)),
+        CoreNode::User(a, _) => matches!(&was.node, CoreNode::User(b, _) if a == b),
         CoreNode::Act(_, _) => false,
     }
 }
@@ -339,6 +340,7 @@ fn part(tree: &Core, place: usize) -> Option<&Core>
         CoreNode::With(record, formula) => either_part(record, formula, place),
         CoreNode::Rec(fields) => field_part(fields, place),
         CoreNode::Call(_, parts)
+        | CoreNode::User(_, parts)
         | CoreNode::List(_, parts)
         | CoreNode::All(parts)
         | CoreNode::Any(parts)
@@ -366,6 +368,7 @@ fn last_place(tree: &Core) -> usize
         CoreNode::With(_, _) => 1,
         CoreNode::Rec(fields) => fields.len(),
         CoreNode::Call(_, parts)
+        | CoreNode::User(_, parts)
         | CoreNode::Over(_, _, parts)
         | CoreNode::List(_, parts)
         | CoreNode::All(parts)

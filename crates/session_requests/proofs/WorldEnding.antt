@@ -50,7 +50,7 @@ use Rattle.session_requests.specs.Writable.{AllSources}
 pub can_act : (a : App) (c : CellInfo) (item : Option Data) → IsActingCell a c → IsItemFit item (item_context a.names c.cell.item) → IsActable (sources a.names) (outermost_scope item) c.core (shape c.ty)
 can_act a c item h fit = record {
   context = context_at a.names c.cell.item;
-  suits = record { sources = refl; rows = tt; item = fit; caught = λ e. absurd cc };
+  suits = record { sources = refl; rows = tt; item = fit; caught = λ e. absurd cc; functions = refl };
   typed = h.typed;
   lawful = h.lawful;
   placed = h.placed;

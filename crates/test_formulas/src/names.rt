@@ -44,6 +44,7 @@ pub fn bare_names(alloc: Global) -> Result<Names, Stop> {
         screens: InOrder::new(alloc),
         controls: InOrder::new(alloc),
         properties: InOrder::new(alloc),
+        functions: InOrder::new(alloc),
         formulas: FormulaList::new(alloc),
         variables: InOrder::new(alloc),
         collections: InOrder::new(alloc),

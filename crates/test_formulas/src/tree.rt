@@ -32,6 +32,10 @@ pub fn write_tree(answer: &mut Answer, core: &Core, depth: u32) {
             write_name(answer, fun);
             write_parts(answer, "(", parts.as_slice(), depth);
         }
+        CoreNode::User(function, parts) => {
+            answer.add_made(format!(in answer.alloc; "User {function}"));
+            write_parts(answer, "(", parts.as_slice(), depth);
+        }
         CoreNode::Over(fun, table, parts) => {
             write_name(answer, fun);
             answer.add("(");

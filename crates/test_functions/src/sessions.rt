@@ -29,6 +29,7 @@ fn no_names(alloc: Global) -> Names {
         screens: InOrder::new(alloc),
         controls: InOrder::new(alloc),
         properties: InOrder::new(alloc),
+        functions: InOrder::new(alloc),
         formulas: FormulaList::new(alloc),
         variables: InOrder::new(alloc),
         collections: InOrder::new(alloc),

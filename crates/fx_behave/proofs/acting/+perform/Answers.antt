@@ -337,6 +337,7 @@ node-unreachable-requires g t c = other c.core.inside.node refl
     other kind.Item e = nodes.no_place (g.W.Env.fixed c.args.world.now).types c.args.scope.now _ _ _ (sym (ap core_branch e) ∙ c.core.view_is) refl c.requires.can c.requires.acts
     other kind.Caught e = nodes.no_place (g.W.Env.fixed c.args.world.now).types c.args.scope.now _ _ _ (sym (ap core_branch e) ∙ c.core.view_is) refl c.requires.can c.requires.acts
     other (kind.Call f ps) e = nodes.no_place (g.W.Env.fixed c.args.world.now).types c.args.scope.now _ _ _ (sym (ap core_branch e) ∙ c.core.view_is) refl c.requires.can c.requires.acts
+    other (kind.User f ps) e = nodes.no_place (g.W.Env.fixed c.args.world.now).types c.args.scope.now _ _ _ (sym (ap core_branch e) ∙ c.core.view_is) refl c.requires.can c.requires.acts
     other (kind.Rec fs) e = nodes.no_place (g.W.Env.fixed c.args.world.now).types c.args.scope.now _ _ _ (sym (ap core_branch e) ∙ c.core.view_is) refl c.requires.can c.requires.acts
     other (kind.All ps) e = nodes.no_place (g.W.Env.fixed c.args.world.now).types c.args.scope.now _ _ _ (sym (ap core_branch e) ∙ c.core.view_is) refl c.requires.can c.requires.acts
     other (kind.Any ps) e = nodes.no_place (g.W.Env.fixed c.args.world.now).types c.args.scope.now _ _ _ (sym (ap core_branch e) ∙ c.core.view_is) refl c.requires.can c.requires.acts

@@ -8,7 +8,7 @@ use Rattle.fx_typing.specs.declared.typed.Typed.{Typed}
 use Rattle.fx_typing.specs.TypedView.{typed}
 use Rattle.fx_resolve.specs.PartView.{judged_part}
 use Rattle.fx_core.specs.Term.{Term}
-use Rattle.fx_call_typing.specs.Changes.{changing_view}
+use Rattle.fx_call_typing.specs.Changes.{changing_view, found_view}
 use Rattle.fx_node_typing.proofs.Exits.{first_stops, goes_on}
 use Rattle.fx_call_typing.proofs.RowSteps.{rows_stop, rows_go}
 use Rattle.fx_call_typing.proofs.filtering.update_named.Goals as goal
@@ -26,11 +26,11 @@ returns-in_err-rows c =
     let xs = map typed c.in_ok-changes.changes.items in
     rw (p.1, p.2)
     (goes_on typed (values (map judged_part c.args.changes.items)) xs (λ (xs : List (Term × Shape)). by_rows o (λ r. update_to r c.args.alias (judged_part c.args.condition) xs)) (Err c.in_err-rows.field-0.0) c.in_ok-changes.ensures
-    (rows_stop changing_view typed o (λ r. update_to r c.args.alias (judged_part c.args.condition) xs) c.in_err-rows.field-0.0 c.in_err-rows.ensures))
+    (rows_stop found_view typed o (λ r. update_to r c.args.alias (judged_part c.args.condition) xs) c.in_err-rows.field-0.0 c.in_err-rows.ensures))
 
 pub returns : goal.returns
 returns c =
     let o = rows_named c.args.names.now c.args.name.now in
     let xs = map typed c.in_ok-changes.changes.items in
-    goes_on typed (values (map judged_part c.args.changes.items)) xs (λ (xs : List (Term × Shape)). by_rows o (λ r. update_to r c.args.alias (judged_part c.args.condition) xs)) c.update_to.result c.in_ok-changes.ensures
-    (rows_go typed o (changing_view c.in_ok-rows.rows) (λ r. update_to r c.args.alias (judged_part c.args.condition) xs) c.update_to.result c.in_ok-rows.ensures c.update_to.ensures)
+    goes_on typed (values (map judged_part c.args.changes.items)) xs (λ (xs : List (Term × Shape)). by_rows o (λ r. update_to r c.args.alias (judged_part c.args.condition) xs)) c.settle.result c.in_ok-changes.ensures
+    (rows_go typed o (found_view (c.in_ok-rows.rows, c.in_ok-rows.is_blank)) (λ r. update_to r c.args.alias (judged_part c.args.condition) xs) c.settle.result c.in_ok-rows.ensures (c.settle.ensures (update_to (changing_view c.in_ok-rows.rows) c.args.alias (judged_part c.args.condition) xs) c.update_to-updated.ensures))

@@ -8,7 +8,7 @@ use Rattle.fx_typing.specs.declared.typed.Typed.{Typed}
 use Rattle.fx_typing.specs.TypedView.{typed}
 use Rattle.fx_resolve.specs.PartView.{judged_part}
 use Rattle.fx_core.specs.Term.{Term}
-use Rattle.fx_call_typing.specs.Changes.{changing_view, removed}
+use Rattle.fx_call_typing.specs.Changes.{changing_view, found_view, removed}
 use Rattle.fx_node_typing.proofs.Exits.{first_stops, goes_on}
 use Rattle.fx_call_typing.proofs.RowSteps.{rows_stop, rows_go}
 use Rattle.fx_call_typing.proofs.rows.remove_of.Goals as goal
@@ -26,11 +26,11 @@ returns-in_err-rows c =
     let xs = map typed c.in_ok-values.values.items in
     rw (p.1, p.2)
     (goes_on typed (values (map judged_part c.args.parts.items)) xs (λ (xs : List (Term × Shape)). by_rows o (λ r. removed r xs)) (Err c.in_err-rows.field-0.0) c.in_ok-values.ensures
-    (rows_stop changing_view typed o (λ r. removed r xs) c.in_err-rows.field-0.0 c.in_err-rows.ensures))
+    (rows_stop found_view typed o (λ r. removed r xs) c.in_err-rows.field-0.0 c.in_err-rows.ensures))
 
 pub returns : goal.returns
 returns c =
     let o = rows_named c.args.names.now c.args.name.now in
     let xs = map typed c.in_ok-values.values.items in
-    goes_on typed (values (map judged_part c.args.parts.items)) xs (λ (xs : List (Term × Shape)). by_rows o (λ r. removed r xs)) c.remove_to.result c.in_ok-values.ensures
-    (rows_go typed o (changing_view c.in_ok-rows.rows) (λ r. removed r xs) c.remove_to.result c.in_ok-rows.ensures c.remove_to.ensures)
+    goes_on typed (values (map judged_part c.args.parts.items)) xs (λ (xs : List (Term × Shape)). by_rows o (λ r. removed r xs)) c.settle.result c.in_ok-values.ensures
+    (rows_go typed o (found_view (c.in_ok-rows.rows, c.in_ok-rows.is_blank)) (λ r. removed r xs) c.settle.result c.in_ok-rows.ensures (c.settle.ensures (removed (changing_view c.in_ok-rows.rows) xs) c.remove_to.ensures))

@@ -3,7 +3,7 @@ use Rattle.fx_types.specs.Types.{column_list}
 use Rattle.fx_typing.specs.Builds.{put_fields}
 use Rattle.fx_typing.specs.TypedView.{typed}
 use Rattle.fx_core.specs.Tree.{tree_field_names}
-use Rattle.fx_diagnostics.proofs.RecordTypes.{columns_in}
+use Rattle.fx_node_typing.proofs.FieldTypes.{columns_in}
 use Rattle.fx_diagnostics.proofs.limits.record_type.Given as goal
 
 abbrev pub invariant-loop-place : goal.invariant-loop-place

@@ -5,7 +5,7 @@ use Rattle.std.proofs.Common.{◌≡◌, ◌∷◌, [], None, Option, true, leng
 use Rattle.fx_types.specs.ValueView.{view}
 use Rattle.fx_eval.proofs.CallPlaces.{call_fine}
 use Rattle.fx_eval.proofs.Forms.{ThenSet}
-use Rattle.fx_eval.proofs.Nodes.{apply_is, called_is, coerce_is, fields_rise, fields_there, list_fine, list_is, only_is, over_is, record_is, row_is, there}
+use Rattle.fx_eval.proofs.Nodes.{apply_is, called_is, coerce_is, fields_rise, fields_there, list_fine, list_is, no_user, only_is, over_is, record_is, row_is, there}
 use Rattle.fx_eval.proofs.Passing.{as_before, heard_before, held_before, meant_before, went_on}
 use Rattle.fx_eval.proofs.Queried.{answered_went, asked_worth, constants_smaller, constants_there, found_worth, heard_same, plain_worth, plan_there, search_can, search_smaller, search_stands, search_there, stands_there, take_there}
 use Rattle.fx_eval.proofs.Ready.{formula_ready, ready_fits}
@@ -260,6 +260,10 @@ node-part_values-requires-in-List g t c κs within =
 pub node-list-requires : goal.node-list-requires
 node-list-requires g t c =
     list_is c.values_fit.ensures _ None _ _ _ _ _ _ (sym (ap core_branch c.in-List.is) ∙ c.core.view_is) c.as_slice-in-List.ensures c.requires (c.in_ok-values-in-List.ensures.value None tt)
+
+-- no call of a function of an app's own is left
+pub node-unreachable-requires : goal.node-unreachable-requires
+node-unreachable-requires g t c = no_user _ _ _ _ _ (sym (ap core_branch c.in-User.is) ∙ c.core.view_is) c.requires
 
 pub node-returns-in-Read-clause-visits : goal.node-returns-in-Read-clause-visits
 node-returns-in-Read-clause-visits g t c =

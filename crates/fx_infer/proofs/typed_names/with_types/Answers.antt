@@ -11,6 +11,7 @@ returns-clause-same c = record {
   signatures = refl;
   schema = refl;
   screens = refl;
+  functions = refl;
   properties = refl;
   controls = c.in_ok-retype_all.ensures.same;
   formulas = subst (AllSame SameFormula c.args.names.formulas) (sym c.in_ok-retype.ensures) (formulas_same c.args.names.formulas c.args.types.formulas.items c.requires.formulas);

@@ -5,7 +5,7 @@ use Rattle.fx_plan.proofs.Delegable.{field_falls, part_falls}
 use Rattle.fx_plan.specs.declared.site_list.Scoped.TheVariants.{Others}
 use Rattle.fx_core.specs.Term.{all, cons, of}
 use Rattle.fx_core.specs.Term as top
-use Rattle.fx_plan.proofs.RowLimits.{act_limited, call_limited, chain_limited, form_limited, list_limited, over_limited, rec_limited}
+use Rattle.fx_plan.proofs.RowLimits.{act_limited, call_limited, chain_limited, form_limited, list_limited, over_limited, rec_limited, user_limited}
 use Rattle.fx_plan.specs.Limits.{depth_at, each_limited, fields_limited, with_limited_parts}
 use Rattle.fx_plan.proofs.limits.+limit_tree.Goals as goal
 
@@ -39,6 +39,10 @@ limit_act-returns t c =
 pub limit_call-returns : goal.limit_call-returns
 limit_call-returns t c =
     c.call.ensures ∙ call_limited c.args.schema.now.tables c.args.limit c.args.depth c.args.fun c.args.parts.now c.in_ok-items.items c.in_ok-items.ensures
+
+pub limit_user-returns : goal.limit_user-returns
+limit_user-returns t c =
+    c.user.ensures ∙ user_limited c.args.schema.now.tables c.args.limit c.args.depth c.args.function c.args.parts.now c.in_ok-items.items c.in_ok-items.ensures
 
 pub limit_list-returns : goal.limit_list-returns
 limit_list-returns t c =
