@@ -6,8 +6,9 @@
 PFX is the built program, ./pfx where none is given. Each seed from FIRST up to but without LAST, 0 and 500 where none are given,
 makes a table of at most eight rows, with columns that are indexed by chance, and an app of ten named formulas over it, with a row
 limit of 1 to 4: in a replay a desk adds the rows, and a session is shown the formulas. The model evaluates each filter and each
-order by itself over all rows, so it knows no plan, no index and no range. The first values that differ are printed, and the status
-is then 1."""
+order by itself over all rows, so it knows no plan, no index and no range. Two formulas of five are over a filter with conditions of
+both kinds, which can be asked of the keeper and which can't: of it the model evaluates the former over all rows, and the others over
+the first rows of what these give. The first values that differ are printed, and the status is then 1."""
 import json
 import random
 import subprocess
@@ -160,6 +161,47 @@ def query(dice):
     return text, whole
 
 
+def other(dice):
+    """Returns a condition that a keeper can't be asked: its text and a test of a row, which may fail."""
+    kind = dice.choice(["length", "sum", "quotient", "column", "joined"])
+    if kind == "length":
+        least = dice.randint(0, 2)
+        return f"Len(T) > {least}", lambda row: len(row["T"] or "") > least
+    if kind == "sum":
+        units = dice.choice(NUMBERS)
+        return f"N + 0 < {text_of(units)}", lambda row: (row["N"] or 0) < units
+    if kind == "quotient":
+
+        def is_above(row):
+            if not row["N"]:
+                raise Failed(DIV0)
+            return row["N"] > 0
+
+        return "1 / N > 0", is_above
+    if kind == "column":
+        return "ID > N", lambda row: row["ID"] * ONE > (row["N"] or 0)
+    text, test = condition(dice, 1)
+    return f"({text}) && Len(T) > 0", lambda row: bool(test(row)) and len(row["T"] or "") > 0
+
+
+def mixed(dice, limit):
+    """Returns a filter with conditions of both kinds: its text and a call that gives its rows, or fails."""
+    text, whole = query(dice)
+    asked = [condition(dice) for _ in range(dice.randint(1, 2))]
+    others = [other(dice) for _ in range(dice.randint(1, 2))]
+    parts = [part[0] for part in asked]
+    for part in others:
+        parts.insert(dice.randint(0, len(parts)), part[0])
+    # the others in the order in which they stand
+    others.sort(key=lambda part: next(place for place, written in enumerate(parts) if written is part[0]))
+
+    def taken(rows):
+        first = filtered(whole(rows), [part[1] for part in asked])[:limit]
+        return filtered(first, [part[1] for part in others])
+
+    return f"Filter({text}, {', '.join(parts)})", taken
+
+
 def average(total, count):
     quotient, rest = divmod(abs(total), count)
     units = quotient + (1 if 2 * rest >= count else 0)
@@ -181,8 +223,8 @@ def row_json(row):
 
 
 def formula(dice, limit):
-    """Returns a formula over a query expression: its text and a call that gives its value as JSON, or fails."""
-    text, whole = query(dice)
+    """Returns a formula over rows of the table: its text and a call that gives its value as JSON, or fails."""
+    text, whole = mixed(dice, limit) if dice.random() < 0.4 else query(dice)
     kind = dice.choice(["CountRows", "First", "LookUp", "Sum", "Min", "Max", "Average", "own", "count of the first", "total of the first", "Last"])
     if kind == "CountRows":
         return f"CountRows({text})", lambda rows: len(whole(rows))

@@ -16,6 +16,8 @@ pub mod Testing
 pub mod Arranged
 pub mod Sound
 pub mod Wholes
+pub mod MixedFilters
+pub mod Splitting
 pub mod Limiting
 pub mod Retyped
 pub mod Firsts

@@ -2,7 +2,8 @@
 use Rattle.std.proofs.Common.{◌≡◌, ℕ, suc, List, [], ◌∷◌, ◌++◌, length, map, Bool, true, false, not, Option, Some, None, refl, sym, ap, subst, ◌∙◌, arith}
 use Rattle.std.specs.Prelude.{◌&&◌, ◌||◌, ◌%◌, nat_eq, slice_get, option_map, option_and_then, is_some, if◌then◌else◌}
 use Rattle.std.proofs.lemmas.Option.{same_Some}
-use Rattle.std.proofs.Math.Bool.{and-false, and-true}
+use Rattle.std.proofs.Math.Bool.{and-false, and-true, or-true}
+use Rattle.filter_parts.specs.Splits.{marked, split_with, unmarked}
 use Rattle.fx_types.specs.declared.comparisons.Cmp.{Cmp}
 use Rattle.fx_plan.specs.declared.plans.Sketch.{Sketch}
 use Rattle.fx_plan.specs.Outlines.{Outline, always, flag, constant, compares, is_blank, starts, contains, all_of, any_of, opposite, outline_list}
@@ -23,7 +24,12 @@ use Rattle.fx_core.specs.Term.{Term, Terms, of, nil, cons, Top}
 use Rattle.fx_core.specs.Term as top
 use Rattle.fx_plan.specs.Sites.{is_formula}
 use Rattle.fx_plan.proofs.Placing.{condition_behind, in_front, joined, some_map, some_then}
-use Rattle.fx_plan.specs.Limited.{LimitedSketches, first_rows_of, limited, limited_sketch, parts_limited, takes_first_whole}
+use Rattle.fx_semantics.specs.Fresh.{IsValue}
+use Rattle.fx_plan.proofs.MixedFilters.{queries_are_unmixed, splits_are_queries}
+use Rattle.fx_plan.proofs.Splitting.{mixed_tree, split_constant}
+use Rattle.fx_plan.specs.Limited.{LimitedSketches, MixedAreTaken, conditions_limited, first_rows_of, limited, limited_sketch, over_first, parts_limited, taken_as, takes_first_whole}
+use Rattle.fx_plan.specs.Mixed.{MixOf, is_mixed, mix_of, split_of}
+use Rattle.fx_plan.specs.Settings.{setting_around}
 
 module _ (ts : List TableShape) (n : ℕ) where
   -- ---- constants stay constants
@@ -31,14 +37,21 @@ module _ (ts : List TableShape) (n : ℕ) where
   constant_rows : (j : ℕ) (x : Term) → is_constant j (first_rows_of n x) ≡ is_constant j x
   constant_rows j x = and-true (is_constant j x)
 
-  constant_capped : (j : ℕ) (b : Bool) (x : Term) → is_constant j (if b then first_rows_of n x else x) ≡ is_constant j x
+  constant_capped : (j : ℕ) (b : Bool) (x : Term) → is_constant j (taken_as n None b x) ≡ is_constant j x
   constant_capped j true x = constant_rows j x
   constant_capped j false x = refl
+
+  constant_taken : (j k : ℕ) (first cut : Bool) (h : Top) (cs : Terms) (o : Option MixOf) → mix_of ts k (of h cs) ≡ o →
+      is_constant j (taken_as n o cut (of h (parts_limited ts n k h (terms_count cs) first 0 cs))) ≡ is_constant j (of h (parts_limited ts n k h (terms_count cs) first 0 cs))
+  constant_taken j k first cut h cs None e = constant_capped j cut (of h (parts_limited ts n k h (terms_count cs) first 0 cs))
+  constant_taken j k first cut h cs (Some m) e =
+      let d = mixed_tree ts n k first h cs m e in
+      subst (λ (x : Term). is_constant j (over_first n (split_with m.marks x)) ≡ is_constant j x) (sym d.limits) (split_constant j n m.marks d.table d.others d.each)
 
   mutual
     pub constant_limited : (j k : ℕ) (w : Bool) (x : Term) → is_constant j (limited ts n k w x) ≡ is_constant j x
     constant_limited j k w (of h cs) =
-        constant_capped j (is_query ts k (of h cs) && not w) (of h (parts_limited ts n k h (terms_count cs) (takes_first_whole ts k (of h cs)) 0 cs))
+        constant_taken j k (takes_first_whole ts k (of h cs)) (is_query ts k (of h cs) && not w) h cs (mix_of ts k (of h cs)) refl
         ∙ ap (λ b. not (is_barred j h) && b) (constants_limited j k h (terms_count cs) (takes_first_whole ts k (of h cs)) 0 cs)
 
     constants_limited : (j k : ℕ) (h : Top) (m : ℕ) (w : Bool) (i : ℕ) (cs : Terms) → are_constant j (parts_limited ts n k h m w i cs) ≡ are_constant j cs
@@ -49,11 +62,12 @@ module _ (ts : List TableShape) (n : ℕ) where
 
   -- ---- columns stay columns
 
-  no_row : (k : ℕ) (b : Bool) (f : Fun) (cs : Terms) → is_row k (if b then first_rows_of n (of (top.over f) cs) else of (top.over f) cs) ≡ false
-  no_row k true f cs = refl
-  no_row k false f cs = refl
+  no_row : (k : ℕ) (o : Option MixOf) (b : Bool) (f : Fun) (cs : Terms) → is_row k (taken_as n o b (of (top.over f) cs)) ≡ false
+  no_row k (Some m) b f cs = refl
+  no_row k None true f cs = refl
+  no_row k None false f cs = refl
 
-  no_read_row : (k : ℕ) (b : Bool) (h : Top) (cs : Terms) → is_row k (of h cs) ≡ false → is_row k (if b then first_rows_of n (of h cs) else of h cs) ≡ false
+  no_read_row : (k : ℕ) (b : Bool) (h : Top) (cs : Terms) → is_row k (of h cs) ≡ false → is_row k (taken_as n None b (of h cs)) ≡ false
   no_read_row k true h cs e = refl
   no_read_row k false h cs e = e
 
@@ -61,12 +75,17 @@ module _ (ts : List TableShape) (n : ℕ) where
   row_limited k j w (of (top.row i) nil) = refl
   row_limited k j w (of (top.row i) (cons c cs)) = refl
   row_limited k j w (of (top.over f) cs) =
-      no_row k (is_query ts j (of (top.over f) cs) && not w) f (parts_limited ts n j (top.over f) (terms_count cs) (takes_first_whole ts j (of (top.over f) cs)) 0 cs)
+      no_row k (mix_of ts j (of (top.over f) cs)) (is_query ts j (of (top.over f) cs) && not w) f (parts_limited ts n j (top.over f) (terms_count cs) (takes_first_whole ts j (of (top.over f) cs)) 0 cs)
   row_limited k j w (of (top.read s) cs) =
       no_read_row k (is_query ts j (of (top.read s) cs) && not w) (top.read s) (parts_limited ts n j (top.read s) (terms_count cs) (takes_first_whole ts j (of (top.read s) cs)) 0 cs) refl
   row_limited k j w (of h cs) = refl
 
-  no_column : (t : TableShape) (k : ℕ) (b : Bool) (h : Top) (cs : Terms) → plain_column t k (of h cs) ≡ None → plain_column t k (if b then first_rows_of n (of h cs) else of h cs) ≡ None
+  no_over_column : (t : TableShape) (k : ℕ) (o : Option MixOf) (b : Bool) (f : Fun) (cs : Terms) → plain_column t k (taken_as n o b (of (top.over f) cs)) ≡ None
+  no_over_column t k (Some m) b f cs = refl
+  no_over_column t k None true f cs = refl
+  no_over_column t k None false f cs = refl
+
+  no_column : (t : TableShape) (k : ℕ) (b : Bool) (h : Top) (cs : Terms) → plain_column t k (of h cs) ≡ None → plain_column t k (taken_as n None b (of h cs)) ≡ None
   no_column t k true h cs e = refl
   no_column t k false h cs e = e
 
@@ -75,7 +94,7 @@ module _ (ts : List TableShape) (n : ℕ) where
   plain_limited t k j w (of (top.dot m) nil) = refl
   plain_limited t k j w (of (top.dot m) (cons c (cons d ds))) = refl
   plain_limited t k j w (of (top.over f) cs) =
-      no_column t k (is_query ts j (of (top.over f) cs) && not w) (top.over f) (parts_limited ts n j (top.over f) (terms_count cs) (takes_first_whole ts j (of (top.over f) cs)) 0 cs) refl
+      no_over_column t k (mix_of ts j (of (top.over f) cs)) (is_query ts j (of (top.over f) cs) && not w) f (parts_limited ts n j (top.over f) (terms_count cs) (takes_first_whole ts j (of (top.over f) cs)) 0 cs)
   plain_limited t k j w (of (top.read s) cs) =
       no_column t k (is_query ts j (of (top.read s) cs) && not w) (top.read s) (parts_limited ts n j (top.read s) (terms_count cs) (takes_first_whole ts j (of (top.read s) cs)) 0 cs) refl
   plain_limited t k j w (of h cs) = refl
@@ -90,8 +109,7 @@ module _ (ts : List TableShape) (n : ℕ) where
     lim x = limited ts n (suc k) false x
 
     abbrev lims : Terms → Terms
-    lims nil = nil
-    lims (cons c cs) = cons (lim c) (lims cs)
+    lims cs = conditions_limited ts n k cs
 
     -- parts that stand where the whole stands
     plain_parts : (h : Top) → ((m i : ℕ) → opens_row_scope h m i ≡ false) → (m i : ℕ) (cs : Terms) → parts_limited ts n (suc k) h m false i cs ≡ lims cs
@@ -176,11 +194,13 @@ module _ (ts : List TableShape) (n : ℕ) where
         λ i. Some ((is i).0, map lim (is i).1)
     negated_limited (x ∷ y ∷ xs, ds) o es e = absurd cc
 
-    -- where the head is no query
-    same_head : (h : Top) (cs : Terms) → is_query ts (suc k) (of h cs) ≡ false → takes_whole ts (suc k) (of h cs) ≡ false → ((m i : ℕ) → opens_row_scope h m i ≡ false) → lim (of h cs) ≡ of h (lims cs)
-    same_head h cs q w p =
-        ap (λ b. if b && true then first_rows_of n (of h (parts_limited ts n (suc k) h (terms_count cs) (takes_first_whole ts (suc k) (of h cs)) 0 cs))
-        else of h (parts_limited ts n (suc k) h (terms_count cs) (takes_first_whole ts (suc k) (of h cs)) 0 cs)) q
+    -- where the head is no query, and no mixed filter
+    same_head : (h : Top) (cs : Terms) → mix_of ts (suc k) (of h cs) ≡ None → is_query ts (suc k) (of h cs) ≡ false → takes_whole ts (suc k) (of h cs) ≡ false →
+        ((m i : ℕ) → opens_row_scope h m i ≡ false) → lim (of h cs) ≡ of h (lims cs)
+    same_head h cs x q w p =
+        ap (λ (o : Option MixOf). taken_as n o (is_query ts (suc k) (of h cs) && true) (of h (parts_limited ts n (suc k) h (terms_count cs) (takes_first_whole ts (suc k) (of h cs)) 0 cs))) x
+        ∙ ap (λ b. taken_as n None (b && true) (of h (parts_limited ts n (suc k) h (terms_count cs) (takes_first_whole ts (suc k) (of h cs)) 0 cs))) q
+        ∙ ap (λ (o : Option MixOf). of h (parts_limited ts n (suc k) h (terms_count cs) ((is_some o || is_query ts (suc k) (of h cs)) || takes_whole ts (suc k) (of h cs)) 0 cs)) x
         ∙ ap (λ b. of h (parts_limited ts n (suc k) h (terms_count cs) (b || takes_whole ts (suc k) (of h cs)) 0 cs)) q
         ∙ ap (λ b. of h (parts_limited ts n (suc k) h (terms_count cs) b 0 cs)) w
         ∙ ap (of h) (plain_parts h p (terms_count cs) 0 cs)
@@ -208,19 +228,19 @@ module _ (ts : List TableShape) (n : ℕ) where
           heads : (g : Top) → is_constant k (of g cs) ≡ false → Go → pattern_by t k g cs ds (patterns_of t k cs ds) ≡ Some (o, es) → pattern_of t k (lim (of g cs)) (map lim ds) ≡ Some (o, map lim es)
           heads (top.form form.All) c go q =
               let m = some_map (joined all_of) (patterns_of t k cs ds) (o, es) q in
-              whole (top.form form.All) c (same_head (top.form form.All) cs refl refl (λ m i. refl)) (Some (o, map lim es))
+              whole (top.form form.All) c (same_head (top.form form.All) cs refl refl refl (λ m i. refl)) (Some (o, map lim es))
               (ap (option_map (joined all_of)) (go m.0.0 m.0.1 m.1) ∙ (λ i. Some ((m.2 i).0, map lim (m.2 i).1)))
           heads (top.form form.Any) c go q =
               let m = some_map (joined any_of) (patterns_of t k cs ds) (o, es) q in
-              whole (top.form form.Any) c (same_head (top.form form.Any) cs refl refl (λ m i. refl)) (Some (o, map lim es))
+              whole (top.form form.Any) c (same_head (top.form form.Any) cs refl refl refl (λ m i. refl)) (Some (o, map lim es))
               (ap (option_map (joined any_of)) (go m.0.0 m.0.1 m.1) ∙ (λ i. Some ((m.2 i).0, map lim (m.2 i).1)))
           heads (top.call fun.Not) c go q =
               let m = some_then negated (patterns_of t k cs ds) (o, es) q in
-              whole (top.call fun.Not) c (same_head (top.call fun.Not) cs refl refl (λ m i. refl)) (Some (o, map lim es))
+              whole (top.call fun.Not) c (same_head (top.call fun.Not) cs refl refl refl (λ m i. refl)) (Some (o, map lim es))
               (ap (option_and_then negated) (go m.0.0 m.0.1 m.1) ∙ negated_limited m.0 o es m.2)
-          heads (top.call f) c go q = whole (top.call f) c (same_head (top.call f) cs refl refl (λ m i. refl)) (Some (o, map lim es)) (call_limited t f cs ds o es q)
+          heads (top.call f) c go q = whole (top.call f) c (same_head (top.call f) cs refl refl refl (λ m i. refl)) (Some (o, map lim es)) (call_limited t f cs ds o es q)
           heads (top.dot m) c go q =
-              let is = same_head (top.dot m) cs refl refl (λ m i. refl) in
+              let is = same_head (top.dot m) cs refl refl refl (λ m i. refl) in
               whole (top.dot m) c is (Some (o, map lim es))
               (bare_pattern (option_map flag (column_of t k Boolean (of (top.dot m) cs))) (option_map flag (column_of t k Boolean (of (top.dot m) (lims cs)))) ds o es
               (ap (λ (y : Term). option_map flag (column_of t k Boolean y)) (sym is) ∙ ap (option_map flag) (column_limited t k (suc k) false Boolean (of (top.dot m) cs))) q)
@@ -249,17 +269,23 @@ module _ (ts : List TableShape) (n : ℕ) where
     Limited s = limited_sketch ts n k s
 
     -- the inside of a larger query expression
-    inner : (h : Top) (cs : Terms) → limited ts n k true (of h cs) ≡ of h (parts_limited ts n k h (terms_count cs) (takes_first_whole ts k (of h cs)) 0 cs)
-    inner h cs = ap (λ b. if b then first_rows_of n (of h (parts_limited ts n k h (terms_count cs) (takes_first_whole ts k (of h cs)) 0 cs))
-        else of h (parts_limited ts n k h (terms_count cs) (takes_first_whole ts k (of h cs)) 0 cs)) (and-false (is_query ts k (of h cs)))
+    inner : (h : Top) (cs : Terms) → mix_of ts k (of h cs) ≡ None → limited ts n k true (of h cs) ≡ of h (parts_limited ts n k h (terms_count cs) (takes_first_whole ts k (of h cs)) 0 cs)
+    inner h cs x =
+        ap (λ (o : Option MixOf). taken_as n o (is_query ts k (of h cs) && false) (of h (parts_limited ts n k h (terms_count cs) (takes_first_whole ts k (of h cs)) 0 cs))) x
+        ∙ ap (λ b. taken_as n None b (of h (parts_limited ts n k h (terms_count cs) (takes_first_whole ts k (of h cs)) 0 cs))) (and-false (is_query ts k (of h cs)))
+
+    none_mixed : (h : Top) (cs : Terms) (s : Sketch) → sketch_of ts k (of h cs) ≡ Some s → mix_of ts k (of h cs) ≡ None
+    none_mixed h cs s e = queries_are_unmixed ts k (of h cs) (ap is_some e)
 
     some_query : (h : Top) (cs : Terms) (s : Sketch) → sketch_of ts k (of h cs) ≡ Some s → takes_first_whole ts k (of h cs) ≡ true
-    some_query h cs s e = ap (λ (o : Option Sketch). is_some o || takes_whole ts k (of h cs)) e
+    some_query h cs s e =
+        ap (λ (o : Option Sketch). (is_mixed ts k (of h cs) || is_some o) || takes_whole ts k (of h cs)) e
+        ∙ ap (λ b. b || takes_whole ts k (of h cs)) (or-true (is_mixed ts k (of h cs)))
 
     over_inner : (f : Fun) (q : Term) (cs : Terms) (s : Sketch) → ((m i : ℕ) → opens_row_scope (top.over f) m (suc i) ≡ true) → sketch_of ts k (of (top.over f) (cons q cs)) ≡ Some s →
         limited ts n k true (of (top.over f) (cons q cs)) ≡ of (top.over f) (cons (limited ts n k true q) (lims cs))
     over_inner f q cs s p e =
-        inner (top.over f) (cons q cs) ∙ ap (λ b. of (top.over f) (parts_limited ts n k (top.over f) (terms_count (cons q cs)) b 0 (cons q cs))) (some_query (top.over f) (cons q cs) s e)
+        inner (top.over f) (cons q cs) (none_mixed (top.over f) (cons q cs) s e) ∙ ap (λ b. of (top.over f) (parts_limited ts n k (top.over f) (terms_count (cons q cs)) b 0 (cons q cs))) (some_query (top.over f) (cons q cs) s e)
         ∙ ap (λ xs. of (top.over f) (cons (limited ts n k true q) xs)) (behind_parts (top.over f) (terms_count (cons q cs)) true (λ i. p (terms_count (cons q cs)) i) 0 cs)
 
     condition_opens : (m i : ℕ) → opens_row_scope (top.over fun.Filter) m (suc i) ≡ true
@@ -306,7 +332,7 @@ module _ (ts : List TableShape) (n : ℕ) where
     pub query_limited : (q : Term) (s : Sketch) → sketch_of ts k q ≡ Some s → sketch_of ts k (limited ts n k true q) ≡ Some (Limited s)
     query_limited (of (top.read (source.Table t)) nil) s e =
         let m = some_map (λ (u : TableShape). record { table = t; test = always; order = None; constants = [] }) (slice_get ts t) s e in
-        ap (sketch_of ts k) (inner (top.read (source.Table t)) nil) ∙ e ∙ ap (λ (x : Sketch). Some x) (sym m.2) ∙ ap (λ (x : Sketch). Some (Limited x)) m.2
+        ap (sketch_of ts k) (inner (top.read (source.Table t)) nil refl) ∙ e ∙ ap (λ (x : Sketch). Some x) (sym m.2) ∙ ap (λ (x : Sketch). Some (Limited x)) m.2
     query_limited (of (top.over fun.Filter) (cons q cs)) s e =
         let m = some_then (filter_sketch ts k cs) (sketch_of ts k q) s e in
         ap (sketch_of ts k) (over_inner fun.Filter q cs s condition_opens e)
@@ -316,6 +342,65 @@ module _ (ts : List TableShape) (n : ℕ) where
         ap (sketch_of ts k) (over_inner (fun.Sort o) q cs s (λ m i. ap is_formula (key_behind o m i)) e)
         ∙ ap (option_and_then (sorted ts k o (lims cs))) (query_limited q m.0 m.1) ∙ sorted_limited o cs m.0 s m.2
     query_limited q s e = absurd cc
+
+    -- ---- mixed filters
+
+    marked_limited : (bs : List Bool) (cs : Terms) → marked bs (lims cs) ≡ lims (marked bs cs)
+    marked_limited [] cs = refl
+    marked_limited (true ∷ bs) nil = refl
+    marked_limited (false ∷ bs) nil = refl
+    marked_limited (true ∷ bs) (cons c cs) = ap (cons (lim c)) (marked_limited bs cs)
+    marked_limited (false ∷ bs) (cons c cs) = marked_limited bs cs
+
+    unmarked_limited : (bs : List Bool) (cs : Terms) → unmarked bs (lims cs) ≡ lims (unmarked bs cs)
+    unmarked_limited [] cs = refl
+    unmarked_limited (true ∷ bs) nil = refl
+    unmarked_limited (false ∷ bs) nil = refl
+    unmarked_limited (true ∷ bs) (cons c cs) = unmarked_limited bs cs
+    unmarked_limited (false ∷ bs) (cons c cs) = ap (cons (lim c)) (unmarked_limited bs cs)
+
+    -- a mixed filter is split, and its parts are limited each
+    mixed_limited : (w : Bool) (q : Term) (cs : Terms) (m : MixOf) → mix_of ts k (of (top.over fun.Filter) (cons q cs)) ≡ Some m →
+        limited ts n k w (of (top.over fun.Filter) (cons q cs))
+        ≡ of (top.over fun.Filter) (cons (first_rows_of n (of (top.over fun.Filter) (cons (limited ts n k true q) (lims (marked m.marks cs))))) (lims (unmarked m.marks cs)))
+    mixed_limited w q cs m e =
+        let whole : Term = of (top.over fun.Filter) (cons q cs) in
+        ap (λ (o : Option MixOf). taken_as n o (is_query ts k whole && not w) (of (top.over fun.Filter) (parts_limited ts n k (top.over fun.Filter) (terms_count (cons q cs)) (takes_first_whole ts k whole) 0 (cons q cs)))) e
+        ∙ ap (λ (b : Bool). over_first n (split_with m.marks (of (top.over fun.Filter) (parts_limited ts n k (top.over fun.Filter) (terms_count (cons q cs)) b 0 (cons q cs)))))
+        (ap (λ (o : Option MixOf). (is_some o || is_query ts k whole) || takes_whole ts k whole) e)
+        ∙ ap (λ (xs : Terms). over_first n (split_with m.marks (of (top.over fun.Filter) (cons (limited ts n k true q) xs))))
+        (behind_parts (top.over fun.Filter) (terms_count (cons q cs)) true (λ i. condition_opens (terms_count (cons q cs)) i) 0 cs)
+        ∙ (λ i. over_first n (of (top.over fun.Filter) (cons (limited ts n k true q) (marked_limited m.marks cs i)), unmarked_limited m.marks cs i))
+
+    -- a query expression that isn't taken whole is cut
+    cut_whole : (h : Top) (cs : Terms) (s : Sketch) → sketch_of ts k (of h cs) ≡ Some s → limited ts n k false (of h cs) ≡ first_rows_of n (limited ts n k true (of h cs))
+    cut_whole h cs s e =
+        ap (λ (o : Option MixOf). taken_as n o (is_query ts k (of h cs) && true) (of h (parts_limited ts n k h (terms_count cs) (takes_first_whole ts k (of h cs)) 0 cs))) (none_mixed h cs s e)
+        ∙ ap (λ (r : Option Sketch). taken_as n None (is_some r && true) (of h (parts_limited ts n k h (terms_count cs) (takes_first_whole ts k (of h cs)) 0 cs))) e
+        ∙ ap (first_rows_of n) (sym (inner h cs (none_mixed h cs s e)))
+
+    some_sketch : (o : Option Sketch) → is_some o ≡ true → (s : Sketch) × (o ≡ Some s)
+    some_sketch None e = absurd cc
+    some_sketch (Some s) e = (s, refl)
+
+    -- a mixed filter is that of its other conditions over what is taken of its query expression
+    pub mixed_taken : (t x : Term) (rest : Terms) → split_of ts k t ≡ Some (x, rest) → limited ts n k false t ≡ of (top.over fun.Filter) (cons (limited ts n k false x) (lims rest))
+    mixed_taken (of (top.over fun.Filter) (cons q cs)) x rest e =
+        let m = some_map (λ (m : MixOf). split_with m.marks (of (top.over fun.Filter) (cons q cs))) (mix_of ts k (of (top.over fun.Filter) (cons q cs))) (x, rest) e in
+        let y : Term = of (top.over fun.Filter) (cons q (marked m.0.marks cs)) in
+        let asked : is_some (sketch_of ts k y) ≡ true = ap (λ (p : Term × Terms). is_some (sketch_of ts k p.0)) m.2 ∙ splits_are_queries ts k (of (top.over fun.Filter) (cons q cs)) (x, rest) e in
+        let s = some_sketch (sketch_of ts k y) asked in
+        let cut : limited ts n k false y ≡ first_rows_of n (of (top.over fun.Filter) (cons (limited ts n k true q) (lims (marked m.0.marks cs)))) =
+        cut_whole (top.over fun.Filter) (cons q (marked m.0.marks cs)) s.0 s.1 ∙ ap (first_rows_of n) (over_inner fun.Filter q (marked m.0.marks cs) s.0 condition_opens s.1) in
+        mixed_limited false q cs m.0 m.1
+        ∙ ap (λ (z : Term). of (top.over fun.Filter) (cons z (lims (unmarked m.0.marks cs)))) (sym cut)
+        ∙ (λ i. of (top.over fun.Filter) (cons (limited ts n k false ((m.2 i).0)) (lims ((m.2 i).1))))
+    mixed_taken t x rest e = absurd cc
+
+pub mixed_are_taken : MixedAreTaken
+mixed_are_taken s ts n t x rest v e =
+    let is = mixed_taken ts n (length s.rows) t x rest e in
+    (λ h. subst (λ (z : Term). IsValue (setting_around s) z v) is h, λ h. subst (λ (z : Term). IsValue (setting_around s) z v) (sym is) h)
 
 pub sketches_limited : LimitedSketches
 sketches_limited ts n k q s e = query_limited ts n k q s e

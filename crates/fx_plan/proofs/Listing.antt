@@ -2,7 +2,9 @@
 use Rattle.std.proofs.Common.{◌≡◌, ℕ, suc, ◌+◌, ◌<◌, ◌≤◌, Bool, true, false, ◌&&◌, List, [], ◌∷◌, ◌++◌, length, get_or, drop, refl, sym, ap, ◌∙◌, subst, arith, append_assoc, length-append}
 use Rattle.std.proofs.Math.Seq.{drop-cons}
 use Rattle.std.proofs.lemmas.List.{append-nil}
-use Rattle.std.specs.Prelude.{Some, codes, unwrap_or}
+use Rattle.std.specs.Prelude.{◌||◌, Option, Some, None, codes, is_some, unwrap_or, if◌then◌else◌}
+use Rattle.fx_plan.specs.Mixed.{MixOf, mix_of}
+use Rattle.fx_plan.specs.QueryExpressions.{sketch_of}
 use Rattle.std.proofs.Math.Bool.{and-false, and-true}
 use Rattle.fx_core.specs.declared.functions.Fun.{Fun}
 use Rattle.fx_core.specs.declared.schema.TableShape.{TableShape}
@@ -13,7 +15,7 @@ use Rattle.fx_plan.specs.declared.site_list.Scoped.{Scoped}
 use Rattle.fx_plan.specs.declared.site_list.Scoped.TheVariants.{Formulas}
 use Rattle.fx_core.specs.declared.sites.Site.{Site}
 use Rattle.fx_plan.specs.SitePlaces.{scope_opened, parts_in, stand_at, within_call}
-use Rattle.fx_plan.specs.Sites.{Position, Use, terms_count, deeper, is_query, listed, sites_numbered, opens_row_scope, own_use, part_at, site, takes_whole, totals, uses_among, uses_in}
+use Rattle.fx_plan.specs.Sites.{Position, Use, deeper, is_asked, is_query, listed, opens_row_scope, own_by, own_use, part_at, site, site_use, sites_numbered, takes_whole, terms_count, totals, use_by, uses_among, uses_in}
 
 numbered_length : (n : ℕ) (us : List Use) → length (sites_numbered n us) ≡ length us
 numbered_length n [] = refl
@@ -83,19 +85,19 @@ module _ (ts : List TableShape) (p : Position) (f : Fun) (rows : Term) (parts : 
       let h = count_is parts in
       let many : suc (terms_count (all parts)) ≡ length parts + 1 = omega (arith, h) in
       let whole : Bool = takes_whole ts p.depth (of (over f) (cons rows (all parts))) in
-      let query : Bool = is_query ts p.depth (of (over f) (cons rows (all parts))) in
+      let query : Bool = is_asked ts p.depth (of (over f) (cons rows (all parts))) in
       ap (λ b. placed (deeper (opens_row_scope (over f) (suc (terms_count (all parts))) (suc n)) p.depth) b (query && false)) (and-false whole)
       ∙ ap (λ b. placed (deeper (opens_row_scope (over f) (suc (terms_count (all parts))) (suc n)) p.depth) false b) (and-false query)
       ∙ ap (λ m. placed (deeper (opens_row_scope (over f) m (suc n)) p.depth) false false) many
 
   over_uses :
       uses_among ts (part_at ts p (of (over f) (cons rows (all parts)))) 0 (cons rows (all parts))
-      ≡ uses_in ts (record (within_call (function_name f) p) { delegated = takes_whole ts p.depth (of (over f) (cons rows (all parts))); inner = is_query ts p.depth (of (over f) (cons rows (all parts))) }) rows
+      ≡ uses_in ts (record (within_call (function_name f) p) { delegated = takes_whole ts p.depth (of (over f) (cons rows (all parts))); inner = is_asked ts p.depth (of (over f) (cons rows (all parts))) }) rows
       ++ uses_among ts (stand_at (Formulas f (length parts + 1)) (within_call (function_name f) p)) 0 (all parts)
   unfolding placed
   over_uses =
       let whole : Bool = takes_whole ts p.depth (of (over f) (cons rows (all parts))) in
-      let query : Bool = is_query ts p.depth (of (over f) (cons rows (all parts))) in
+      let query : Bool = is_asked ts p.depth (of (over f) (cons rows (all parts))) in
       let first : placed p.depth (whole && true) (query && true) ≡ placed p.depth whole query =
       ap (λ b. placed p.depth b (query && true)) (and-true whole) ∙ ap (λ b. placed p.depth whole b) (and-true query) in
       ap (λ q. uses_in ts q rows ++ uses_among ts (part_at ts p (of (over f) (cons rows (all parts)))) 1 (all parts)) first
@@ -104,14 +106,14 @@ module _ (ts : List TableShape) (p : Position) (f : Fun) (rows : Term) (parts : 
 
   -- the sites of the call, from those of the table and of the parts behind it
   pub over_listed : (c : Term) (scoped : Scoped) (around first : Position) (ss mid next : List Site) → of (over f) (cons rows (all parts)) ≡ c → around ≡ within_call (function_name f) p →
-      first ≡ record around { delegated = takes_whole ts p.depth c; inner = is_query ts p.depth c } → mid ≡ listed ss (uses_in ts first rows) →
+      first ≡ record around { delegated = takes_whole ts p.depth c; inner = is_asked ts p.depth c } → mid ≡ listed ss (uses_in ts first rows) →
       scoped ≡ Formulas f (length parts + 1) → next ≡ listed mid (uses_among ts (stand_at scoped around) 0 (all parts)) →
       next ≡ listed ss (uses_among ts (part_at ts p c) 0 (parts_in c))
   over_listed c scoped around first ss mid next is_call is_around is_first e is_scoped h =
-      let table : first ≡ record (within_call (function_name f) p) { delegated = takes_whole ts p.depth (of (over f) (cons rows (all parts))); inner = is_query ts p.depth (of (over f) (cons rows (all parts))) } =
+      let table : first ≡ record (within_call (function_name f) p) { delegated = takes_whole ts p.depth (of (over f) (cons rows (all parts))); inner = is_asked ts p.depth (of (over f) (cons rows (all parts))) } =
       is_first
-      ∙ ap (λ (q : Position). record q { delegated = takes_whole ts p.depth c; inner = is_query ts p.depth c }) is_around
-      ∙ ap (λ k. record (within_call (function_name f) p) { delegated = takes_whole ts p.depth k; inner = is_query ts p.depth k }) (sym is_call) in
+      ∙ ap (λ (q : Position). record q { delegated = takes_whole ts p.depth c; inner = is_asked ts p.depth c }) is_around
+      ∙ ap (λ k. record (within_call (function_name f) p) { delegated = takes_whole ts p.depth k; inner = is_asked ts p.depth k }) (sym is_call) in
       listed_then ss mid next _ _ (e ∙ ap (λ q. listed ss (uses_in ts q rows)) table)
       (h ∙ ap (λ s. listed mid (uses_among ts (stand_at s around) 0 (all parts))) is_scoped
       ∙ ap (λ q. listed mid (uses_among ts (stand_at (Formulas f (length parts + 1)) q) 0 (all parts))) is_around)
@@ -135,3 +137,17 @@ pub totals_none : (ts : List TableShape) (k : ℕ) (q : Term) (cs : List Term) �
 totals_none ts k q [] h = absurd (omega (arith, h))
 totals_none ts k q (a ∷ []) h = absurd (omega (arith, h))
 totals_none ts k q (a ∷ b ∷ cs) h = refl
+
+-- whether one query is asked for a tree
+pub mixed_asked : (ts : List TableShape) (k : ℕ) (t : Term) (m : MixOf) → mix_of ts k t ≡ Some m → true ≡ is_asked ts k t
+mixed_asked ts k t m e = sym (ap (λ (o : Option MixOf). is_some o || is_query ts k t) e)
+
+pub other_asked : (ts : List TableShape) (k : ℕ) (t : Term) (b : Bool) → mix_of ts k t ≡ None → b ≡ is_query ts k t → b ≡ is_asked ts k t
+other_asked ts k t b e f = f ∙ sym (ap (λ (o : Option MixOf). is_some o || is_query ts k t) e)
+
+-- what is listed of a tree itself
+pub mixed_own : (ts : List TableShape) (p : Position) (t : Term) (m : MixOf) → mix_of ts p.depth t ≡ Some m → site_use m.table (codes "Filter") false ∷ [] ≡ own_use ts p t
+mixed_own ts p t m e = sym (ap (λ (o : Option MixOf). own_by p o (sketch_of ts p.depth t)) e)
+
+pub other_own : (ts : List TableShape) (p : Position) (t : Term) (us : List Use) → mix_of ts p.depth t ≡ None → us ≡ (if p.inner then [] else use_by p (sketch_of ts p.depth t)) → us ≡ own_use ts p t
+other_own ts p t us e f = f ∙ sym (ap (λ (o : Option MixOf). own_by p o (sketch_of ts p.depth t)) e)

@@ -1,10 +1,10 @@
 -- A tree whose query expressions give what is taken of them has the types that it had.
 use Rattle.std.specs.Cmp.{first_so}
-use Rattle.std.proofs.Common.{◌≡◌, ℕ, zero, suc, List, [], ◌∷◌, ◌++◌, length, Bool, true, false, not, Option, Some, None, inl, refl, sym, ap, subst, ◌∙◌, arith}
+use Rattle.std.proofs.Common.{◌≡◌, ℕ, zero, suc, List, [], ◌∷◌, ◌++◌, length, Bool, true, false, not, Option, Some, None, refl, sym, ap, subst, ◌∙◌, arith}
 use Rattle.std.specs.Prelude.{◌&&◌, ◌||◌, Result, Ok, Err, is_some, if◌then◌else◌}
 use Rattle.std.proofs.lemmas.List.{length-append}
 use Rattle.std.proofs.Math.Bool.{or-false}
-use Rattle.fx_types.specs.Types.{Shape, blanks, numbers, records, tables, ColumnList}
+use Rattle.fx_types.specs.Types.{Shape, blanks, records, tables, ColumnList}
 use Rattle.fx_types.specs.Values.{Data, text}
 use Rattle.fx_plan.specs.declared.plans.Sketch.{Sketch}
 use Rattle.fx_plan.specs.QueryExpressions.{sketch_of}
@@ -29,7 +29,11 @@ use Rattle.fx_core.specs.ColumnLists.{and_then, before_last, field_in, if_free, 
 use Rattle.fx_typing.specs.WellTyped.{AreTyped, Context, IsByRow, IsRuled, PartScope, answered_type, as_table, bound, catching, context_for, head_of, inside, typed_pairs, parts_count, plain, row_type, standing_at, standing_of}
 use Rattle.fx_plan.proofs.Placing.{query_found}
 use Rattle.fx_plan.specs.Constants.{HasType, ReadsTables}
-use Rattle.fx_plan.specs.Limited.{LimitedTypes, first_rows_of, limited, parts_limited, takes_first_whole}
+use Rattle.filter_parts.specs.Splits.{split_with}
+use Rattle.fx_plan.proofs.Retyping.{filter_parts}
+use Rattle.fx_plan.proofs.Splitting.{mixed_tree, rows_typed, split_acts, split_typed}
+use Rattle.fx_plan.specs.Limited.{LimitedTypes, first_rows_of, limited, over_first, parts_limited, taken_as, takes_first_whole}
+use Rattle.fx_plan.specs.Mixed.{MixOf, mix_of}
 
 -- ---- the same labels and types
 
@@ -238,14 +242,21 @@ second_quiet false b e = e
 module _ (ts : List TableShape) (n : ℕ) where
   -- ---- nothing begins to act
 
-  acts_capped : (b : Bool) (x : Term) → acts (if b then first_rows_of n x else x) ≡ acts x
+  acts_capped : (b : Bool) (x : Term) → acts (taken_as n None b x) ≡ acts x
   acts_capped true x = or-false (acts x)
   acts_capped false x = refl
+
+  acts_taken : (k : ℕ) (first cut : Bool) (h : Top) (cs : Terms) (o : Option MixOf) → mix_of ts k (of h cs) ≡ o →
+      acts (taken_as n o cut (of h (parts_limited ts n k h (terms_count cs) first 0 cs))) ≡ acts (of h (parts_limited ts n k h (terms_count cs) first 0 cs))
+  acts_taken k first cut h cs None e = acts_capped cut (of h (parts_limited ts n k h (terms_count cs) first 0 cs))
+  acts_taken k first cut h cs (Some m) e =
+      let d = mixed_tree ts n k first h cs m e in
+      subst (λ (x : Term). acts (over_first n (split_with m.marks x)) ≡ acts x) (sym d.limits) (split_acts n m.marks d.table d.others d.each)
 
   mutual
     pub acts_limited : (k : ℕ) (w : Bool) (x : Term) → acts (limited ts n k w x) ≡ acts x
     acts_limited k w (of h cs) =
-        acts_capped (is_query ts k (of h cs) && not w) (of h (parts_limited ts n k h (terms_count cs) (takes_first_whole ts k (of h cs)) 0 cs))
+        acts_taken k (takes_first_whole ts k (of h cs)) (is_query ts k (of h cs) && not w) h cs (mix_of ts k (of h cs)) refl
         ∙ ap (λ b. is_acting h || b) (all_act_limited k h (terms_count cs) (takes_first_whole ts k (of h cs)) 0 cs)
 
     all_act_limited : (k : ℕ) (h : Top) (m : ℕ) (w : Bool) (i : ℕ) (cs : Terms) → any_acts (parts_limited ts n k h m w i cs) ≡ any_acts cs
@@ -256,9 +267,10 @@ module _ (ts : List TableShape) (n : ℕ) where
 
   -- ---- labels stay
 
-  no_label : (b : Bool) (x : Term) → label_of x ≡ None → label_of (if b then first_rows_of n x else x) ≡ None
-  no_label true x e = refl
-  no_label false x e = e
+  no_label : (o : Option MixOf) (b : Bool) (x : Term) → label_of x ≡ None → label_of (taken_as n o b x) ≡ None
+  no_label (Some m) b x e = refl
+  no_label None true x e = refl
+  no_label None false x e = e
 
   no_name : (d : Data) (c : Term) (cs : Terms) → label_of (of (top.const d) (cons c cs)) ≡ None
   no_name (text x) c cs = refl
@@ -267,9 +279,9 @@ module _ (ts : List TableShape) (n : ℕ) where
   label_limited : (k : ℕ) (w : Bool) (x : Term) → label_of (limited ts n k w x) ≡ label_of x
   label_limited k w (of (top.const (text cs)) nil) = refl
   label_limited k w (of (top.over f) cs) =
-      no_label (is_query ts k (of (top.over f) cs) && not w) (of (top.over f) (parts_limited ts n k (top.over f) (terms_count cs) (takes_first_whole ts k (of (top.over f) cs)) 0 cs)) refl
+      no_label (mix_of ts k (of (top.over f) cs)) (is_query ts k (of (top.over f) cs) && not w) (of (top.over f) (parts_limited ts n k (top.over f) (terms_count cs) (takes_first_whole ts k (of (top.over f) cs)) 0 cs)) refl
   label_limited k w (of (top.read s) cs) =
-      no_label (is_query ts k (of (top.read s) cs) && not w) (of (top.read s) (parts_limited ts n k (top.read s) (terms_count cs) (takes_first_whole ts k (of (top.read s) cs)) 0 cs)) refl
+      no_label None (is_query ts k (of (top.read s) cs) && not w) (of (top.read s) (parts_limited ts n k (top.read s) (terms_count cs) (takes_first_whole ts k (of (top.read s) cs)) 0 cs)) refl
   label_limited k w (of (top.const d) (cons c cs)) =
       no_name d (limited ts n k (false && is_first 0) c) (parts_limited ts n k (top.const d) (terms_count (cons c cs)) false 1 cs) ∙ sym (no_name d c cs)
   label_limited k w (of h nil) = refl
@@ -315,21 +327,33 @@ module _ (ts : List TableShape) (n : ℕ) where
 
   -- ---- first rows
 
-  rows_typed : (c : Context) (x : Term) (ks : ColumnList) → HasType c x (tables ks) → IsLawfulType (tables ks) → HasType c (first_rows_of n x) (tables ks)
-  rows_typed c x ks h l = (
-    (tables ks ∷ numbers ∷ [], (tables ks, numbers ∷ [], refl, h.0, (numbers, [], refl, ([], refl, (refl, inl tt)), refl)), (refl, (refl, blanks, ((ks, refl), (refl, tt)), refl))),
-    (l, (h.1, ((tt, tt), tt))),
-  )
-
-  capped_typed : (c : Context) (b : Bool) (x : Term) (u : Shape) → HasType c x u → IsLawfulType u → (b ≡ true → (ks : ColumnList) × (u ≡ tables ks)) → HasType c (if b then first_rows_of n x else x) u
+  capped_typed : (c : Context) (b : Bool) (x : Term) (u : Shape) → HasType c x u → IsLawfulType u → (b ≡ true → (ks : ColumnList) × (u ≡ tables ks)) → HasType c (taken_as n None b x) u
   capped_typed c false x u h l f = h
   capped_typed c true x u h l f =
       let is = f refl in
-      subst (HasType c (first_rows_of n x)) (sym is.1) (rows_typed c x is.0 (subst (HasType c x) is.1 h) (subst IsLawfulType is.1 l))
+      subst (HasType c (first_rows_of n x)) (sym is.1) (rows_typed n c x is.0 (subst (HasType c x) is.1 h) (subst IsLawfulType is.1 l))
 
   some_query : (o : Option Sketch) → is_some o ≡ true → (s : Sketch) × (o ≡ Some s)
   some_query None e = absurd cc
   some_query (Some s) e = (s, refl)
+
+  -- a tree whose parts are limited, as it is taken
+  taken_typed : (c : Context) (w : Bool) (h : Top) (cs : Terms) (u : Shape) → ReadsTables ts c → HasType c (of h cs) u →
+      HasType c (of h (parts_limited ts n (length c.rows) h (terms_count cs) (takes_first_whole ts (length c.rows) (of h cs)) 0 cs)) u →
+      (o : Option MixOf) → mix_of ts (length c.rows) (of h cs) ≡ o →
+      HasType c (taken_as n o (is_query ts (length c.rows) (of h cs) && not w) (of h (parts_limited ts n (length c.rows) h (terms_count cs) (takes_first_whole ts (length c.rows) (of h cs)) 0 cs))) u
+  taken_typed c w h cs u r t placed None e =
+      capped_typed c (is_query ts (length c.rows) (of h cs) && not w) (of h (parts_limited ts n (length c.rows) h (terms_count cs) (takes_first_whole ts (length c.rows) (of h cs)) 0 cs)) u placed t.1.0
+      (λ i.
+      let s = some_query (sketch_of ts (length c.rows) (of h cs)) (first_so (is_query ts (length c.rows) (of h cs)) (not w) i) in
+      let f = query_found c ts (of h cs) u s.0 r t s.1 in
+      (columns_of f.table, f.type))
+  taken_typed c w h cs u r t placed (Some m) e =
+      let d = mixed_tree ts n (length c.rows) (takes_first_whole ts (length c.rows) (of h cs)) h cs m e in
+      let f = filter_parts c d.rows d.conditions u (subst (λ (z : Term). HasType c z u) d.is_filter t) in
+      let q = query_found c ts d.rows u d.mix.sketch r f.first d.mix.sketched in
+      subst (λ (z : Term). HasType c (over_first n (split_with m.marks z)) u) (sym d.limits)
+      (split_typed n c q.table m.marks d.table d.others u q.type d.each d.mix.both (subst (λ (z : Term). HasType c z u) d.limits placed))
 
   -- parts, as they stand
   abbrev HaveParts : Context → Top → ℕ → List Shape → Terms → List Shape → Type 0
@@ -354,11 +378,7 @@ module _ (ts : List TableShape) (n : ℕ) where
         let many : parts_count cs ≡ parts_count (parts_limited ts n k h (terms_count cs) first 0 cs) = sym (so_many k h (terms_count cs) first 0 cs) in
         let placed : HaveParts c h (parts_count (parts_limited ts n k h (terms_count cs) first 0 cs)) [] (parts_limited ts n k h (terms_count cs) first 0 cs) us =
         subst (λ (m : ℕ). HaveParts c h m [] (parts_limited ts n k h (terms_count cs) first 0 cs) us) many counted in
-        capped_typed c (is_query ts k (of h cs) && not w) (of h (parts_limited ts n k h (terms_count cs) first 0 cs)) u ((us, placed.0, rules), (t.1.0, placed.1)) t.1.0
-        (λ e.
-        let s = some_query (sketch_of ts k (of h cs)) (first_so (is_query ts k (of h cs)) (not w) e) in
-        let f = query_found c ts (of h cs) u s.0 r t s.1 in
-        (columns_of f.table, f.type))
+        taken_typed c w h cs u r t ((us, placed.0, rules), (t.1.0, placed.1)) (mix_of ts k (of h cs)) refl
 
     parts_typed : (c : Context) (h : Top) → IsFine h → (m : ℕ) (w : Bool) (i : ℕ) (cs : Terms) (done us : List Shape) → ReadsTables ts c → i ≡ length done → HaveParts c h m done cs us → any_acts cs ≡ false →
         HaveParts c h m done (parts_limited ts n (length c.rows) h m w i cs) us

@@ -42,7 +42,7 @@ typed_many c h n done (cons x xs) us w = ap length w.2 ∙ ap suc (typed_many c 
 
 -- ---- parts of one type
 
-abbrev copies : Shape → Terms → List Shape
+abbrev pub copies : Shape → Terms → List Shape
 copies u nil = []
 copies u (cons x xs) = u ∷ copies u xs
 
@@ -63,7 +63,7 @@ parts_of c h r s p q n m i first common (cons x xs) done us w l a =
       parts_of c h r s p q n m (suc i) first common xs (done ++ w.0 ∷ []) w.1 w.4 l.1 at.1,
     )
 
-abbrev HaveParts : Context → Top → ℕ → List Shape → Terms → List Shape → Type 0
+abbrev pub HaveParts : Context → Top → ℕ → List Shape → Terms → List Shape → Type 0
 HaveParts c h n done cs us = (w : AreTyped c h n done cs us) × AreLawfulTypings c h n done cs us w
 
 parts_back : (c : Context) (h : Top) (u : Shape) → ((n i : ℕ) → standing_at h n i ≡ plain) → (n : ℕ) (cs : Terms) (done : List Shape) → AllOf c u cs → HaveParts c h n done cs (copies u cs)
@@ -211,15 +211,15 @@ search_replaced c q p x y cs u f g h =
 
 -- ---- filters
 
-record IsFilter (c : Context) (q : Term) (cs : Terms) (u : Shape) : Type 0 where
-  first : HasType c q u
-  types : List Shape
-  parts : HaveParts c (top.over fun.Filter) (suc (parts_count cs)) (u ∷ []) cs types
-  common : Shape
-  stand : AllStand (row_of fun.Filter) (length (u ∷ types)) 1 u common types
-  count : takes_count (row_of fun.Filter) (suc (length types)) ≡ true
+pub record IsFilter (c : Context) (q : Term) (cs : Terms) (u : Shape) : Type 0 where
+  pub first : HasType c q u
+  pub types : List Shape
+  pub parts : HaveParts c (top.over fun.Filter) (suc (parts_count cs)) (u ∷ []) cs types
+  pub common : Shape
+  pub stand : AllStand (row_of fun.Filter) (length (u ∷ types)) 1 u common types
+  pub count : takes_count (row_of fun.Filter) (suc (length types)) ≡ true
 
-filter_parts : (c : Context) (q : Term) (cs : Terms) (u : Shape) → HasType c (of (top.over fun.Filter) (cons q cs)) u → IsFilter c q cs u
+pub filter_parts : (c : Context) (q : Term) (cs : Terms) (u : Shape) → HasType c (of (top.over fun.Filter) (cons q cs)) u → IsFilter c q cs u
 filter_parts c q cs u h =
     let n = suc (parts_count cs) in
     let w = h.0.1 in
@@ -240,7 +240,7 @@ filter_parts c q cs u h =
     }
 
 -- the conditions stand in the scope of a row
-conditions_of : (c : Context) (t : TableShape) (n m i : ℕ) (u common : Shape) (cs : Terms) (done us : List Shape) → u ≡ tables (columns_of t) →
+pub conditions_of : (c : Context) (t : TableShape) (n m i : ℕ) (u common : Shape) (cs : Terms) (done us : List Shape) → u ≡ tables (columns_of t) →
     (w : AreTyped c (top.over fun.Filter) n (u ∷ done) cs us) → AreLawfulTypings c (top.over fun.Filter) n (u ∷ done) cs us w → AllStand (row_of fun.Filter) m (suc i) u common us →
     AllOf (in_row c t) booleans cs
 conditions_of c t n m i u common nil done us e w l a = tt
@@ -254,7 +254,7 @@ conditions_of c t n m i u common (cons x xs) done us e w l a =
       conditions_of c t n m (suc i) u common xs (done ++ w.0 ∷ []) w.1 e w.4 l.1 at.1,
     )
 
-conditions_back : (c : Context) (t : TableShape) (n : ℕ) (u : Shape) (cs : Terms) (done : List Shape) → u ≡ tables (columns_of t) → AllOf (in_row c t) booleans cs →
+pub conditions_back : (c : Context) (t : TableShape) (n : ℕ) (u : Shape) (cs : Terms) (done : List Shape) → u ≡ tables (columns_of t) → AllOf (in_row c t) booleans cs →
     HaveParts c (top.over fun.Filter) n (u ∷ done) cs (copies booleans cs)
 conditions_back c t n u nil done e a = (refl, tt)
 conditions_back c t n u (cons x xs) done e a =
@@ -265,7 +265,7 @@ conditions_back c t n u (cons x xs) done e a =
     let rest = conditions_back c t n u xs (done ++ booleans ∷ []) e a.1 in
     ((booleans, copies booleans xs, refl, there.0, rest.0), (there.1, rest.1))
 
-conditions_stand : (m i : ℕ) (u common : Shape) (cs : Terms) → AllStand (row_of fun.Filter) m (suc i) u common (copies booleans cs)
+pub conditions_stand : (m i : ℕ) (u common : Shape) (cs : Terms) → AllStand (row_of fun.Filter) m (suc i) u common (copies booleans cs)
 conditions_stand m i u common nil = tt
 conditions_stand m i u common (cons x xs) = (subst (λ (k : Takes). Stands k u common booleans) (sym (condition_behind m i)) refl, conditions_stand m (suc i) u common xs)
 

@@ -5,6 +5,7 @@ pub mod OutlineView
 pub mod Outlines
 pub mod Plans
 pub mod QueryExpressions
+pub mod Mixed
 pub mod Ranges
 pub mod SitePlaces
 pub mod Sites
@@ -17,3 +18,4 @@ pub mod Limited
 pub mod Consumers
 pub mod Settled
 pub mod Limits
+pub mod Mixes

@@ -1,8 +1,8 @@
--- Sites: where a formula takes rows of tables. Each is a largest query expression of its tree, and
--- they are numbered in the order in which they begin.
+-- Sites: where a formula takes rows of tables. Each is a largest query expression of its tree or
+-- that of a mixed filter, and they are numbered in the order in which they begin.
 use Rattle.std.specs.Prelude.{ℕ, zero, suc, codes, List, [], ◌∷◌, ◌++◌, Bool, true, false, not}
-use Rattle.std.specs.Prelude.{◌&&◌, Option, Some, None, is_some, length, slice_get, option_and_then}
-use Rattle.std.specs.Prelude.{unwrap_or, if◌then◌else◌}
+use Rattle.std.specs.Prelude.{◌&&◌, ◌||◌, Option, Some, None, is_some, length, slice_get}
+use Rattle.std.specs.Prelude.{option_and_then, unwrap_or, if◌then◌else◌}
 use Rattle.fx_types.specs.Words.{scalars_of}
 use Rattle.fx_core.specs.declared.deeds.Deed.{Deed}
 use Rattle.fx_core.specs.declared.deeds.Deed.TheVariants as deed
@@ -17,10 +17,15 @@ use Rattle.fx_core.specs.Term as top
 use Rattle.fx_plan.specs.declared.plans.Sketch.{Sketch}
 use Rattle.fx_core.specs.declared.sites.Site.{Site}
 use Rattle.fx_plan.specs.CallNames.{call_name}
+use Rattle.fx_plan.specs.Mixed.{MixOf, is_mixed, mix_of}
 use Rattle.fx_plan.specs.QueryExpressions.{column_of, sketch_of}
 
 abbrev pub is_query : List TableShape → ℕ → Term → Bool
 is_query ts k c = is_some (sketch_of ts k c)
+
+-- a tree for which one query is asked: a query expression, or a mixed filter
+abbrev pub is_asked : List TableShape → ℕ → Term → Bool
+is_asked ts k c = is_mixed ts k c || is_query ts k c
 
 -- ---- what takes a query expression
 
@@ -57,6 +62,7 @@ takes_whole ts k c = false
 
 -- under how many scopes; in the call of which function, and `cell` where there is none around;
 -- whether that takes the whole of it; and whether it is the first part of a larger query expression
+-- or of a mixed filter
 pub record Position : Type 0 where
   pub depth : ℕ
   pub by : List ℕ
@@ -104,7 +110,7 @@ part_at ts p (of h cs) i = record {
   depth = deeper (opens_row_scope h (terms_count cs) i) p.depth;
   by = unwrap_or (call_name h) p.by;
   delegated = takes_whole ts p.depth (of h cs) && is_first i;
-  inner = is_query ts p.depth (of h cs) && is_first i;
+  inner = is_asked ts p.depth (of h cs) && is_first i;
 }
 
 -- ---- sites
@@ -115,13 +121,22 @@ pub record Use : Type 0 where
   pub by : List ℕ
   pub delegated : Bool
 
+abbrev pub site_use : ℕ → List ℕ → Bool → Use
+site_use n by d = record { table = n; by = scalars_of by; delegated = d }
+
 abbrev pub use_by : Position → Option Sketch → List Use
 use_by p None = []
-use_by p (Some s) = record { table = s.table; by = scalars_of p.by; delegated = p.delegated } ∷ []
+use_by p (Some s) = site_use s.table p.by p.delegated ∷ []
 
--- the tree itself, if it is a query expression and not the first part of a larger one
+-- a mixed filter takes its query expression itself
+abbrev pub own_by : Position → Option MixOf → Option Sketch → List Use
+own_by p (Some m) s = site_use m.table (codes "Filter") false ∷ []
+own_by p None s = if p.inner then [] else use_by p s
+
+-- the tree itself, if it is a mixed filter, or a query expression and not the first part of a
+-- larger one or of a mixed filter
 abbrev pub own_use : List TableShape → Position → Term → List Use
-own_use ts p c = if p.inner then [] else use_by p (sketch_of ts p.depth c)
+own_use ts p c = own_by p (mix_of ts p.depth c) (sketch_of ts p.depth c)
 
 abbrev mutual
   -- the largest query expressions in a tree, in the order in which they begin

@@ -2,7 +2,8 @@
 ghost use Rattle.fx_plan.specs.Constants.{SketchesCanPlan};
 ghost use Rattle.fx_plan.specs.Consumers.{CountsAreValues, FirstsAreValues, FoundAreValues};
 ghost use Rattle.fx_plan.specs.Consumers.{ScansAreFirstRows, ScansAreValues, TotalsAreValues};
-ghost use Rattle.fx_plan.specs.Limited.{FirstRowsAre, LimitedSketches, LimitedTypes};
+ghost use Rattle.fx_plan.specs.Limited.{FirstRowsAre, LimitedSketches, LimitedTypes, MixedAreTaken};
+ghost use Rattle.fx_plan.specs.Mixed.{QueriesAreUnmixed, SplitsAreQueries};
 ghost use Rattle.fx_plan.specs.TestValues.{TestsAreConditions};
 ghost use Rattle.fx_plan.specs.Wholes.{PlansAreWhole};
 
@@ -34,6 +35,14 @@ pub fn plans_are_whole()
 /// and its error.
 pub fn first_rows_are()
     ensures { FirstRowsAre }
+{}
+
+/// A law, and no work: what is asked of a mixed filter is one query, and it is worth that of its
+/// other conditions over what is taken of this; no query expression is mixed.
+pub fn mixed_filters()
+    ensures queries { SplitsAreQueries }
+    ensures unmixed { QueriesAreUnmixed }
+    ensures taken { MixedAreTaken }
 {}
 
 /// A law, and no work: a tree whose query expressions give what is taken of them has the type that

@@ -7,6 +7,7 @@ pub mod conditions;
 pub mod filling;
 pub mod laws;
 mod limits;
+pub mod mixing;
 pub mod patterns;
 pub mod plans;
 pub mod ranges;
@@ -16,8 +17,10 @@ pub mod site_list;
 pub mod sketches;
 
 pub use filling::fill;
+pub use filter_parts::Split;
 pub use fx_core::Site;
 pub use limits::{limit_queries, limit_queries_under};
+pub use mixing::split;
 pub use patterns::{Pattern, PatternNode, Patterns};
 pub use plans::{Sketch, has_error, plan};
 pub use ranges::{Reach, no_row_is_missed, ranges_of};

@@ -1,17 +1,21 @@
 // Trees in which query expressions give what is taken of them.
-ghost use Rattle.std.specs.Prelude.{◌≡◌, ◌*◌, pos, false, IfOk};
+ghost use Rattle.std.specs.Prelude.{◌≡◌, ◌*◌, pos, false, option_map, IfOk};
 ghost use Rattle.fx_types.specs.TypeView.{shape};
 ghost use Rattle.fx_types.specs.ValueView.{view};
 ghost use Rattle.fx_types.specs.Values.{number};
-ghost use Rattle.fx_plan.specs.Sites.{deeper};
+ghost use Rattle.fx_plan.specs.Mixes.{mix_view};
+ghost use Rattle.fx_plan.specs.Sites.{deeper, is_asked as is_asked_in};
 ghost use Rattle.fx_plan.specs.declared.site_list.Scoped.TheVariants.{Nothing};
 ghost use Rattle.fx_core.specs.Term.{all, cons, term_field_names, nil, of, field_terms};
 ghost use Rattle.fx_core.specs.Term as top;
 ghost use Rattle.fx_core.specs.Lawful.{IsLawfulSchema};
 ghost use Rattle.fx_plan.specs.Limits.{depth_at, each_limited, fields_limited, with_limited_parts};
-ghost use Rattle.fx_plan.specs.Limited.{first_rows_of, limited, takes_first_whole};
+ghost use Rattle.fx_plan.specs.Limited.{first_rows_of, limited, over_first as over_first_in};
+ghost use Rattle.fx_plan.specs.Limited.{takes_first_whole, taken_as};
 
+use crate::mixing::{Mix, mix_under};
 use crate::{Scoped, formulas_of, is_update, sketch_under, takes_whole};
+use filter_parts::{Split, part};
 use fx_base::Memory;
 use fx_core::{Core, CoreArgs, CoreFields, CoreNode, Deed, Form, Fun, Schema, make_core};
 use fx_number::Num;
@@ -19,7 +23,7 @@ use fx_types::{Ty, Value, Words};
 use std::alloc::Global;
 
 /// A cell's tree in which each largest query expression that isn't taken whole gives its first
-/// rows, as many as the limit says.
+/// rows, as many as the limit says, and so does that of each mixed filter.
 pub fn limit_queries(
     alloc: Global,
     schema: &Schema,
@@ -60,18 +64,56 @@ fn limit_tree(
     requires { IsLawfulSchema schema.now }
     ensures { IfOk result (λ c. c ≡ limited schema.now.tables limit depth whole core.now) }
 {
+    let mix = mix_under(alloc, schema, core, depth)?;
     let is_query = sketch_under(alloc, schema, core, depth)?.is_some();
-    let takes_first = if is_query {
-        true
-    } else {
-        takes_whole(alloc, schema, core, depth)?
-    };
+    let is_asked = mix.is_some() || is_query;
+    let takes_first = takes_first(alloc, schema, core, depth, is_asked)?;
     let tree = limit_parts(alloc, schema, limit, core, depth, takes_first)?;
-    if is_query && !whole {
-        first_rows(alloc, tree, limit)
-    } else {
-        Ok(tree)
+    take(alloc, tree, mix, is_query && !whole, limit)
+}
+
+// Whether the first part of a tree may be taken whole.
+fn takes_first(
+    alloc: Global,
+    schema: &Schema,
+    core: &Core,
+    depth: u32,
+    is_asked: bool,
+) -> Result<bool, Memory>
+    requires lawful { IsLawfulSchema schema.now }
+    requires asked { is_asked ≡ is_asked_in schema.now.tables depth core.now }
+    ensures { IfOk result (λ b. b ≡ takes_first_whole schema.now.tables depth core.now) }
+{
+    if is_asked {
+        return Ok(true);
     }
+    takes_whole(alloc, schema, core, depth)
+}
+
+// A tree whose parts are limited, as it is taken: a mixed filter is split, and a query expression
+// is cut.
+fn take(alloc: Global, tree: Core, mix: Option<Mix>, cut: bool, limit: u32) -> Result<Core, Memory>
+    ensures { IfOk result (λ c. c ≡ taken_as limit (option_map mix_view mix) cut tree) }
+{
+    match mix {
+        Some(mix) => over_first(alloc, part(alloc, &tree, mix.marks.as_slice())?, limit),
+        None => {
+            if cut {
+                first_rows(alloc, tree, limit)
+            } else {
+                Ok(tree)
+            }
+        }
+    }
+}
+
+// The other conditions of a split filter over the first rows of the rest of it.
+fn over_first(alloc: Global, split: Split, limit: u32) -> Result<Core, Memory>
+    ensures { IfOk result (λ c. c ≡ over_first_in limit (split.inner, all split.rest)) }
+{
+    let Split { inner, rest } = split;
+    let rows = first_rows(alloc, inner, limit)?;
+    make_core::call_over(alloc, Fun::Filter, rows, rest)
 }
 
 // A tree with its parts limited, of which the first may be taken whole.

@@ -1,10 +1,11 @@
 //! Where a formula takes rows of tables.
-ghost use Rattle.std.specs.Prelude.{◌≡◌, ◌+◌, ◌<◌, ◌^◌, length, option_map, IfOk, OnOk};
+ghost use Rattle.std.specs.Prelude.{◌≡◌, ◌+◌, ◌<◌, ◌^◌, ◌∷◌, [], length, option_map, IfOk, OnOk};
 ghost use Rattle.fx_plan.specs.SitePlaces.{is_scoped, scope_opened as opened_in, parts_in};
 ghost use Rattle.fx_plan.specs.SitePlaces.{place_position, stand_at, within_call as within_in};
-ghost use Rattle.fx_plan.specs.Sites.{is_filter as is_filter_in, is_formula as is_formula_in};
-ghost use Rattle.fx_plan.specs.Sites.{is_query as is_query_in, is_update as is_update_in, listed};
-ghost use Rattle.fx_plan.specs.Sites.{own_use, part_at, sites_of, takes_whole as takes_whole_in};
+ghost use Rattle.fx_plan.specs.Sites.{is_asked as is_asked_in, is_filter as is_filter_in};
+ghost use Rattle.fx_plan.specs.Sites.{is_formula as is_formula_in, is_update as is_update_in};
+ghost use Rattle.fx_plan.specs.Sites.{listed, own_use, part_at, site_use, sites_of};
+ghost use Rattle.fx_plan.specs.Sites.{takes_whole as takes_whole_in};
 ghost use Rattle.fx_plan.specs.Sites.{totals as totals_in, totals_column as totals_column_in};
 ghost use Rattle.fx_plan.specs.Sites.{uses_among, uses_in};
 ghost use Rattle.fx_core.specs.Lawful.{IsLawfulSchema};
@@ -12,6 +13,7 @@ ghost use Rattle.fx_core.specs.Term.{all, field_terms};
 
 use crate::call_names::{deed_name, form_name, function_name};
 use crate::conditions::column_of;
+use crate::mixing::mix_under;
 use crate::sketches::{filter_sketch, sketch_under};
 use fx_base::Memory;
 use fx_core::rows::{Takes, row_of};
@@ -28,7 +30,7 @@ struct Place {
     by: &'static str,
     // Whether that takes the whole of it.
     delegated: bool,
-    // Whether it is the first part of a larger query expression.
+    // Whether it is the first part of a larger query expression or of a mixed filter.
     inner: bool,
 }
 
@@ -91,7 +93,8 @@ impl Place {
     }
 }
 
-/// The largest query expressions in a cell's tree, and what takes them.
+/// The largest query expressions in a cell's tree and those of its mixed filters, and what takes
+/// them.
 pub fn sites(alloc: Global, schema: &Schema, core: &Core) -> Result<Vec<Site>, Memory>
     requires { IsLawfulSchema schema.now }
     ensures { IfOk result (λ s. s.items ≡ sites_of schema.now.tables core.now) }
@@ -120,12 +123,12 @@ fn list(
     ensures { OnOk result (sites.new.items ≡ listed sites.old.items
         (uses_in schema.now.tables (place_position place.now) core.now)) }
 {
-    let is_query = list_own(alloc, schema, core, place, sites)?;
-    list_parts(alloc, schema, core, place, is_query, sites)
+    let is_asked = list_own(alloc, schema, core, place, sites)?;
+    list_parts(alloc, schema, core, place, is_asked, sites)
 }
 
-// Lists the tree itself, if it is a query expression and not the first part of a larger one, and
-// says whether it is a query expression.
+// Lists the tree itself, if it is a mixed filter, or a query expression and not the first part of a
+// larger one or of a mixed filter. Says whether it is a query expression or a mixed filter.
 fn list_own(
     alloc: Global,
     schema: &Schema,
@@ -136,24 +139,42 @@ fn list_own(
     requires { IsLawfulSchema schema.now }
     ensures sites { OnOk result (sites.new.items
         ≡ listed sites.old.items (own_use schema.now.tables (place_position place.now) core.now)) }
-    ensures query { IfOk result (λ b. b ≡ is_query_in schema.now.tables place.now.depth core.now) }
+    ensures asked { IfOk result (λ b. b ≡ is_asked_in schema.now.tables place.now.depth core.now) }
 {
+    if let Some(mix) = mix_under(alloc, schema, core, place.depth)? {
+        list_site(alloc, mix.table, "Filter", false, sites)?;
+        return Ok(true);
+    }
     let Some(query) = sketch_under(alloc, schema, core, place.depth)? else {
         return Ok(false);
     };
-    if place.inner {
-        return Ok(true);
+    if !place.inner {
+        list_site(alloc, query.table, place.by, place.delegated, sites)?;
     }
+    Ok(true)
+}
+
+// Lists one more site.
+fn list_site(
+    alloc: Global,
+    table: u16,
+    by: &str,
+    delegated: bool,
+    sites: &mut Vec<Site>,
+) -> Result<(), Memory>
+    ensures { OnOk result (sites.new.items
+        ≡ listed sites.old.items (site_use table by.now delegated ∷ [])) }
+{
     let Ok(number) = u32::try_from(sites.len() + 1) else {
         return Err(Memory);
     };
     sites.push(Site {
         number,
-        table: query.table,
-        by: Words::of(alloc, place.by)?,
-        delegated: place.delegated,
+        table,
+        by: Words::of(alloc, by)?,
+        delegated,
     })?;
-    Ok(true)
+    Ok(())
 }
 
 // Lists those in the parts of a tree.
@@ -163,11 +184,11 @@ fn list_parts(
     schema: &Schema,
     core: &Core,
     place: &Place,
-    is_query: bool,
+    is_asked: bool,
     sites: &mut Vec<Site>,
 ) -> Result<(), Memory>
     requires lawful { IsLawfulSchema schema.now }
-    requires query { is_query ≡ is_query_in schema.now.tables place.now.depth core.now }
+    requires asked { is_asked ≡ is_asked_in schema.now.tables place.now.depth core.now }
     ensures { OnOk result (sites.new.items ≡ listed sites.old.items
         (uses_among schema.now.tables (part_at schema.now.tables (place_position place.now)
         core.now) 0 (parts_in core.now))) }
@@ -196,7 +217,7 @@ fn list_parts(
             let inside = place.within(function_name(*fun));
             let first = Place {
                 delegated: takes_whole(alloc, schema, core, place.depth)?,
-                inner: is_query,
+                inner: is_asked,
                 ..inside
             };
             list(alloc, schema, rows, &first, sites)?;

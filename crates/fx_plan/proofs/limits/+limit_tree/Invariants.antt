@@ -30,6 +30,9 @@ decreases-limit_act l = 4 * terms_size (all l.parts.now) + 3
 abbrev pub decreases-limit_call : goal.decreases-limit_call
 decreases-limit_call l = 4 * terms_size (all l.parts.now) + 3
 
+abbrev pub decreases-limit_user : goal.decreases-limit_user
+decreases-limit_user l = 4 * terms_size (all l.parts.now) + 3
+
 abbrev pub decreases-limit_list : goal.decreases-limit_list
 decreases-limit_list l = 4 * terms_size (all l.parts.now) + 3
 

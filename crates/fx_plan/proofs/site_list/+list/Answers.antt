@@ -14,7 +14,7 @@ list-returns t c =
     let p = place_position c.args.place.now in
     on_ok_weaker c.list_parts.result
     (λ h. listed_then c.args.sites.now.items c.list_own.new.sites.items _ (own_use ts p c.args.core.now) (uses_among ts (part_at ts p c.args.core.now) 0 (parts_in c.args.core.now))
-    c.in_ok-is_query.ensures.sites h
+    c.in_ok-is_asked.ensures.sites h
     ∙ ap (λ us. listed c.args.sites.now.items us) (sym (uses_split ts p c.args.core.now)))
     c.list_parts.ensures
 
@@ -49,14 +49,14 @@ list_parts-returns-in_ok-list-in-Over t c =
     let ts = c.args.schema.now.tables in
     let p = place_position c.args.place.now in
     let around = place_position c.within-inside-in-Over.result in
-    let first : Position = record around { delegated = c.in_ok-takes_whole-in-Over.field-0; inner = c.args.is_query } in
+    let first : Position = record around { delegated = c.in_ok-takes_whole-in-Over.field-0; inner = c.args.is_asked } in
     let table : c.list.new.sites.items ≡ listed c.args.sites.now.items (uses_in ts first c.in-Over.rows.value) = cc (c.in_ok-list-in-Over.ensures) in
     on_ok_weaker c.list_among-in-Over.result
     (λ h. over_listed ts p c.in-Over.fun c.in-Over.rows.value c.in-Over.parts c.args.core.now c.formulas_of-scoped.result around first
     c.args.sites.now.items c.list.new.sites.items _ (sym (ap core_branch c.in-Over.is) ∙ c.core.view_is)
     (c.within-inside-in-Over.ensures ∙ ap (λ n. within_call n p) c.function_name-in-Over.ensures)
-    (ap (λ b. record around { delegated = b; inner = c.args.is_query }) c.in_ok-takes_whole-in-Over.ensures
-    ∙ ap (λ b. record around { delegated = takes_whole ts p.depth c.args.core.now; inner = b }) c.requires.query)
+    (ap (λ b. record around { delegated = b; inner = c.args.is_asked }) c.in_ok-takes_whole-in-Over.ensures
+    ∙ ap (λ b. record around { delegated = takes_whole ts p.depth c.args.core.now; inner = b }) c.requires.asked)
     table (cc (c.formulas_of-scoped.ensures, c.as_slice-behind.ensures)) (cc (h, c.as_slice-behind.ensures)))
     c.list_among-in-Over.ensures
 
