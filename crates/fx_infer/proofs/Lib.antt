@@ -1,4 +1,5 @@
 pub mod Admits
+mod NothingGiven
 pub mod Breaks
 pub mod Goes
 pub mod Lasts

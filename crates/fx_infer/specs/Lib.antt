@@ -1,3 +1,4 @@
+pub mod Assigning
 pub mod Below
 pub mod Ends
 pub mod Judged

@@ -19,6 +19,7 @@ ghost use Rattle.fx_infer.specs.CellView.{cell};
 ghost use Rattle.fx_infer.specs.GivenView.{given_type_view};
 
 use crate::Written;
+use crate::assigning::may_give;
 use crate::elaboration::outermost;
 use crate::flaw::Halt;
 use crate::giving::{Given, give};
@@ -142,6 +143,9 @@ pub fn walk(
         ≡ map given_type_view given.old.items
         ++ rounds.given_in (place_view at.now) (setting scopes.old stand) whole.now) }
 {
+    if !may_give(at.names, stand, whole) {
+        return Ok(());
+    }
     let count = part_count(whole);
     let mut done = Vec::new(alloc);
     // Apart, since what a node gives itself comes before what its parts give.

@@ -34,8 +34,8 @@ pub enum Given {
     Collection(Words, Ty),
 }
 
-// How a name is called.
-fn call_shape(names: &Names, name: &Words) -> Option<SigShape>
+/// How a name is called.
+pub fn call_shape(names: &Names, name: &Words) -> Option<SigShape>
     ensures { result ≡ plans.called_as names.now name.now }
 {
     signature_in(names.signatures, name.as_str()).map(|signature| signature.shape)

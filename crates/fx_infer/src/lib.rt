@@ -3,6 +3,7 @@
 #![tactic(auto)]
 
 pub mod admitting;
+pub mod assigning;
 pub mod assignments;
 pub mod depths;
 pub mod details;

@@ -1,4 +1,4 @@
-use Rattle.std.proofs.Common.{◌≡◌, ℕ, suc, ◌+◌, ◌<◌, ◌≤◌, ◌++◌, [], ◌∷◌, length, map, ap, sym, subst, ◌∙◌, arith, rules, length-append}
+use Rattle.std.proofs.Common.{◌≡◌, ℕ, suc, ◌+◌, ◌<◌, ◌≤◌, ◌++◌, [], ◌∷◌, false, length, map, ap, sym, subst, ◌∙◌, append-nil, arith, rules, length-append}
 use Rattle.std.proofs.lemmas.List.{length-map, map-append}
 use Rattle.fx_core.specs.Tree.{none, more, tree_size, forest_size}
 use Rattle.fx_typing.specs.Parts.{part_count}
@@ -10,6 +10,7 @@ use Rattle.fx_resolve.specs.SettingView.{setting}
 use Rattle.fx_infer.specs.Below.{forest_of, forest_from, tree_depth, forest_depth}
 use Rattle.fx_infer.proofs.Places.{part_smaller, part_shallow, part_within, size_is, depth_is}
 use Rattle.fx_infer.specs.GivenView.{given_type_view}
+use Rattle.fx_infer.proofs.NothingGiven.{gives_none}
 use Rattle.fx_infer.proofs.Walked.{walked_next, walked_all}
 use Rattle.fx_infer.proofs.assignments.+walk.Goals as goal
 
@@ -61,3 +62,10 @@ walk-returns-clause-given t c =
     (c.in_ok-give.ensures c.args.scopes.now
     ∙ ap (λ xs. map given_type_view c.args.given.now.items ++ node_gives (place_view c.args.at.now) (setting c.args.scopes.now c.args.stand) (tree_head c.args.whole.now) (map judged_part xs)) here)
     c.in_ok-append.ensures
+
+pub walk-returns-then-not-may_give-clause-given : goal.walk-returns-then-not-may_give-clause-given
+walk-returns-then-not-may_give-clause-given t c =
+    let never : c.may_give.result ≡ false = search rules in
+    let none = gives_none (place_view c.args.at.now) (setting c.args.scopes.now c.args.stand) c.args.whole.now (sym c.may_give.ensures ∙ never) in
+    let old = map given_type_view c.args.given.now.items in
+    sym (ap (λ gs. old ++ gs) none ∙ append-nil old)
