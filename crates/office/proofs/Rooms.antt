@@ -12,12 +12,12 @@ pub have_none : (n : Names) (xs : List (Named SessionState)) → LiveSessionsFit
 have_none n [] fit = refl
 have_none n (x ∷ xs) fit = λ i. record x { it = record x.it { room = none i } } ∷ have_none n xs fit.1 i
   where
-    none : record { variables = 0; collections = 0 } ≡ x.it.room
+    none : record { variables = 0; collections = 0; controls = 0 } ≡ x.it.room
     none = sym fit.0.spare
 
 -- there is as much as the names want once it was made
 enough : (n : Names) (r : SessionRoom) → HasSessionRoom n (room_with n r)
-enough n r = record { variables = omega arith; collections = omega arith }
+enough n r = record { variables = omega arith; collections = omega arith; controls = omega arith }
 
 pub have_room : (n : Names) (xs : List (Named SessionState)) → HaveRoom n (map (with_room n) xs)
 have_room n [] = tt

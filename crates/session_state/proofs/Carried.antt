@@ -39,7 +39,7 @@ get_or_within [] i d e lt = absurd (omega arith)
 get_or_within (x ∷ xs) zero d e lt = refl
 get_or_within (x ∷ xs) (suc i) d e lt = get_or_within xs i d e (omega arith)
 
-held_within : (n : ℕ) (f : ℕ → Data) (k : ℕ) → k < n → k < length (map f (range_with_len 0 n))
+pub held_within : (n : ℕ) (f : ℕ → Data) (k : ℕ) → k < n → k < length (map f (range_with_len 0 n))
 held_within n f k lt = let e = length-map-range_with_len f 0 n in omega arith
 
 -- ---- the variable that a place was
@@ -62,7 +62,7 @@ one_context n m (Some j) (Some k) s t e f = f
 one_context n m None (Some k) s t e f = absurd cc
 one_context n m o None s t e f = absurd cc
 
-module _ (n m : Names) (s : SessionState) (alike : AreAlike n m) (tables : HoldsTables m) (f : FitsNames n s) where
+module _ (n m : Names) (s : SessionState) (tables : HoldsTables m) (f : FitsNames n s) where
   -- a variable that kept its value, by its kind
   kept : (X : ℕ → Source) (kind : Option ℕ → Shape → Option Shape)
       → ((x : Variable) (i : ℕ) (u : Shape) → slice_get n.variables i ≡ Some x → kind x.screen (shape x.ty) ≡ Some u → fits_in (get_or s.variables i blank) u ≡ true)
@@ -76,13 +76,13 @@ module _ (n m : Names) (s : SessionState) (alike : AreAlike n m) (tables : Holds
       let old : kind w.old.screen (shape w.new.ty) ≡ Some t = one w.old.screen w.new.screen t (shape w.new.ty) screens new in
       fits w.old i t w.old_at (ap (kind w.old.screen) (shape_same _ _ w.type_same) ∙ old)
 
-  fits_global : (k : ℕ) (t : Shape) → sources m (source.Global k) ≡ Some t → fits_in (stored_value (carried n m s) (source.Global k)) t ≡ true
+  pub fits_global : (k : ℕ) (t : Shape) → sources m (source.Global k) ≡ Some t → fits_in (stored_value (carried n m s) (source.Global k)) t ≡ true
   fits_global k t e =
       let lt = typed_within m.variables k t (λ (v : Variable). if_global v.screen (shape v.ty)) e in
       carried_fits_at (variable_was n m) blank s.variables (length m.variables) k t _ lt refl refl
       (λ i g. kept (λ j. source.Global j) if_global (λ x j u at h. f.values_fit (source.Global j) u tt (ap (option_and_then (λ (v : Variable). if_global v.screen (shape v.ty))) at ∙ h)) (λ o p u t' h h'. one_global n m o p u t' h h') k i t e g)
 
-  fits_context : (k : ℕ) (t : Shape) → sources m (source.Context k) ≡ Some t → fits_in (stored_value (carried n m s) (source.Context k)) t ≡ true
+  pub fits_context : (k : ℕ) (t : Shape) → sources m (source.Context k) ≡ Some t → fits_in (stored_value (carried n m s) (source.Context k)) t ≡ true
   fits_context k t e =
       let lt = typed_within m.variables k t (λ (v : Variable). if_context v.screen (shape v.ty)) e in
       carried_fits_at (variable_was n m) blank s.variables (length m.variables) k t _ lt refl refl
@@ -97,11 +97,12 @@ module _ (n m : Names) (s : SessionState) (alike : AreAlike n m) (tables : Holds
       let there : i < length s.collections = f.sources_held (source.Gathered i) t tt old in
       ap (λ (d : Data). fits_in d t) (get_or_within s.collections i (tab no_rows) blank there) ∙ f.values_fit (source.Gathered i) t tt old
 
-  fits_gathered : (k : ℕ) (t : Shape) → sources m (source.Gathered k) ≡ Some t → fits_in (stored_value (carried n m s) (source.Gathered k)) t ≡ true
+  pub fits_gathered : (k : ℕ) (t : Shape) → sources m (source.Gathered k) ≡ Some t → fits_in (stored_value (carried n m s) (source.Gathered k)) t ≡ true
   fits_gathered k t e =
       let lt = mapped_within m.collections k t (λ (c : Collection). shape c.ty) e in
       carried_fits_at (collection_was n m) (tab no_rows) s.collections (length m.collections) k t _ lt refl (tables k t e) (λ i g. kept_collection k i t e g)
 
+module _ (n m : Names) (s : SessionState) (alike : AreAlike n m) (tables : HoldsTables m) (f : FitsNames n s) where
   -- what users gave stays
   kind_at : (cs ds : List ControlName) (k : ℕ) → map (λ (c : ControlName). c.kind) cs ≡ map (λ (c : ControlName). c.kind) ds → option_and_then (λ (c : ControlName). input_type c.kind) (slice_get cs k) ≡ option_and_then (λ (c : ControlName). input_type c.kind) (slice_get ds k)
   kind_at [] [] k e = refl
@@ -124,9 +125,9 @@ module _ (n m : Names) (s : SessionState) (alike : AreAlike n m) (tables : Holds
   holds source.Today t own e = own
 
   fits : (x : Source) (t : Shape) → IsOwn x → sources m x ≡ Some t → fits_in (stored_value (carried n m s) x) t ≡ true
-  fits (source.Global k) t own e = fits_global k t e
-  fits (source.Context k) t own e = fits_context k t e
-  fits (source.Gathered k) t own e = fits_gathered k t e
+  fits (source.Global k) t own e = fits_global n m s tables f k t e
+  fits (source.Context k) t own e = fits_context n m s tables f k t e
+  fits (source.Gathered k) t own e = fits_gathered n m s tables f k t e
   fits (source.Input k) t own e = f.values_fit (source.Input k) t tt (input_was k t e)
   fits (source.Cell k) t own e = absurd own
   fits (source.Chosen k) t own e = absurd own

@@ -23,8 +23,8 @@ value_seen v vs (Some k) = seen v vs k
 value_seen v vs None = refl
 
 -- what is still to be moved is where it was
-abbrev pub IsLeft : (ℕ → Option ℕ) → ℕ → List Value → List Value → Type 0
-IsLeft was j vs us = (k i : ℕ) (d : Value) → j ≤ k → was k ≡ Some i → get_or vs i d ≡ get_or us i d
+abbrev pub IsLeft : {V : Type 0} → (ℕ → Option ℕ) → ℕ → List V → List V → Type 0
+IsLeft {V} was j vs us = (k i : ℕ) (d : V) → j ≤ k → was k ≡ Some i → get_or vs i d ≡ get_or us i d
 
 -- so many of those that are moved, and the others left
 pub record IsMoving (was : ℕ → Option ℕ) (d : Data) (n : ℕ) (us vs to : List Value) (len cap j : ℕ) : Type 0 where
@@ -37,15 +37,15 @@ pub record IsMoving (was : ℕ → Option ℕ) (d : Data) (n : ℕ) (us vs to : 
 abbrev pub AreApart : (ℕ → Option ℕ) → Type 0
 AreApart was = (j k i : ℕ) → was j ≡ Some i → was k ≡ Some i → j ≡ k
 
-value_left : (was : ℕ → Option ℕ) (j : ℕ) (vs us : List Value) (v : Value) (o : Option ℕ) → was j ≡ o → IsLeft was j vs us → value_or v vs o ≡ value_or v us o
+value_left : {V : Type 0} (was : ℕ → Option ℕ) (j : ℕ) (vs us : List V) (v : V) (o : Option ℕ) → was j ≡ o → IsLeft was j vs us → value_or v vs o ≡ value_or v us o
 value_left was j vs us v (Some i) e h = h j i v (omega arith) e
 value_left was j vs us v None e h = refl
 
-pub left_more : (was : ℕ → Option ℕ) (j j' : ℕ) (vs ws us : List Value) (v : Value) (o : Option ℕ) → AreApart was → j' ≡ j + 1 → was j ≡ o → MatchOption o (ws ≡ vs) (λ k. ws ≡ set vs k v) → IsLeft was j vs us → IsLeft was j' ws us
-left_more was j j' vs ws us v None apart next e is h = λ k i d le f. ap (λ (xs : List Value). get_or xs i d) is ∙ h k i d (omega arith) f
+pub left_more : {V : Type 0} (was : ℕ → Option ℕ) (j j' : ℕ) (vs ws us : List V) (v : V) (o : Option ℕ) → AreApart was → j' ≡ j + 1 → was j ≡ o → MatchOption o (ws ≡ vs) (λ k. ws ≡ set vs k v) → IsLeft was j vs us → IsLeft was j' ws us
+left_more was j j' vs ws us v None apart next e is h = λ k i d le f. ap (λ xs. get_or xs i d) is ∙ h k i d (omega arith) f
 left_more was j j' vs ws us v (Some i') apart next e is h = λ k i d le f.
     let other : i ≡ i' → ⊥ = λ same. let g : was j ≡ Some i = e ∙ ap (λ (m : ℕ). Some m) (sym same) in let eq : j ≡ k = apart j k i g f in omega arith in
-    ap (λ (xs : List Value). get_or xs i d) is ∙ get_or-set_other vs i' i v d other ∙ h k i d (omega arith) f
+    ap (λ xs. get_or xs i d) is ∙ get_or-set_other vs i' i v d other ∙ h k i d (omega arith) f
 
 -- those that are moved, and one more
 map_push : (vs : List Value) (v : Value) → map view (vs ++ v ∷ []) ≡ map view vs ++ view v ∷ []
@@ -57,6 +57,20 @@ moved_more was j j' vs us to to' v w d next is left value more done =
     let f : ℕ → Data = λ k. value_or d (map view us) (was k) in
     let one : view w ≡ f j = ap view (value ∙ value_left was j vs us v (was j) refl left) ∙ value_seen v us (was j) ∙ ap (λ (x : Data). value_or x (map view us) (was j)) is in
     ap (map view) more ∙ map_push to w ∙ ap (λ (ds : List Data). ds ++ view w ∷ []) done ∙ ap (λ (x : Data). map f (range_with_len 0 j) ++ x ∷ []) one
+    ∙ sym (map-range_with_len_more f 0 j j (omega arith)) ∙ ap (λ (m : ℕ). map f (range_with_len 0 m)) (sym next)
+
+-- the same of things that are seen as they are
+pub record AreMoving {V : Type 0} (was : ℕ → Option ℕ) (d : V) (n : ℕ) (us vs to : List V) (len cap j : ℕ) : Type 0 where
+  pub done : to ≡ carried_values was d us j
+  pub left : IsLeft was j vs us
+  pub room : n ≤ cap
+  pub few : len ≡ j
+
+pub one_moved : {V : Type 0} (was : ℕ → Option ℕ) (j j' : ℕ) (vs us to to' : List V) (w d : V) → j' ≡ j + 1 → IsLeft was j vs us → w ≡ value_or d vs (was j) → to' ≡ to ++ w ∷ [] → to ≡ carried_values was d us j → to' ≡ carried_values was d us j'
+one_moved {V} was j j' vs us to to' w d next left value more done =
+    let f : ℕ → V = λ k. value_or d us (was k) in
+    let one : w ≡ f j = value ∙ value_left was j vs us d (was j) refl left in
+    more ∙ ap (λ l. l ++ w ∷ []) done ∙ ap (λ x. map f (range_with_len 0 j) ++ x ∷ []) one
     ∙ sym (map-range_with_len_more f 0 j j (omega arith)) ∙ ap (λ (m : ℕ). map f (range_with_len 0 m)) (sym next)
 
 -- ---- two things don't stand for one old one

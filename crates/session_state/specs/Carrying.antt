@@ -69,8 +69,8 @@ value_or v vs (Some i) = slice_index_or vs i v
 value_or v vs None = v
 
 -- so many values, each the one that was at its old place, and the others so
-abbrev pub carried_values : (ℕ → Option ℕ) → Data → List Data → ℕ → List Data
-carried_values was d ds n = map (λ j. value_or d ds (was j)) (range_with_len 0 n)
+abbrev pub carried_values : {V : Type 0} → (ℕ → Option ℕ) → V → List V → ℕ → List V
+carried_values was v vs n = map (λ j. value_or v vs (was j)) (range_with_len 0 n)
 
 -- THE session after an edit: each variable and each collection that both apps have, with the same
 -- type, keeps its value. The other variables are blank, and the other collections empty.

@@ -9,30 +9,34 @@ use Rattle.fx_core.specs.declared.sources.Source.TheVariants as source
 use Rattle.fx_core.specs.declared.names.Names.{Names}
 use Rattle.session_state.specs.Once.{LastRequest, nobody}
 
--- for how many variables and collections there is room beside a session, for an app that is edited
+-- for how many variables, collections and controls there is room beside a session, for an app that
+-- is edited or replaced
 pub record SessionRoom : Type 0 where
   pub variables : ℕ
   pub collections : ℕ
+  pub controls : ℕ
 
 abbrev pub no_session_room : SessionRoom
-no_session_room = record { variables = 0; collections = 0 }
+no_session_room = record { variables = 0; collections = 0; controls = 0 }
 
 -- as much as the names want, and no less than there is
 abbrev pub room_with : Names → SessionRoom → SessionRoom
 room_with n r = record {
   variables = max (length n.variables) r.variables;
   collections = max (length n.collections) r.collections;
+  controls = max (length n.controls) r.controls;
 }
 
 -- there is as much as the names want
 pub record HasSessionRoom (n : Names) (r : SessionRoom) : Type 0 where
   pub variables : length n.variables ≤ r.variables
   pub collections : length n.collections ≤ r.collections
+  pub controls : length n.controls ≤ r.controls
 
 -- The current screen, and whether one was made current in this request; variables and collections,
 -- by their numbers; by the numbers of controls what users gave, and the position and the id of what
 -- is chosen; the last accepted request; the notices of this request; and the spare room, which
--- there is while an app is edited.
+-- there is while an app is edited or replaced.
 pub record SessionState : Type 0 where
   pub screen : ℕ
   pub navigated : Bool

@@ -65,7 +65,7 @@ fn place_of_collection(names: &Names, collection: &Collection) -> Option<usize>
         .position(|one| one.name.is(&collection.name))
 }
 
-fn is_place(place: usize, found: Option<usize>) -> bool
+pub(crate) fn is_place(place: usize, found: Option<usize>) -> bool
     ensures { result ≡ carrying.is_place place found }
 {
     match found {
@@ -104,7 +104,7 @@ pub fn collection_was(old: &Names, new: &Names, place: usize) -> Option<usize>
 
 // Takes the value at a place away, and leaves another for it, which is given back where there is
 // none.
-fn take(values: &mut Vec<Value>, place: Option<usize>, other: Value) -> Value
+pub(crate) fn take<T>(values: &mut Vec<T>, place: Option<usize>, other: T) -> T
     ensures value { result ≡ value_or other values.old.items place }
     ensures left { MatchOption place (values.new.items ≡ values.old.items)
         (λ k. values.new.items ≡ slice_set values.old.items k other) }
@@ -116,7 +116,7 @@ fn take(values: &mut Vec<Value>, place: Option<usize>, other: Value) -> Value
 }
 
 // Adds a value, for which there is room.
-fn put(values: &mut Vec<Value>, value: Value)
+pub(crate) fn put<T: Drop>(values: &mut Vec<T>, value: T)
     requires room { vec_len values.old < vec_capacity values.old }
     ensures values { values.new.items ≡ values.old.items ++ value ∷ [] }
     ensures len { vec_len values.new ≡ vec_len values.old + 1 }

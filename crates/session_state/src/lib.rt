@@ -3,6 +3,7 @@
 
 mod caller;
 mod carrying;
+mod carrying_over;
 pub mod change;
 pub mod desk;
 pub mod laws;
@@ -12,6 +13,7 @@ pub mod turn;
 mod weight;
 
 pub use carrying::{collection_was, variable_was};
+pub use carrying_over::control_was;
 pub use change::Change;
 pub use desk::Desk;
 pub use session::Session;

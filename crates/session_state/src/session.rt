@@ -1,16 +1,17 @@
 //! Sessions.
-ghost use Rattle.std.specs.Prelude.{◌≡◌, ◌<◌, IfOk, OnOk, OnErr, length, [], slice_index_or};
-ghost use Rattle.std.specs.Prelude.{slice_set, nat_le, ◌++◌, ◌∷◌, Some, None, not, if◌then◌else◌};
+ghost use Rattle.std.specs.Prelude.{◌≡◌, ◌<◌, ◌≤◌, ◌^◌, IfOk, OnOk, OnErr, length, []};
+ghost use Rattle.std.specs.Prelude.{slice_index_or, slice_set, nat_le, ◌++◌, ◌∷◌, Some, None, not, if◌then◌else◌};
 
 use crate::caller::Caller;
 use crate::carrying::{carry_collections, carry_variables};
+use crate::carrying_over::{carry_inputs, carry_kept, screen_over};
 use crate::change::Change;
 use crate::lists::{blanks, copy_of_inputs, copy_of_texts, copy_of_values, empty_tables, nothing};
 use crate::turn::Turn;
 use crate::weight::{put, total_weight};
 use fx_base::Memory;
-use fx_core::Names;
 use fx_core::sources::Source;
+use fx_core::{ControlList, Names};
 use fx_types::values::{Rows, Value};
 use fx_types::words::Words;
 use std::alloc::Global;
@@ -36,9 +37,11 @@ pub struct Session {
     chosen: Vec<Option<(u32, Option<u32>)>>,
     caller: Caller,
     notices: Vec<Words>,
-    // Empty, with room for what an edited app has.
+    // Empty, with room for what the app has that is to come.
     spare_variables: Vec<Value>,
     spare_collections: Vec<Value>,
+    spare_inputs: Vec<Option<Value>>,
+    spare_chosen: Vec<Option<(u32, Option<u32>)>>,
 }
 
 // By hand, so that it is called: what is derived is opened wherever a value may end, which costs
@@ -58,6 +61,8 @@ impl Drop for Session {
             notices: _,
             spare_variables: _,
             spare_collections: _,
+            spare_inputs: _,
+            spare_chosen: _,
         } = self;
     }
 }
@@ -85,13 +90,16 @@ impl Model for Session {
       room = record {
         variables = vec_capacity s.spare_variables;
         collections = vec_capacity s.spare_collections;
+        controls = vec_capacity s.spare_inputs;
       };
     } };
 
     ghost invariant = { λ s.
         (s.weight ≡ weight_of_values (map value_view s.variables.items)
         (map value_view s.collections.items))
-        × (s.spare_variables.items ≡ []) × (s.spare_collections.items ≡ []) };
+        × (s.spare_variables.items ≡ []) × (s.spare_collections.items ≡ [])
+        × (s.spare_inputs.items ≡ []) × (s.spare_chosen.items ≡ [])
+        × (vec_capacity s.spare_chosen ≡ vec_capacity s.spare_inputs) };
 }
 
 impl Session {
@@ -105,6 +113,7 @@ impl Session {
     ghost use Rattle.fx_core.specs.declared.names.Names.{Names as AppNames};
     ghost use Rattle.fx_core.specs.SourceTypes.{sources};
     ghost use Rattle.session_state.specs.Once.{turn_of};
+    ghost use Rattle.session_state.specs.CarriedOver.{carried_over, with_controls};
     ghost use Rattle.session_state.specs.Carrying.{carried};
     ghost use Rattle.session_state.specs.Sessions.{HasSessionRoom, opened, stored_value, Holds};
     ghost use Rattle.session_state.specs.Sessions.{no_session_room, room_with, weight as weight_of};
@@ -139,6 +148,8 @@ impl Session {
             notices: Vec::new(alloc),
             spare_variables: Vec::new(alloc),
             spare_collections: Vec::new(alloc),
+            spare_inputs: Vec::new(alloc),
+            spare_chosen: Vec::new(alloc),
         })
     }
 
@@ -162,6 +173,8 @@ impl Session {
             notices: Vec::new(alloc),
             spare_variables: Vec::new(alloc),
             spare_collections: Vec::new(alloc),
+            spare_inputs: Vec::new(alloc),
+            spare_chosen: Vec::new(alloc),
         };
         copy.inputs = copy_of_inputs(alloc, &self.inputs)?;
         copy.chosen = Vec::from_slice(alloc, &self.chosen)?;
@@ -169,10 +182,13 @@ impl Session {
         copy.notices = copy_of_texts(alloc, &self.notices)?;
         copy.spare_variables = Vec::with_capacity(alloc, self.spare_variables.capacity())?;
         copy.spare_collections = Vec::with_capacity(alloc, self.spare_collections.capacity())?;
+        let inputs = Vec::with_capacity(alloc, self.spare_inputs.capacity())?;
+        copy.spare_chosen = Vec::with_capacity(alloc, self.spare_chosen.capacity())?;
+        copy.spare_inputs = inputs;
         Ok(copy)
     }
 
-    /// Makes room for the variables and the collections that an edited app has.
+    /// Makes room for the variables, collections and controls that an app has which is to come.
     pub fn make_room(&mut self, names: &Names) -> Result<(), Memory>
         ensures made { IfOk result (λ _. self.new
             ≡ record self.old { room = room_with names.now self.old.room }) }
@@ -183,10 +199,15 @@ impl Session {
             .collections
             .len()
             .max(self.spare_collections.capacity());
+        let controls = names.controls.len().max(self.spare_inputs.capacity());
         let variables = Vec::with_capacity(self.alloc, variables)?;
         let collections = Vec::with_capacity(self.alloc, collections)?;
+        let inputs = Vec::with_capacity(self.alloc, controls)?;
+        let chosen = Vec::with_capacity(self.alloc, controls)?;
         self.spare_variables = variables;
         self.spare_collections = collections;
+        self.spare_inputs = inputs;
+        self.spare_chosen = chosen;
         Ok(())
     }
 
@@ -196,12 +217,15 @@ impl Session {
     {
         self.spare_variables = Vec::new(self.alloc);
         self.spare_collections = Vec::new(self.alloc);
+        self.spare_inputs = Vec::new(self.alloc);
+        self.spare_chosen = Vec::new(self.alloc);
     }
 
     /// Goes over to an edited app. What both apps have keeps its value, and the room is used up. It
     /// takes no memory.
     pub fn carry(&mut self, old: &Names, new: &Names)
-        requires { HasSessionRoom new.now self.old.room }
+        requires variables { length new.now.variables ≤ self.old.room.variables }
+        requires collections { length new.now.collections ≤ self.old.room.collections }
         ensures { self.new ≡ carried old.now new.now self.old }
     {
         let mut variables = mem::replace(&mut self.spare_variables, Vec::new(self.alloc));
@@ -217,6 +241,33 @@ impl Session {
         self.weight = total_weight(&variables) + total_weight(&collections);
         self.variables = variables;
         self.collections = collections;
+        self.spare_inputs = Vec::new(self.alloc);
+        self.spare_chosen = Vec::new(self.alloc);
+    }
+
+    /// Goes over to an app that replaces the old one. What both apps have keeps its value, and the
+    /// room is used up. It takes no memory.
+    pub fn carry_over(&mut self, old: &Names, new: &Names)
+        requires room { HasSessionRoom new.now self.old.room }
+        requires screens { length new.now.screens < 2 ^ 32 }
+        ensures { self.new ≡ carried_over old.now new.now self.old }
+    {
+        self.carry_controls(&old.controls, &new.controls);
+        self.screen = screen_over(old, new, self.screen);
+        self.carry(old, new);
+    }
+
+    // Moves what users gave and chose to the controls of another app, and uses their room up.
+    fn carry_controls(&mut self, old: &ControlList, new: &ControlList)
+        requires { length new.now ≤ self.old.room.controls }
+        ensures { self.new ≡ with_controls old.now new.now self.old }
+    {
+        let mut inputs = mem::replace(&mut self.spare_inputs, Vec::new(self.alloc));
+        let mut chosen = mem::replace(&mut self.spare_chosen, Vec::new(self.alloc));
+        carry_inputs(old, new, &mut self.inputs, &mut inputs);
+        carry_kept(old, new, &mut self.chosen, &mut chosen);
+        self.inputs = inputs;
+        self.chosen = chosen;
     }
 
     /// The value of a variable or a collection, or what the user gave, which is blank where nothing

@@ -11,7 +11,7 @@ pub invariant_of-self : goal.invariant_of-self
 invariant_of-self c =
     let was : c.self.inside.weight ≡ sum_by weighed (map view c.self.inside.collections.items) + sum_by weighed (map view c.self.inside.variables.items) = omega (arith, c.self.invariant.0) in
     let kept = kept_weight c.self.inside.collections.items _ c.self.inside.weight _ (sum_by weighed (map view c.self.inside.variables.items)) c.args.number c.args.value c.put.result c.put.ensures.values c.put.ensures.weight was in
-    (omega (arith, kept), c.self.invariant.1, c.self.invariant.2)
+    (omega (arith, kept), c.self.invariant.1, c.self.invariant.2, c.self.invariant.3, c.self.invariant.4, c.self.invariant.5)
 
 pub returns-clause-changed : goal.returns-clause-changed
 returns-clause-changed c =

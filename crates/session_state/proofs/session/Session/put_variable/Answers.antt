@@ -12,6 +12,9 @@ invariant_of-self c = (
   kept_weight c.self.inside.variables.items _ c.self.inside.weight _ (sum_by weighed (map view c.self.inside.collections.items)) c.args.number c.args.value c.put.result c.put.ensures.values c.put.ensures.weight c.self.invariant.0,
   c.self.invariant.1,
   c.self.invariant.2,
+  c.self.invariant.3,
+  c.self.invariant.4,
+  c.self.invariant.5,
 )
 
 pub returns-clause-changed : goal.returns-clause-changed
