@@ -1,0 +1,5 @@
+pub mod Records
+pub mod Pages
+pub mod Ends
+pub mod Batches
+pub mod Laws
