@@ -5,7 +5,7 @@ use fx_number::{Num, read};
 use std::alloc::Global;
 
 /// What a line says.
-#[derive(Clone, Copy, Debug)]
+#[derive(Clone, Copy)]
 pub enum Call<'l> {
     /// New keepers are taken; in memory the calls of the numbers in the text fail.
     New(&'l str),
@@ -17,9 +17,8 @@ pub enum Call<'l> {
     Back,
     /// The numbers up to this one are passed over.
     Skip(u32),
-    /// A row of a name and a quantity is put, or put over that of a number.
-    Insert(&'l str, Option<Num>),
-    Replace(u32, &'l str, Option<Num>),
+    /// A row of a name and a quantity is put, anew or over that of a number.
+    Put(Option<u32>, &'l str, Option<Num>),
     Remove(u32),
     Ask(Ask),
     /// How many rows were visited.
@@ -34,7 +33,7 @@ pub enum Call<'l> {
 }
 
 /// What is asked, of the rows of at least a quantity or, for a page, a number; at most so many.
-#[derive(Clone, Copy, Debug)]
+#[derive(Clone, Copy)]
 pub struct Ask {
     pub of: Asked,
     pub least: Option<Num>,
@@ -42,7 +41,7 @@ pub struct Ask {
 }
 
 /// What is asked.
-#[derive(Clone, Copy, Debug)]
+#[derive(Clone, Copy)]
 pub enum Asked {
     Rows,
     Count,
@@ -83,13 +82,13 @@ impl<'l> Call<'l> {
 
 fn insert(rest: &str) -> Call {
     let (first, second) = rest.split_once(' ').unwrap_or((rest, ""));
-    Call::Insert(name(first), read(second))
+    Call::Put(None, name(first), read(second))
 }
 
 fn replace(rest: &str) -> Call {
     let (first, rest) = rest.split_once(' ').unwrap_or((rest, ""));
     let (second, third) = rest.split_once(' ').unwrap_or((rest, ""));
-    Call::Replace(number(first), name(second), read(third))
+    Call::Put(Some(number(first)), name(second), read(third))
 }
 
 fn question(of: Asked, rest: &str) -> Ask {

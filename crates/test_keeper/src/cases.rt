@@ -3,31 +3,27 @@ ghost use Rattle.std.specs.Prelude.{◌≡◌, false};
 ghost use Rattle.test_keeper.specs.Stock.{IsInStep};
 
 use crate::calls::{Ask, Asked, Call};
-use crate::stage::{
-    Stage, back, begin, commit, count, insert, pages, remove, replace, rows, shape, shape_other,
-    total,
-};
-use fx_base::Memory;
+use crate::said::Said;
+use crate::stage::{Stage, back, begin, commit, count, put, remove, scan, shape, total};
+use crate::stock::{cells, from, names_alone, page, stock};
+use fx_number::Num;
 use row_keeper::Keeper;
-use std::alloc::Global;
 
 /// A keeper, and what the cases have come to.
 #[derive(Drop)]
 pub struct Case<K> {
-    alloc: Global,
     pub keeper: K,
     pub stage: Stage,
 }
 
 impl<K: Keeper> Case<K> {
     /// The cases begin with a keeper that they haven't shaped.
-    pub fn new(alloc: Global, keeper: K) -> Case<K>
+    pub fn new(keeper: K) -> Case<K>
         requires { K.in_transaction keeper ≡ false }
         ensures { IsInStep result.stage.is_shaped result.stage.is_begun (K.shaped result.keeper)
             (K.in_transaction result.keeper) }
     {
         Case {
-            alloc,
             keeper,
             stage: Stage {
                 is_shaped: false,
@@ -36,51 +32,115 @@ impl<K: Keeper> Case<K> {
         }
     }
 
-    /// Makes a call of the keeper, and says what it answers; other calls answer nothing.
-    pub fn make(&mut self, call: &Call) -> Result<String, Memory>
+    /// Makes a call of the keeper, and adds what it answers; other calls answer nothing.
+    pub fn make(&mut self, call: &Call, said: &mut Said)
         requires { IsInStep self.old.stage.is_shaped self.old.stage.is_begun
             (K.shaped self.old.keeper) (K.in_transaction self.old.keeper) }
         ensures { IsInStep self.new.stage.is_shaped self.new.stage.is_begun
             (K.shaped self.new.keeper) (K.in_transaction self.new.keeper) }
     {
         match call {
-            Call::Shape => shape(self.alloc, &mut self.keeper, &mut self.stage),
-            Call::Other => shape_other(self.alloc, &mut self.keeper, &mut self.stage),
-            Call::Begin => begin(self.alloc, &mut self.keeper, &mut self.stage),
-            Call::Commit => commit(self.alloc, &mut self.keeper, &mut self.stage),
-            Call::Back => back(self.alloc, &mut self.keeper, &mut self.stage),
-            Call::Insert(name, quantity) => {
-                insert(self.alloc, &mut self.keeper, self.stage, name, *quantity)
+            Call::Shape => shape_stock(&mut self.keeper, &mut self.stage, said),
+            Call::Other => shape_other(&mut self.keeper, &mut self.stage, said),
+            Call::Begin => begin(&mut self.keeper, &mut self.stage, said),
+            Call::Commit => commit(&mut self.keeper, &mut self.stage, said),
+            Call::Back => back(&mut self.keeper, &mut self.stage, said),
+            Call::Put(id, name, quantity) => {
+                put_cells(&mut self.keeper, self.stage, *id, name, *quantity, said);
             }
-            Call::Replace(id, name, quantity) => {
-                replace(
-                    self.alloc,
-                    &mut self.keeper,
-                    self.stage,
-                    *id,
-                    name,
-                    *quantity,
-                )
-            }
-            Call::Remove(id) => remove(self.alloc, &mut self.keeper, self.stage, *id),
-            Call::Ask(asked) => ask(self.alloc, &mut self.keeper, self.stage, *asked),
-            _ => Ok(String::new(self.alloc)),
+            Call::Remove(id) => remove(&mut self.keeper, self.stage, *id, said),
+            Call::Ask(question) => ask(&mut self.keeper, self.stage, *question, said),
+            _ => {}
         }
     }
 }
 
-/// A call that asks for rows.
-fn ask<K: Keeper>(alloc: Global, keeper: &mut K, stage: Stage, ask: Ask) -> Result<String, Memory>
+/// Shapes the keeper by the table.
+fn shape_stock<K: Keeper>(keeper: &mut K, stage: &mut Stage, said: &mut Said)
+    requires { IsInStep stage.old.is_shaped stage.old.is_begun (K.shaped keeper.old)
+        (K.in_transaction keeper.old) }
+    ensures { IsInStep stage.new.is_shaped stage.new.is_begun (K.shaped keeper.new)
+        (K.in_transaction keeper.new) }
+{
+    match stock(said.alloc) {
+        Ok(schema) => shape(keeper, stage, &schema, true, said),
+        Err(_) => said.miss(),
+    }
+}
+
+/// Tries to shape the keeper by another table.
+fn shape_other<K: Keeper>(keeper: &mut K, stage: &mut Stage, said: &mut Said)
+    requires { IsInStep stage.old.is_shaped stage.old.is_begun (K.shaped keeper.old)
+        (K.in_transaction keeper.old) }
+    ensures { IsInStep stage.new.is_shaped stage.new.is_begun (K.shaped keeper.new)
+        (K.in_transaction keeper.new) }
+{
+    match names_alone(said.alloc) {
+        Ok(schema) => shape(keeper, stage, &schema, false, said),
+        Err(_) => said.miss(),
+    }
+}
+
+/// Puts a new row of a name and a quantity, or puts it over that of a number.
+fn put_cells<K: Keeper>(
+    keeper: &mut K,
+    stage: Stage,
+    id: Option<u32>,
+    name: &str,
+    quantity: Option<Num>,
+    said: &mut Said,
+)
+    requires { IsInStep stage.is_shaped stage.is_begun (K.shaped keeper.old)
+        (K.in_transaction keeper.old) }
+    ensures { IsInStep stage.is_shaped stage.is_begun (K.shaped keeper.new)
+        (K.in_transaction keeper.new) }
+{
+    match cells(said.alloc, name, quantity) {
+        Ok(cells) => put(keeper, stage, id, &cells, said),
+        Err(_) => said.miss(),
+    }
+}
+
+/// Asks for rows.
+fn ask<K: Keeper>(keeper: &mut K, stage: Stage, ask: Ask, said: &mut Said)
     requires { IsInStep stage.is_shaped stage.is_begun (K.shaped keeper.old)
         (K.in_transaction keeper.old) }
     ensures { IsInStep stage.is_shaped stage.is_begun (K.shaped keeper.new)
         (K.in_transaction keeper.new) }
 {
     match ask.of {
-        Asked::Rows => rows(alloc, keeper, stage, ask.least, ask.most),
-        Asked::Page => pages(alloc, keeper, stage, ask.least, ask.most, false),
-        Asked::Blanks => pages(alloc, keeper, stage, ask.least, ask.most, true),
-        Asked::Count => count(alloc, keeper, stage, ask.least, ask.most),
-        Asked::Total => total(alloc, keeper, stage, ask.least, ask.most),
+        Asked::Page => ask_page(keeper, stage, ask, false, said),
+        Asked::Blanks => ask_page(keeper, stage, ask, true, said),
+        Asked::Rows | Asked::Count | Asked::Total => ask_quantities(keeper, stage, ask, said),
+    }
+}
+
+/// Asks for a page of rows by their numbers, or for those of it that have no quantity.
+fn ask_page<K: Keeper>(keeper: &mut K, stage: Stage, ask: Ask, is_blank: bool, said: &mut Said)
+    requires { IsInStep stage.is_shaped stage.is_begun (K.shaped keeper.old)
+        (K.in_transaction keeper.old) }
+    ensures { IsInStep stage.is_shaped stage.is_begun (K.shaped keeper.new)
+        (K.in_transaction keeper.new) }
+{
+    match page(said.alloc, ask.least, ask.most, is_blank) {
+        Ok(query) => scan(keeper, stage, &query, said),
+        Err(_) => said.miss(),
+    }
+}
+
+/// Asks for the rows of at least a quantity, how many they are, or what they come to.
+fn ask_quantities<K: Keeper>(keeper: &mut K, stage: Stage, ask: Ask, said: &mut Said)
+    requires { IsInStep stage.is_shaped stage.is_begun (K.shaped keeper.old)
+        (K.in_transaction keeper.old) }
+    ensures { IsInStep stage.is_shaped stage.is_begun (K.shaped keeper.new)
+        (K.in_transaction keeper.new) }
+{
+    match from(said.alloc, ask.least, ask.most) {
+        Ok(query) => match ask.of {
+            Asked::Count => count(keeper, stage, &query, said),
+            Asked::Total => total(keeper, stage, &query, said),
+            _ => scan(keeper, stage, &query, said),
+        },
+        Err(_) => said.miss(),
     }
 }

@@ -1,9 +1,8 @@
 // The file of a database, as others than a keeper see it.
 
-use fx_base::Memory;
+use crate::said::Said;
 use sqlite::types::ValueRef;
 use sqlite::{Alter, Connection, Error, Row};
-use std::alloc::Global;
 use std::rt::HostRuntime;
 
 /// Takes the file of a database away, if it is there, and the log beside it.
@@ -14,70 +13,57 @@ pub fn forget(rt: &HostRuntime, name: &str) {
     }
 }
 
-/// Runs a statement over the database of a file, and says which rows it gives, or else that it is
+/// Runs a statement over the database of a file, and adds which rows it gives, or else that it is
 /// done or refused.
-pub fn run(rt: &HostRuntime, name: &str, text: &str) -> Result<String, Memory> {
-    let alloc = rt.alloc();
+pub fn run(rt: &HostRuntime, name: &str, text: &str, said: &mut Said) {
     match Connection::open(rt, name) {
-        Ok(mut conn) => run_over(alloc, &mut conn, text),
-        Err(error) => say_error(alloc, error),
+        Ok(mut conn) => run_over(&mut conn, text, said),
+        Err(error) => put_error(said, error),
     }
 }
 
-fn run_over<S: Alter>(
-    alloc: Global,
-    conn: &mut Connection<S>,
-    text: &str,
-) -> Result<String, Memory> {
+fn run_over<S: Alter>(conn: &mut Connection<S>, text: &str, said: &mut Said) {
     if !text.starts_with("SELECT") {
         return match conn.execute(text, &[]) {
-            Ok(_) => Ok(String::from_str(alloc, "done")?),
-            Err(error) => say_error(alloc, error),
+            Ok(_) => said.put("done"),
+            Err(error) => put_error(said, error),
         };
     }
     match conn.query_all(text, &[]) {
-        Ok(rows) => list_rows(alloc, &rows),
-        Err(error) => say_error(alloc, error),
+        Ok(rows) => put_rows(said, &rows),
+        Err(error) => put_error(said, error),
     }
 }
 
-fn say_error(alloc: Global, error: Error) -> Result<String, Memory> {
-    Ok(format!(in alloc; "{error}")?)
+fn put_error(said: &mut Said, error: Error) {
+    said.put_made(format!(in said.alloc; "{error}"));
 }
 
-/// Rows in a line.
-fn list_rows(alloc: Global, rows: &[Row]) -> Result<String, Memory> {
-    let mut line = format!(in alloc; "{} rows", rows.len())?;
+/// Adds rows in a line.
+fn put_rows(said: &mut Said, rows: &[Row]) {
+    said.put_made(format!(in said.alloc; "{} rows", rows.len()));
     for row in rows {
-        line.push(';')?;
-        push_row(alloc, &mut line, row)?;
+        said.put(";");
+        put_row(said, row);
     }
-    Ok(line)
 }
 
 /// Adds the values of a row.
-fn push_row(alloc: Global, line: &mut String, row: &Row) -> Result<(), Memory> {
+fn put_row(said: &mut Said, row: &Row) {
     for at in 0..row.column_count() {
-        line.push(' ')?;
         match row.get_ref(at) {
-            Ok(ValueRef::Int(number)) => {
-                let digits = format!(in alloc; "{number}")?;
-                line.push_str(&digits)?;
-            }
-            Ok(ValueRef::Blob(bytes)) => push_bytes(alloc, line, bytes)?,
-            _ => line.push('?')?,
+            Ok(ValueRef::Int(number)) => said.put_made(format!(in said.alloc; " {number}")),
+            Ok(ValueRef::Blob(bytes)) => put_bytes(said, bytes),
+            _ => said.put(" ?"),
         }
     }
-    Ok(())
 }
 
 /// Adds bytes, as SQL writes them.
-fn push_bytes(alloc: Global, line: &mut String, bytes: &[u8]) -> Result<(), Memory> {
-    line.push_str("x'")?;
+fn put_bytes(said: &mut Said, bytes: &[u8]) {
+    said.put(" x'");
     for byte in bytes {
-        let digits = format!(in alloc; "{byte:02x}")?;
-        line.push_str(&digits)?;
+        said.put_made(format!(in said.alloc; "{byte:02x}"));
     }
-    line.push('\'')?;
-    Ok(())
+    said.put("'");
 }

@@ -8,8 +8,7 @@ ghost use Rattle.test_keeper.specs.Stock.{IsInStep};
 use crate::calls::{Call, numbers};
 use crate::cases::Case;
 use crate::file::{forget, run};
-use crate::plain::PlainKeeper;
-use crate::stage::{end, say_done};
+use crate::said::Said;
 use fx_base::Memory;
 use fx_base::plan::FaultPlan;
 use row_keeper::{Keeper, MemoryKeeper};
@@ -20,11 +19,10 @@ use std::rt::HostRuntime;
 /// The file of a database.
 const FILE: &str = "stock.db";
 
-/// A keeper in memory, a plain one, and two over SQLite, in memory and in a file.
+/// A keeper in memory, and two over SQLite, in memory and in a file.
 pub struct Played {
     rt: HostRuntime,
     pub memory: Case<MemoryKeeper>,
-    plain: PlainKeeper,
     pub sql: Case<SqlKeeper>,
     pub file: Case<SqlKeeper>,
     /// Whether SQLite isn't asked: its calls can't be planned to fail, and it passes over no
@@ -39,7 +37,6 @@ impl Drop for Played {
         let Played {
             rt: _,
             memory: _,
-            plain: _,
             sql: _,
             file: _,
             is_alone: _,
@@ -52,7 +49,7 @@ fn in_memory(alloc: Global, fails: Vec<u64>) -> Case<MemoryKeeper>
     ensures { IsInStep result.stage.is_shaped result.stage.is_begun (shape_of result.keeper.store)
         result.keeper.store.is_begun }
 {
-    Case::new(alloc, MemoryKeeper::new(alloc, FaultPlan::new(fails)))
+    Case::new(MemoryKeeper::new(alloc, FaultPlan::new(fails)))
 }
 
 /// A keeper over the database of a name. Where it can't be opened, each call of the keeper fails.
@@ -62,12 +59,12 @@ fn over_sql(rt: HostRuntime, name: &str) -> Case<SqlKeeper>
 {
     let mut keeper = SqlKeeper::new(rt);
     let _attached = keeper.attach(name);
-    Case::new(rt.alloc(), keeper)
+    Case::new(keeper)
 }
 
 /// What one more keeper answers that is attached to a name.
-fn attach(rt: HostRuntime, name: &str) -> Result<String, Memory> {
-    say_done(rt.alloc(), SqlKeeper::new(rt).attach(name))
+fn attach(rt: HostRuntime, name: &str, said: &mut Said) {
+    said.put_done(SqlKeeper::new(rt).attach(name));
 }
 
 impl Played {
@@ -82,80 +79,79 @@ impl Played {
             rt,
             is_alone: !planned.is_empty(),
             memory: in_memory(alloc, planned),
-            plain: PlainKeeper::new(alloc, numbers(alloc, fails)?),
             sql: over_sql(rt, ":memory:"),
             file: over_sql(rt, FILE),
         })
     }
 
-    /// Makes the call of a line, and says what it answers.
-    pub fn obey(&mut self, line: &str) -> Result<String, Memory>
+    /// Makes the call of a line, and adds what it answers.
+    pub fn obey(&mut self, line: &str, said: &mut Said)
         requires { AreInStep self.old }
         ensures { AreInStep self.new }
     {
         let call = Call::of(line);
         match call {
-            Call::New(fails) => {
-                *self = Played::new(self.rt, fails)?;
-                Ok(String::new(self.rt.alloc()))
-            }
-            Call::Skip(number) => self.skip(number),
-            Call::Seen => self.see(),
-            Call::Reopen => {
-                self.reopen();
-                Ok(String::new(self.rt.alloc()))
-            }
-            Call::Sql(text) => self.run(text),
-            Call::Attach(name) => attach(self.rt, name),
-            _ => self.compare(&call),
+            Call::New(fails) => self.renew(fails, said),
+            Call::Skip(number) => self.skip(number, said),
+            Call::Seen => self.see(said),
+            Call::Reopen => self.reopen(),
+            Call::Sql(text) => self.run(text, said),
+            Call::Attach(name) => attach(self.rt, name, said),
+            _ => self.compare(&call, said),
         }
     }
 
-    /// What a call answers in memory, and below it what it answers over another keeper where that
-    /// differs.
-    fn compare(&mut self, call: &Call) -> Result<String, Memory>
+    /// Takes new keepers, and a new file.
+    fn renew(&mut self, fails: &str, said: &mut Said)
         requires { AreInStep self.old }
         ensures { AreInStep self.new }
     {
-        let answer = self.memory.make(call)?;
-        let mut text = answer.clone()?;
-        let plainly = self.plain.make(call)?;
-        add_other(&mut text, &answer, "plainly", &plainly)?;
-        if self.is_alone {
-            return Ok(text);
+        match Played::new(self.rt, fails) {
+            Ok(played) => *self = played,
+            Err(Memory) => said.miss(),
         }
-        let sql = self.sql.make(call)?;
-        add_other(&mut text, &answer, "over SQLite", &sql)?;
-        let file = self.file.make(call)?;
-        add_other(&mut text, &answer, "over a file", &file)?;
-        Ok(text)
+    }
+
+    /// Adds what a call answers in memory, and below it what it answers over another keeper where
+    /// that differs.
+    fn compare(&mut self, call: &Call, said: &mut Said)
+        requires { AreInStep self.old }
+        ensures { AreInStep self.new }
+    {
+        let mut answer = Said::new(said.alloc);
+        self.memory.make(call, &mut answer);
+        said.put_all(&answer);
+        if !self.is_alone {
+            compare_sql("over SQLite", &mut self.sql, call, &answer, said);
+            compare_sql("over a file", &mut self.file, call, &answer, said);
+        }
     }
 
     /// Passes over the numbers up to this one, but for SQLite.
-    fn skip(&mut self, number: u32) -> Result<String, Memory>
+    fn skip(&mut self, number: u32, said: &mut Said)
         requires { AreInStep self.old }
         ensures { AreInStep self.new }
     {
-        let alloc = self.rt.alloc();
         if !self.memory.stage.is_begun {
-            return Ok(String::from_str(alloc, "not now")?);
+            return said.put("not now");
         }
         self.is_alone = true;
         self.memory.keeper.skip_to(number);
-        self.plain.skip_to(number);
-        say_done(alloc, Ok(()))
+        said.put("done");
     }
 
-    /// How many rows have been visited in memory, how many calls have failed there, and how many
-    /// over SQLite.
-    fn see(&self) -> Result<String, Memory> {
+    /// Adds how many rows have been visited in memory, how many calls have failed there, and how
+    /// many over SQLite.
+    fn see(&self, said: &mut Said) {
         let (visited, faults) = (self.memory.keeper.visits(), self.memory.keeper.faults());
         let others = self
             .sql
             .keeper
             .faults()
             .saturating_add(self.file.keeper.faults());
-        Ok(format!(in self.rt.alloc(); "{visited} visited, {faults} failed, {others} over SQLite")?)
+        said.put_made(format!(in said.alloc;
+            "{visited} visited, {faults} failed, {others} over SQLite"
+        ));
     }
 
     /// Closes the file, so that it can be opened anew.
@@ -174,25 +170,31 @@ impl Played {
         self.file = over_sql(self.rt, FILE);
     }
 
-    /// Runs a statement over the file, and says what it gives.
-    fn run(&mut self, text: &str) -> Result<String, Memory>
+    /// Runs a statement over the file, and adds what it gives.
+    fn run(&mut self, text: &str, said: &mut Said)
         requires { AreInStep self.old }
         ensures { AreInStep self.new }
     {
         self.close();
-        let ran = run(&self.rt, FILE, text);
+        run(&self.rt, FILE, text, said);
         self.file = over_sql(self.rt, FILE);
-        ran
     }
 }
 
-/// Adds what another keeper answers, where it differs from this answer.
-fn add_other(text: &mut String, answer: &str, name: &str, other: &str) -> Result<(), Memory> {
-    if answer != other {
-        text.push_str("\n  ")?;
-        text.push_str(name)?;
-        text.push_str(": ")?;
-        text.push_str(other)?;
-    }
-    Ok(())
+/// Makes a call over a keeper over SQLite, and adds what it answers where that differs.
+fn compare_sql(
+    name: &str,
+    keeper: &mut Case<SqlKeeper>,
+    call: &Call,
+    answer: &Said,
+    said: &mut Said,
+)
+    requires { IsInStep keeper.old.stage.is_shaped keeper.old.stage.is_begun
+        (sql_shape keeper.old.keeper) keeper.old.keeper.is_begun }
+    ensures { IsInStep keeper.new.stage.is_shaped keeper.new.stage.is_begun
+        (sql_shape keeper.new.keeper) keeper.new.keeper.is_begun }
+{
+    let mut other = Said::new(said.alloc);
+    keeper.make(call, &mut other);
+    said.put_differing(name, answer, &other);
 }
