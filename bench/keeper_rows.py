@@ -9,22 +9,49 @@ status is 1 where an answer differs.
 """
 import os
 import sys
+from collections import namedtuple
 from decimal import Decimal
 
 TOP = os.path.dirname(os.path.dirname(os.path.abspath(__file__)))
 MOST_WEIGHT = 2048  # of the cells of a row: each weighs 16, and a text its bytes besides
 LAST_NUMBER = 2**32 - 1
 UNPLAYED = {"new", "sql", "reopen", "attach", "seen"}
+Column = namedtuple("Column", "name required unique")
+STOCK = ["Stock", "Name:key", "Qty"]
 
 
 def number(word):
     return Decimal(word) if word not in ("", "-") else None
 
 
+def column(word):
+    """Returns the column of a word: its name, and behind a colon which rules it has."""
+    name, _, rules = word.partition(":")
+    return Column(name, rules in ("required", "key"), rules in ("unique", "key"))
+
+
+def schema(words):
+    """Returns a table's name and columns."""
+    return words[0], [column(it) for it in words[1:]]
+
+
 def show(rows):
     """Writes rows as the program does, each with its number, its name and its quantity."""
-    cells = [f'; {at} "{name}" {"Blank()" if quantity is None else quantity}' for at, name, quantity in rows]
+    names = [(at, "Blank()" if name is None else f'"{name}"', quantity) for at, name, quantity in rows]
+    cells = [f'; {at} {name} {"Blank()" if quantity is None else quantity}' for at, name, quantity in names]
     return f"{len(rows)} rows" + "".join(cells)
+
+
+def broken_rule(columns, rows, at, cells):
+    """Returns the first rule of a column that the cells of a row break beside the other rows, if any."""
+    for place, column in enumerate(columns):
+        if column.required and cells[place] in (None, ""):
+            return f"refused: required of column {place + 1}"
+    for place, column in enumerate(columns):
+        others = [row[place + 1] for row in rows if row[0] != at]
+        if column.unique and cells[place] is not None and cells[place] in others:
+            return f"refused: unique of column {place + 1}"
+    return "refused: size" if 32 + len((cells[0] or "").encode()) > MOST_WEIGHT else None
 
 
 class Keeper:
@@ -33,21 +60,24 @@ class Keeper:
     def __init__(self, fails):
         self.fails, self.calls = fails, 0
         self.is_shaped = False
+        self.kept = None  # the name of the table that is kept and its columns
         self.rows, self.last = [], 0
-        self.then = None  # the rows and the last number as a transaction began, where one is begun
+        self.then = None  # the table, the rows and the last number as a transaction began, where one is begun
 
     def next_fails(self):
         self.calls += 1
         return self.calls in self.fails
 
-    def shape(self, is_stock):
+    def shape(self, wanted):
         if self.then is not None:
             return "not now"
         if self.next_fails():
+            self.is_shaped = False
             return "failed"
-        if not is_stock and self.is_shaped:
-            return "another is kept: Stock.Name.Qty"
-        self.is_shaped = is_stock
+        if self.kept not in (None, wanted):
+            return "another is kept: " + ".".join([self.kept[0], *(it.name for it in self.kept[1])])
+        self.kept = wanted
+        self.is_shaped = len(wanted[1]) == 2
         return "kept"
 
     def begin(self):
@@ -55,11 +85,11 @@ class Keeper:
             return "not now"
         if self.next_fails():
             return "failed"
-        self.then = list(self.rows), self.last
+        self.then = self.kept, list(self.rows), self.last
         return "done"
 
     def commit(self):
-        if self.then is None:
+        if not self.is_shaped or self.then is None:
             return "not now"
         if self.next_fails():
             self.back()
@@ -70,7 +100,7 @@ class Keeper:
     def back(self):
         if self.then is None:
             return "not now"
-        (self.rows, self.last), self.then = self.then, None
+        (self.kept, self.rows, self.last), self.then = self.then, None
         return "done"
 
     def skip(self, upto):
@@ -89,12 +119,8 @@ class Keeper:
         """Puts a new row, or other cells into the row of a number."""
         if at is not None and all(row[0] != at for row in self.rows):
             return "no row"
-        if name == "":
-            return "refused: required of column 1"
-        if any(row[0] != at and row[1] == name for row in self.rows):
-            return "refused: unique of column 1"
-        if 32 + len(name.encode()) > MOST_WEIGHT:
-            return "refused: size"
+        if broken := broken_rule(self.kept[1], self.rows, at, (name, quantity)):
+            return broken
         if at is None:
             if self.last == LAST_NUMBER:
                 return "refused: full"
@@ -106,6 +132,20 @@ class Keeper:
         before = len(self.rows)
         self.rows = [row for row in self.rows if row[0] != at]
         return "removed" if len(self.rows) < before else "no row"
+
+    def reshape(self, wanted, sources):
+        """Moves the table to another, of which each column comes from one of the old table, or from none."""
+        if not self.is_shaped or self.then is None:
+            return "not now"
+        if self.next_fails():
+            self.back()
+            return "failed"
+        moved = [(at, name if sources[0] == "1" else None, quantity if sources[1] == "2" else None) for at, name, quantity in self.rows if sources]
+        for at, *cells in moved:
+            if broken := broken_rule(wanted[1], moved, at, cells):
+                return f"table 0 {broken}"
+        self.kept, self.rows, self.last = wanted, moved, self.last if sources else 0
+        return "moved"
 
     def ask(self, what, least, most):
         if not self.is_shaped:
@@ -129,10 +169,15 @@ class Keeper:
     def obey(self, line):
         """Returns what the call of a line answers."""
         call, *words = line.split(" ")
+        match call:
+            case "shape":
+                return self.shape(schema(words or STOCK))
+            case "other":
+                return self.shape(schema(STOCK[:2]))
+            case "reshape":
+                return self.reshape(schema(words[:3]), words[3:])
         words += [""] * (3 - len(words))
         match call:
-            case "shape" | "other":
-                return self.shape(call == "shape")
             case "begin" | "commit" | "back":
                 return getattr(self, call)()
             case "skip":

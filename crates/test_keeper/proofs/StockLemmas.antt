@@ -1,8 +1,9 @@
 -- Queries of the table that the cases are about.
-use Rattle.std.proofs.Common.{◌≡◌, ◌⊎◌, inl, ℕ, ◌≤◌, List, [], ◌∷◌, length, refl, sym, ap, subst, arith, Bool, true, false, cond, Option, None, Some}
+use Rattle.std.proofs.Common.{◌≡◌, ◌≢◌, ◌⊎◌, inl, ℕ, ◌≤◌, List, [], ◌∷◌, length, refl, sym, ap, ◌∙◌, subst, arith, Bool, true, false, cond, Option, None, Some}
 use Rattle.std.specs.Prelude.{IsSomeAnd, slice_get}
 use Rattle.fx_types.specs.TypeView.{shape}
 use Rattle.fx_types.specs.Types.{numbers}
+use Rattle.fx_core.specs.Lawful.{AreDistinct}
 use Rattle.fx_core.specs.declared.schema.Column.{Column}
 use Rattle.fx_core.specs.declared.schema.Schema.{Schema}
 use Rattle.fx_core.specs.declared.schema.TableShape.{TableShape}
@@ -15,8 +16,10 @@ use Rattle.row_queries.specs.declared.rows.Row.{Row}
 use Rattle.row_queries.specs.Queries.{CanTotal, IsQuery}
 use Rattle.row_queries.specs.declared.queries.Query.{Query}
 use Rattle.row_queries.specs.declared.ranges.KeyRange.{KeyRange}
+use Rattle.row_keeper.specs.MovedTables.{AreMoves, AreSources, IsMove, named}
 use Rattle.row_keeper.specs.Tables.{shapes_of}
-use Rattle.test_keeper.specs.Stock.{AreStockColumns, AreStockTables, IsStock}
+use Rattle.row_keeper.specs.declared.moves.TableMove.{TableMove}
+use Rattle.test_keeper.specs.Stock.{AreStockColumns, AreStockTables, IsStock, source_of, stock_moves}
 
 -- all rows in a range of quantities, the greatest quantity first
 abbrev pub query_from : List KeyRange → Option ℕ → Query
@@ -98,3 +101,55 @@ total_of (t ∷ []) h ranges most = by t.columns h
 pub can_total : (o : Option Schema) → IsStock o → (ranges : List KeyRange) (most : Option ℕ) → CanTotal (shapes_of o) (query_from ranges most) 2
 can_total None h ranges most = absurd h
 can_total (Some s) h ranges most = total_of s.tables h ranges most
+
+-- its columns come from columns of their types
+sources : (olds news : List Column) → AreStockColumns olds → AreStockColumns news → (n q : Bool) → AreSources olds news (source_of true n 1 ∷ source_of true q 2 ∷ [])
+sources [] news h k n q = absurd h
+sources (a ∷ []) news h k n q = absurd h
+sources (a ∷ b ∷ x ∷ xs) news h k n q = absurd h
+sources (a ∷ b ∷ []) [] h k n q = absurd k
+sources (a ∷ b ∷ []) (c ∷ []) h k n q = absurd k
+sources (a ∷ b ∷ []) (c ∷ d ∷ y ∷ ys) h k n q = absurd k
+sources (a ∷ b ∷ []) (c ∷ d ∷ []) h k true true = (h.0 ∙ sym k.0, (h.1 ∙ sym k.1, tt))
+sources (a ∷ b ∷ []) (c ∷ d ∷ []) h k true false = (h.0 ∙ sym k.0, (tt, tt))
+sources (a ∷ b ∷ []) (c ∷ d ∷ []) h k false true = (tt, (h.1 ∙ sym k.1, tt))
+sources (a ∷ b ∷ []) (c ∷ d ∷ []) h k false false = (tt, (tt, tt))
+
+no_sources : (news : List Column) → AreStockColumns news → (n q : Bool) → AreSources [] news (source_of false n 1 ∷ source_of false q 2 ∷ [])
+no_sources [] k n q = absurd k
+no_sources (c ∷ []) k n q = absurd k
+no_sources (c ∷ d ∷ y ∷ ys) k n q = absurd k
+no_sources (c ∷ d ∷ []) k n q = (tt, (tt, tt))
+
+one_and_two : ◌≢◌ {A = ℕ} 1 2
+one_and_two = grind arith
+
+-- none of which is named twice
+apart : (r n q : Bool) → AreDistinct (named (source_of r n 1 ∷ source_of r q 2 ∷ []))
+apart true true true = ((one_and_two, tt), (tt, tt))
+apart true true false = (tt, tt)
+apart true false true = (tt, tt)
+apart true false false = tt
+apart false n q = tt
+
+move_of : (t u : TableShape) → AreStockColumns t.columns → AreStockColumns u.columns → (r n q : Bool)
+    → IsMove (t.columns ∷ []) u (record { from = source_of r true 0; columns = source_of r n 1 ∷ source_of r q 2 ∷ [] })
+move_of t u h k true n q = record { from = refl; sources = sources t.columns u.columns h k n q; apart = apart true n q }
+move_of t u h k false n q = record { from = tt; sources = no_sources u.columns k n q; apart = apart false n q }
+
+one_apart : (r : Bool) → AreDistinct (named (source_of r true 0 ∷ []))
+one_apart true = (tt, tt)
+one_apart false = tt
+
+moves_of : (olds news : List TableShape) → AreStockTables olds → AreStockTables news → (r n q : Bool) → AreMoves olds news (stock_moves r n q)
+moves_of [] news h k r n q = absurd h
+moves_of (t ∷ x ∷ xs) news h k r n q = absurd h
+moves_of (t ∷ []) [] h k r n q = absurd k
+moves_of (t ∷ []) (u ∷ y ∷ ys) h k r n q = absurd k
+moves_of (t ∷ []) (u ∷ []) h k r n q = record { each = (move_of t u h k r n q, tt); apart = one_apart r }
+
+-- so the table may move to another like it, by moves that are these
+pub are_moves : (o : Option Schema) → IsStock o → (new : Schema) → IsStock (Some new) → (r n q : Bool) (moves : List TableMove) → moves ≡ stock_moves r n q
+    → AreMoves (shapes_of o) new.tables moves
+are_moves None h new k r n q moves e = absurd h
+are_moves (Some s) h new k r n q moves e = subst (λ (l : List TableMove). AreMoves s.tables new.tables l) (sym e) (moves_of s.tables new.tables h k r n q)

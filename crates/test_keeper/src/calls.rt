@@ -9,8 +9,9 @@ use std::alloc::Global;
 pub enum Call<'l> {
     /// New keepers are taken; in memory the calls of the numbers in the text fail.
     New(&'l str),
-    Shape,
-    /// Another table is to be kept.
+    /// The table of a text, or the one of most cases, is to be kept.
+    Shape(&'l str),
+    /// One of other columns is to be kept.
     Other,
     Begin,
     Commit,
@@ -20,6 +21,8 @@ pub enum Call<'l> {
     /// A row of a name and a quantity is put, anew or over that of a number.
     Put(Option<u32>, &'l str, Option<Num>),
     Remove(u32),
+    /// The table moves to that of a text.
+    Reshape(&'l str, Sources),
     Ask(Ask),
     /// How many rows were visited.
     Seen,
@@ -30,6 +33,30 @@ pub enum Call<'l> {
     /// One more keeper is attached to the file of a name.
     Attach(&'l str),
     Nothing,
+}
+
+/// A table of a text and an indexed number: its name, and those of its columns. Behind the name of
+/// a column and a `:` stands which rules it has: `required`, `unique`, or `key` for both.
+#[derive(Clone, Copy)]
+pub struct Form<'l> {
+    pub table: &'l str,
+    pub name: &'l str,
+    pub quantity: &'l str,
+}
+
+/// The table of most cases.
+const STOCK: Form = Form {
+    table: "Stock",
+    name: "Name:key",
+    quantity: "Qty",
+};
+
+/// What a table that has moved has of the old one: its rows, and in them names and quantities.
+#[derive(Clone, Copy)]
+pub struct Sources {
+    pub rows: bool,
+    pub names: bool,
+    pub quantities: bool,
 }
 
 /// What is asked, of the rows of at least a quantity or, for a page, a number; at most so many.
@@ -57,7 +84,7 @@ impl<'l> Call<'l> {
         let (call, rest) = line.split_once(' ').unwrap_or((line, ""));
         match call {
             "new" => Call::New(rest),
-            "shape" => Call::Shape,
+            "shape" => Call::Shape(rest),
             "other" => Call::Other,
             "begin" => Call::Begin,
             "commit" => Call::Commit,
@@ -66,6 +93,7 @@ impl<'l> Call<'l> {
             "insert" => insert(rest),
             "replace" => replace(rest),
             "remove" => Call::Remove(number(rest)),
+            "reshape" => reshape(rest),
             "rows" => Call::Ask(question(Asked::Rows, rest)),
             "count" => Call::Ask(question(Asked::Count, rest)),
             "total" => Call::Ask(question(Asked::Total, rest)),
@@ -89,6 +117,33 @@ fn replace(rest: &str) -> Call {
     let (first, rest) = rest.split_once(' ').unwrap_or((rest, ""));
     let (second, third) = rest.split_once(' ').unwrap_or((rest, ""));
     Call::Put(Some(number(first)), name(second), read(third))
+}
+
+/// The table that a text names, or the one of most cases.
+pub fn form_of(text: &str) -> Form {
+    if text.is_empty() {
+        return STOCK;
+    }
+    let mut words = text.split(' ');
+    Form {
+        table: words.next().unwrap_or(""),
+        name: words.next().unwrap_or(""),
+        quantity: words.next().unwrap_or(""),
+    }
+}
+
+/// Behind the table stand the columns that its columns come from, if any rows do: 1 or `-`, and 2
+/// or `-`.
+fn reshape(rest: &str) -> Call {
+    let mut words = rest.split(' ').skip(3);
+    let names = words.next();
+    let quantities = words.next();
+    let sources = Sources {
+        rows: names.is_some(),
+        names: names.unwrap_or("") == "1",
+        quantities: quantities.unwrap_or("") == "2",
+    };
+    Call::Reshape(rest, sources)
 }
 
 fn question(of: Asked, rest: &str) -> Ask {

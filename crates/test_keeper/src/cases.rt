@@ -2,10 +2,10 @@
 ghost use Rattle.std.specs.Prelude.{◌≡◌, false};
 ghost use Rattle.test_keeper.specs.Stock.{IsInStep};
 
-use crate::calls::{Ask, Asked, Call};
+use crate::calls::{Ask, Asked, Call, Sources, form_of};
 use crate::said::Said;
-use crate::stage::{Stage, back, begin, commit, count, put, remove, scan, shape, total};
-use crate::stock::{cells, from, names_alone, page, stock};
+use crate::stage::{Stage, back, begin, commit, count, put, remove, reshape, scan, shape, total};
+use crate::stock::{cells, from, moves, names_alone, page, stock};
 use fx_number::Num;
 use row_keeper::Keeper;
 
@@ -40,7 +40,7 @@ impl<K: Keeper> Case<K> {
             (K.shaped self.new.keeper) (K.in_transaction self.new.keeper) }
     {
         match call {
-            Call::Shape => shape_stock(&mut self.keeper, &mut self.stage, said),
+            Call::Shape(text) => shape_stock(&mut self.keeper, &mut self.stage, text, said),
             Call::Other => shape_other(&mut self.keeper, &mut self.stage, said),
             Call::Begin => begin(&mut self.keeper, &mut self.stage, said),
             Call::Commit => commit(&mut self.keeper, &mut self.stage, said),
@@ -49,20 +49,23 @@ impl<K: Keeper> Case<K> {
                 put_cells(&mut self.keeper, self.stage, *id, name, *quantity, said);
             }
             Call::Remove(id) => remove(&mut self.keeper, self.stage, *id, said),
+            Call::Reshape(text, sources) => {
+                move_stock(&mut self.keeper, &mut self.stage, text, *sources, said);
+            }
             Call::Ask(question) => ask(&mut self.keeper, self.stage, *question, said),
             _ => {}
         }
     }
 }
 
-/// Shapes the keeper by the table.
-fn shape_stock<K: Keeper>(keeper: &mut K, stage: &mut Stage, said: &mut Said)
+/// Shapes the keeper by a table like that of the cases.
+fn shape_stock<K: Keeper>(keeper: &mut K, stage: &mut Stage, text: &str, said: &mut Said)
     requires { IsInStep stage.old.is_shaped stage.old.is_begun (K.shaped keeper.old)
         (K.in_transaction keeper.old) }
     ensures { IsInStep stage.new.is_shaped stage.new.is_begun (K.shaped keeper.new)
         (K.in_transaction keeper.new) }
 {
-    match stock(said.alloc) {
+    match stock(said.alloc, form_of(text)) {
         Ok(schema) => shape(keeper, stage, &schema, true, said),
         Err(_) => said.miss(),
     }
@@ -78,6 +81,26 @@ fn shape_other<K: Keeper>(keeper: &mut K, stage: &mut Stage, said: &mut Said)
     match names_alone(said.alloc) {
         Ok(schema) => shape(keeper, stage, &schema, false, said),
         Err(_) => said.miss(),
+    }
+}
+
+/// Moves the table to another like it.
+#[tactic(auto, using(crate::proofs::StockLemmas::are_moves))]
+fn move_stock<K: Keeper>(
+    keeper: &mut K,
+    stage: &mut Stage,
+    text: &str,
+    sources: Sources,
+    said: &mut Said,
+)
+    requires { IsInStep stage.old.is_shaped stage.old.is_begun (K.shaped keeper.old)
+        (K.in_transaction keeper.old) }
+    ensures { IsInStep stage.new.is_shaped stage.new.is_begun (K.shaped keeper.new)
+        (K.in_transaction keeper.new) }
+{
+    match (stock(said.alloc, form_of(text)), moves(said.alloc, sources)) {
+        (Ok(schema), Ok(moves)) => reshape(keeper, stage, &schema, &moves, said),
+        _ => said.miss(),
     }
 }
 

@@ -4,7 +4,8 @@
 //! line below. `new` begins with new keepers and a new file; where numbers stand behind it, the
 //! calls of these numbers fail in memory, and SQLite isn't asked; nor is it behind `skip`. `reopen`
 //! opens the file again, `sql` runs a statement over it before, and `attach` attaches one more
-//! keeper to a file. A line of `#` is written as it is. Quantities may be `-`, for none.
+//! keeper to a file. Behind `shape` may stand another table, as behind `reshape`, which moves the
+//! table to it. A line of `#` is written as it is. Quantities may be `-`, for none.
 //!
 //! `bench/keeper_rows.py` plays the same calls over lists.
 #![tactic(auto)]

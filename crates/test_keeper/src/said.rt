@@ -94,6 +94,12 @@ impl Said {
         }
     }
 
+    /// Adds which of the tables that were to move has a row that breaks a rule, and which rule.
+    pub fn put_broken(&mut self, table: u16, refusal: RowRefusal) {
+        self.put_made(format!(in self.alloc; "table {table} "));
+        self.put_refusal(refusal);
+    }
+
     /// Adds whether a row was there to be taken out.
     pub fn put_removed(&mut self, was: Result<bool, KeeperEnd>) {
         match was {

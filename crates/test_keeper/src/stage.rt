@@ -4,13 +4,14 @@ ghost use Rattle.fx_core.specs.declared.schema.Schema.{Schema as SchemaValue};
 ghost use Rattle.row_queries.specs.Queries.{CanTotal, IsQuery};
 ghost use Rattle.row_queries.specs.RowTests.{HasNoFaults};
 ghost use Rattle.row_queries.specs.TableRows.{AreCellsOf};
+ghost use Rattle.row_keeper.specs.MovedTables.{AreMoves};
 ghost use Rattle.row_keeper.specs.Tables.{shapes_of};
 ghost use Rattle.test_keeper.specs.Stock.{IsInStep, IsStock};
 
 use crate::said::Said;
 use app_names::is_lawful_schema;
 use fx_core::Schema;
-use row_keeper::Keeper;
+use row_keeper::{Keeper, Reshaped, TableMove};
 use row_queries::{Cells, Query};
 
 /// What the cases have come to.
@@ -126,6 +127,37 @@ pub fn remove<K: Keeper>(keeper: &mut K, stage: Stage, id: u32, said: &mut Said)
         return said.put("not now");
     }
     said.put_removed(keeper.remove(0, id));
+}
+
+/// Moves the table to another like it. Where that gives no answer nothing may be asked of the
+/// keeper before its transaction is taken back, and so it is at once.
+pub fn reshape<K: Keeper>(
+    keeper: &mut K,
+    stage: &mut Stage,
+    schema: &Schema,
+    moves: &[TableMove],
+    said: &mut Said,
+)
+    requires step { IsInStep stage.old.is_shaped stage.old.is_begun (K.shaped keeper.old)
+        (K.in_transaction keeper.old) }
+    requires stock { IsStock (Some schema.now) }
+    requires moves { (o : Option SchemaValue) → IsStock o
+        → AreMoves (shapes_of o) schema.now.tables moves.now }
+    ensures { IsInStep stage.new.is_shaped stage.new.is_begun (K.shaped keeper.new)
+        (K.in_transaction keeper.new) }
+{
+    if !stage.is_shaped || !stage.is_begun || !is_lawful_schema(schema) {
+        return said.put("not now");
+    }
+    match keeper.reshape(schema, moves) {
+        Ok(Reshaped::Done) => said.put("moved"),
+        Ok(Reshaped::Broken(table, refusal)) => said.put_broken(table, refusal),
+        Err(why) => {
+            keeper.back();
+            stage.is_begun = false;
+            said.put_end(why);
+        }
+    }
 }
 
 /// The rows of a query.

@@ -1,40 +1,79 @@
 // The table that the cases are about: its schema, cells of its rows, and queries of it.
-ghost use Rattle.std.specs.Prelude.{◌≡◌, cond, [], ◌∷◌, None, Option, Some, IfOk, IsSomeAnd};
-ghost use Rattle.std.specs.Prelude.{slice_get};
+ghost use Rattle.std.specs.Prelude.{◌≡◌, true, cond, [], ◌∷◌, None, Option, Some, IfOk};
+ghost use Rattle.std.specs.Prelude.{IsSomeAnd, slice_get};
+ghost use Rattle.fx_types.specs.declared.types.Ty.TheVariants.{Number, Text};
 ghost use Rattle.fx_core.specs.declared.schema.Schema.{Schema as SchemaValue};
 ghost use Rattle.row_queries.specs.Conditions.{always, is_blank as has_blank};
 ghost use Rattle.row_queries.specs.Queries.{CanTotal, IsQuery};
 ghost use Rattle.row_queries.specs.RowTests.{HasNoFaults};
 ghost use Rattle.row_queries.specs.TableRows.{AreCellsOf};
 ghost use Rattle.row_keeper.specs.Tables.{shapes_of};
-ghost use Rattle.test_keeper.specs.Stock.{IsStock};
+ghost use Rattle.test_keeper.specs.Stock.{IsStock, source_of, stock_moves};
 
+use crate::calls::{Form, Sources};
 use fx_base::{InOrder, Memory};
 use fx_core::{Column, Schema, TableShape};
 use fx_number::Num;
 use fx_types::{Ty, Value, Words};
+use row_keeper::TableMove;
 use row_queries::{Cells, Key, KeyRange, Query, RangeList, Test, TestNode};
 use std::alloc::Global;
 
-/// `Name`, a required and unique text, and `Qty`, an indexed number.
-pub fn stock(alloc: Global) -> Result<Schema, Memory>
+/// A text, and an indexed number, by their names.
+pub fn stock(alloc: Global, form: Form) -> Result<Schema, Memory>
     ensures { IfOk result (λ s. IsStock (Some s)) }
 {
     let mut columns = InOrder::new(alloc);
-    columns.push(Column {
-        name: Words::of(alloc, "Name")?,
+    columns.push(text_column(alloc, form.name)?)?;
+    columns.push(number_column(alloc, form.quantity)?)?;
+    let mut tables = InOrder::new(alloc);
+    tables.push(TableShape {
+        name: Words::of(alloc, form.table)?,
+        columns,
+    })?;
+    Ok(Schema { tables })
+}
+
+/// A column of texts, by its name and rules.
+fn text_column(alloc: Global, text: &str) -> Result<Column, Memory>
+    ensures { IfOk result (λ c. c.ty ≡ Text) }
+{
+    let (name, rules) = text.split_once(':').unwrap_or((text, ""));
+    Ok(Column {
+        name: Words::of(alloc, name)?,
         ty: Ty::Text,
-        required: true,
-        unique: true,
+        required: is_required(rules),
+        unique: is_unique(rules),
         indexed: false,
-    })?;
-    columns.push(Column {
-        name: Words::of(alloc, "Qty")?,
+    })
+}
+
+/// An indexed column of numbers, by its name and rules.
+fn number_column(alloc: Global, text: &str) -> Result<Column, Memory>
+    ensures { IfOk result (λ c. (c.ty ≡ Number) × (c.indexed ≡ true)) }
+{
+    let (name, rules) = text.split_once(':').unwrap_or((text, ""));
+    Ok(Column {
+        name: Words::of(alloc, name)?,
         ty: Ty::Number,
-        required: false,
-        unique: false,
+        required: is_required(rules),
+        unique: is_unique(rules),
         indexed: true,
-    })?;
+    })
+}
+
+fn is_required(rules: &str) -> bool {
+    rules == "required" || rules == "key"
+}
+
+fn is_unique(rules: &str) -> bool {
+    rules == "unique" || rules == "key"
+}
+
+/// `Name` alone.
+pub fn names_alone(alloc: Global) -> Result<Schema, Memory> {
+    let mut columns = InOrder::new(alloc);
+    columns.push(text_column(alloc, "Name:key")?)?;
     let mut tables = InOrder::new(alloc);
     tables.push(TableShape {
         name: Words::of(alloc, "Stock")?,
@@ -43,22 +82,29 @@ pub fn stock(alloc: Global) -> Result<Schema, Memory>
     Ok(Schema { tables })
 }
 
-/// `Name` alone.
-pub fn names_alone(alloc: Global) -> Result<Schema, Memory> {
+/// How the table moves to another like it.
+pub fn moves(alloc: Global, sources: Sources) -> Result<Vec<TableMove>, Memory>
+    ensures { IfOk result (λ ms. ms.items
+        ≡ stock_moves sources.rows sources.names sources.quantities) }
+{
+    let from = source(sources.rows, true, 0);
     let mut columns = InOrder::new(alloc);
-    columns.push(Column {
-        name: Words::of(alloc, "Name")?,
-        ty: Ty::Text,
-        required: true,
-        unique: true,
-        indexed: false,
-    })?;
-    let mut tables = InOrder::new(alloc);
-    tables.push(TableShape {
-        name: Words::of(alloc, "Stock")?,
-        columns,
-    })?;
-    Ok(Schema { tables })
+    columns.push(source(sources.rows, sources.names, 1))?;
+    columns.push(source(sources.rows, sources.quantities, 2))?;
+    let mut moves = Vec::new(alloc);
+    moves.push(TableMove { from, columns })?;
+    Ok(moves)
+}
+
+/// The number of a source, where rows come and this does with them.
+fn source(has_rows: bool, is_given: bool, number: u16) -> Option<u16>
+    ensures { result ≡ source_of has_rows is_given number }
+{
+    if has_rows && is_given {
+        Some(number)
+    } else {
+        None
+    }
 }
 
 /// The cells of a row.
