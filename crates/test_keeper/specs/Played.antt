@@ -1,7 +1,7 @@
 -- What is known of the keepers that are played.
+use Rattle.keeper_cases.specs.Stock.{IsInStep}
 use Rattle.row_keeper.specs.StoreView.{shape_of}
 use Rattle.sql_keeper.specs.View.{sql_shape}
-use Rattle.test_keeper.specs.Stock.{IsInStep}
 use Rattle.test_keeper.specs.declared.played.Played.{Played}
 
 -- each keeper stands where the cases say

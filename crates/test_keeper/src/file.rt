@@ -1,6 +1,6 @@
 // The file of a database, as others than a keeper see it.
 
-use crate::said::Said;
+use keeper_cases::Said;
 use sqlite::types::ValueRef;
 use sqlite::{Alter, Connection, Error, Row};
 use std::rt::HostRuntime;

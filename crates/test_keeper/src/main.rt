@@ -10,16 +10,11 @@
 //! `bench/keeper_rows.py` plays the same calls over lists.
 #![tactic(auto)]
 
-mod calls;
-mod cases;
 mod file;
 mod played;
-mod said;
-mod stage;
-mod stock;
 
 use crate::played::Played;
-use crate::said::Said;
+use keeper_cases::Said;
 use std::io::{self, ErrorKind};
 
 fn main(rt: HostRuntime) -> io::Result<()> {

@@ -1,16 +1,14 @@
 // The same calls over each keeper.
 ghost use Rattle.std.specs.Prelude.{IfOk};
+ghost use Rattle.keeper_cases.specs.Stock.{IsInStep};
 ghost use Rattle.row_keeper.specs.StoreView.{shape_of};
 ghost use Rattle.sql_keeper.specs.View.{sql_shape};
 ghost use Rattle.test_keeper.specs.Played.{AreInStep};
-ghost use Rattle.test_keeper.specs.Stock.{IsInStep};
 
-use crate::calls::{Call, numbers};
-use crate::cases::Case;
 use crate::file::{forget, run};
-use crate::said::Said;
 use fx_base::Memory;
 use fx_base::plan::FaultPlan;
+use keeper_cases::{Call, Case, Said, numbers};
 use row_keeper::{Keeper, MemoryKeeper};
 use sql_keeper::SqlKeeper;
 use std::alloc::Global;

@@ -2,8 +2,8 @@ use Rattle.std.proofs.Common.{subst, sym}
 use Rattle.row_queries.specs.Queries.{IsQuery}
 use Rattle.row_queries.specs.Conditions.{Condition}
 use Rattle.row_keeper.specs.Tables.{shapes_of}
-use Rattle.test_keeper.proofs.StockLemmas.{is_page, page_from}
-use Rattle.test_keeper.proofs.stock.page.Goals as goal
+use Rattle.keeper_cases.proofs.StockLemmas.{is_page, page_from}
+use Rattle.keeper_cases.proofs.stock.page.Goals as goal
 
 pub returns : goal.returns
 returns c o h =

@@ -19,7 +19,7 @@ use Rattle.row_queries.specs.declared.ranges.KeyRange.{KeyRange}
 use Rattle.row_keeper.specs.MovedTables.{AreMoves, AreSources, IsMove, named}
 use Rattle.row_keeper.specs.Tables.{shapes_of}
 use Rattle.row_keeper.specs.declared.moves.TableMove.{TableMove}
-use Rattle.test_keeper.specs.Stock.{AreStockColumns, AreStockTables, IsStock, source_of, stock_moves}
+use Rattle.keeper_cases.specs.Stock.{AreStockColumns, AreStockTables, IsStock, source_of, stock_moves}
 
 -- all rows in a range of quantities, the greatest quantity first
 abbrev pub query_from : List KeyRange → Option ℕ → Query

@@ -1,5 +1,5 @@
-use Rattle.test_keeper.proofs.StockLemmas.{can_total, is_query}
-use Rattle.test_keeper.proofs.stock.from.Goals as goal
+use Rattle.keeper_cases.proofs.StockLemmas.{can_total, is_query}
+use Rattle.keeper_cases.proofs.stock.from.Goals as goal
 
 pub returns-clause-query : goal.returns-clause-query
 returns-clause-query c o h = is_query o h _ c.in_ok-ranges.ranges c.args.most c.in_ok-ranges.ensures

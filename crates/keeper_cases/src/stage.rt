@@ -6,7 +6,7 @@ ghost use Rattle.row_queries.specs.RowTests.{HasNoFaults};
 ghost use Rattle.row_queries.specs.TableRows.{AreCellsOf};
 ghost use Rattle.row_keeper.specs.MovedTables.{AreMoves};
 ghost use Rattle.row_keeper.specs.Tables.{shapes_of};
-ghost use Rattle.test_keeper.specs.Stock.{IsInStep, IsStock};
+ghost use Rattle.keeper_cases.specs.Stock.{IsInStep, IsStock};
 
 use crate::said::Said;
 use app_names::is_lawful_schema;

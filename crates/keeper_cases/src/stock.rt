@@ -8,7 +8,7 @@ ghost use Rattle.row_queries.specs.Queries.{CanTotal, IsQuery};
 ghost use Rattle.row_queries.specs.RowTests.{HasNoFaults};
 ghost use Rattle.row_queries.specs.TableRows.{AreCellsOf};
 ghost use Rattle.row_keeper.specs.Tables.{shapes_of};
-ghost use Rattle.test_keeper.specs.Stock.{IsStock, source_of, stock_moves};
+ghost use Rattle.keeper_cases.specs.Stock.{IsStock, source_of, stock_moves};
 
 use crate::calls::{Form, Sources};
 use fx_base::{InOrder, Memory};

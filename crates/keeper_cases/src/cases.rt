@@ -1,6 +1,6 @@
 // A keeper, and what the cases have come to.
 ghost use Rattle.std.specs.Prelude.{◌≡◌, false};
-ghost use Rattle.test_keeper.specs.Stock.{IsInStep};
+ghost use Rattle.keeper_cases.specs.Stock.{IsInStep};
 
 use crate::calls::{Ask, Asked, Call, Sources, form_of};
 use crate::said::Said;
