@@ -8,7 +8,7 @@ use fx_sig::{all, signature};
 
 pub fn write(page: &mut Page) {
     page.add("# Signatures");
-    page.add_answer("there are 79", all().len() == 79);
+    page.add_answer("there are 81", all().len() == 81);
     add_signature(page, "Replace", SigShape::One(Fun::Replace));
     add_signature(
         page,
