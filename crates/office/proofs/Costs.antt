@@ -73,7 +73,7 @@ pub costs_items : (name gallery : List ℕ) (from : ℕ) (said : List ℕ) (m : 
 unfolding CostsBy
 costs_items name gallery from said m s t old new before after h = h
 
-pub costs_page : (table : List ℕ) (number : ℕ) (said : List ℕ) (m : ℕ) (s t : OfficeState) (old new : List (Named CacheState)) (x v w : ℕ) → VisitsPage (schema_of s.app).tables table number s.tables v w
+pub costs_page : (table : List ℕ) (number : ℕ) (said : List ℕ) (m : ℕ) (s t : OfficeState) (old new : List (Named CacheState)) (x v w : ℕ) → VisitsPage (schema_of s.app).tables table number t.tables v w
     → CostsBy (Page table number) m s said t old new (counts x v) (counts x w)
 unfolding CostsBy
 costs_page table number said m s t old new x v w visits = (refl, visits)

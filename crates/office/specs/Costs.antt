@@ -92,7 +92,7 @@ CostsBy (Items name gallery from) m s said t old new before after =
     CostsTo (CostOfItems s.app t.tables m from (gallery_named gallery s.app.names) said) name
     (find name s.sessions) old new before after
 CostsBy (Page table number) m s said t old new before after =
-    (after.steps ≡ before.steps) × VisitsPage (schema_of s.app).tables table number s.tables
+    (after.steps ≡ before.steps) × VisitsPage (schema_of s.app).tables table number t.tables
     before.visited after.visited
 CostsBy (Rows desk) m s said t old new before after = after.steps ≡ before.steps
 CostsBy (Edit desk) m s said t old new before after = IsFree before after

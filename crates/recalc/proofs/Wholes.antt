@@ -7,8 +7,6 @@ use Rattle.std.proofs.lemmas.List.Sorted.{IsPermutation-refl}
 use Rattle.fx_eval.specs.fx_plan.Ranges.{everything}
 use Rattle.fx_value.specs.Keys.{key_bytes}
 use Rattle.fx_eval.proofs.of_fx_plan.Arranged.{by_number}
-use Rattle.fx_base.specs.Silence.{MayFallSilent}
-use Rattle.fx_base.specs.Telling.{Stays}
 use Rattle.fx_types.specs.ValueView.{view}
 use Rattle.fx_types.specs.Values.{Data}
 use Rattle.fx_types.specs.declared.values.Value.{Value}
@@ -73,12 +71,10 @@ filter_short q (r ∷ rows) = by (lies q r) (filter_short q rows)
     by false l = omega (arith, l)
 
 -- a scan of a table visits no more than its rows
-pub told_whole : (k : ℕ) (q : Query) (x y : Option Tables) (before now : ℕ) (lost : Type 0) → q ≡ whole_table k → MayFallSilent lost Stays x y → VisitsTold (rows_told x) q before now →
-    IfSome (rows_told y) (λ rows. now ≤ before + length (rows_at rows k))
-told_whole k q x None before now lost e g h = tt
-told_whole k q None (Some t) before now lost e g h = absurd cc
-told_whole k q (Some s) (Some t) before now lost e g h =
-    let same : q.table ≡ k = ap (λ (z : Query). z.table) e in
-    let short = filter_short q (rows_at (rows_of_tables s.states) q.table) in
-    let at : length (rows_at (rows_of_tables s.states) q.table) ≡ length (rows_at (rows_of_tables t.states) k) = ap (λ j. length (rows_at (rows_of_tables s.states) j)) same ∙ ap (λ (z : Tables). length (rows_at (rows_of_tables z.states) k)) (sym g) in
+pub told_whole : (k : ℕ) (q : Query) (x : Option Tables) (before now : ℕ) → q ≡ whole_table k → VisitsTold (rows_told x) q before now →
+    IfSome (rows_told x) (λ rows. now ≤ before + length (rows_at rows k))
+told_whole k q None before now e h = tt
+told_whole k q (Some t) before now e h =
+    let short = filter_short q (rows_at (rows_of_tables t.states) q.table) in
+    let at : length (rows_at (rows_of_tables t.states) q.table) ≡ length (rows_at (rows_of_tables t.states) k) = ap (λ (z : Query). length (rows_at (rows_of_tables t.states) z.table)) e in
     omega (arith, h, short, at)

@@ -328,7 +328,7 @@ pub trait Keeper {
             (λ t. All (IsRowOf t) answer.rows)) }
         ensures least { IfOk result (λ answer. VisitsAtLeast (length answer.rows) (visited self.old)
             (visited self.new)) }
-        ensures most { VisitsTold (rows_told (told self.old)) query.now (visited self.old)
+        ensures most { VisitsTold (rows_told (told self.new)) query.now (visited self.old)
             (visited self.new) }
         ensures err { OnErr result (MayFallSilent (SilenceCause (marks self.old) (marks self.new))
             Stays (told self.old) (told self.new)) }
@@ -355,7 +355,7 @@ pub trait Keeper {
         ensures number { IfOk result (λ n. MayFallSilent
             (SilenceCause (marks self.old) (marks self.new)) (CountsQuery query.now n)
             (told self.old) (told self.new)) }
-        ensures most { VisitsTold (rows_told (told self.old)) query.now (visited self.old)
+        ensures most { VisitsTold (rows_told (told self.new)) query.now (visited self.old)
             (visited self.new) }
         ensures err { OnErr result (MayFallSilent (SilenceCause (marks self.old) (marks self.new))
             Stays (told self.old) (told self.new)) }
@@ -384,7 +384,7 @@ pub trait Keeper {
         ensures totals { IfOk result (λ totals. MayFallSilent
             (SilenceCause (marks self.old) (marks self.new)) (TotalsUp query.now column totals)
             (told self.old) (told self.new)) }
-        ensures most { VisitsTold (rows_told (told self.old)) query.now (visited self.old)
+        ensures most { VisitsTold (rows_told (told self.new)) query.now (visited self.old)
             (visited self.new) }
         ensures err { OnErr result (MayFallSilent (SilenceCause (marks self.old) (marks self.new))
             Stays (told self.old) (told self.new)) }

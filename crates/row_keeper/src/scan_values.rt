@@ -42,7 +42,7 @@ pub fn scan<K: Keeper>(
     ensures visited { K.visited keeper.old ≤ K.visited keeper.new }
     ensures least { IfOk result (λ v. VisitsAtLeast (rows_counted (view v)) (K.visited keeper.old)
         (K.visited keeper.new)) }
-    ensures most { VisitsTold (rows_told (K.told keeper.old)) query.now (K.visited keeper.old)
+    ensures most { VisitsTold (rows_told (K.told keeper.new)) query.now (K.visited keeper.old)
         (K.visited keeper.new) }
     ensures loan { K.loan keeper.new ≡ K.loan keeper.old }
 {

@@ -14,7 +14,7 @@ use Rattle.row_queries.specs.declared.rows.Row.{Row}
 use Rattle.row_keeper.specs.Changes.{Inserts, Removes, Replaces}
 use Rattle.row_keeper.specs.Tables.{AreStatesOf, Tables, columns_at, state_at}
 use Rattle.row_keeper.specs.declared.rows.Put.{Put}
-use Rattle.row_requests.specs.Queries.{HasNumberedRows, FindsRow}
+use Rattle.row_requests.specs.Queries.{HasNumberedRows, FindsRow, FindsRows}
 use Rattle.row_requests.specs.Sound.{AreSound}
 use Rattle.row_requests.proofs.Soundness.{sound_inserts, sound_removes, sound_replaces, state_is}
 
@@ -87,9 +87,15 @@ pub row_cells : (o : Option TableShape) (r : Row) → IsSomeAnd o (λ (t : Table
 row_cells None r h = absurd h
 row_cells (Some t) r h = h.1
 
--- finding a row leaves the tables
+-- finding rows leaves the tables
 pub found_sound : (s : Schema) (k id : ℕ) (lost : Type 0) (o : Option Row) (x y : Option Tables) → AreSound s x → MayFallSilent lost (FindsRow k id o) x y → AreSound s y
 found_sound s k id lost o None None sound h = tt
 found_sound s k id lost o None (Some b) sound h = absurd cc
 found_sound s k id lost o (Some a) None sound h = tt
 found_sound s k id lost o (Some a) (Some b) sound h = subst (λ (t : Tables). AreStatesOf s.tables t.states) (sym h.1) sound
+
+pub found_rows_sound : (s : Schema) (k after : ℕ) (lost : Type 0) (found : List Row) (x y : Option Tables) → AreSound s x → MayFallSilent lost (FindsRows k after found) x y → AreSound s y
+found_rows_sound s k after lost found None None sound h = tt
+found_rows_sound s k after lost found None (Some b) sound h = absurd cc
+found_rows_sound s k after lost found (Some a) None sound h = tt
+found_rows_sound s k after lost found (Some a) (Some b) sound h = subst (λ (t : Tables). AreStatesOf s.tables t.states) (sym h.1) sound

@@ -151,7 +151,7 @@ pub(crate) fn find_rows<K: Keeper>(
         (FindsRows table after rows.items)) }
     ensures fit { IfOk result (λ rows. IsSomeAnd
         (slice_get (shapes_of (K.shaped keeper.old).now) table) (λ t. All (IsRowOf t) rows.items)) }
-    ensures visits { VisitsPast table after (K.told keeper.old) (K.visited keeper.old)
+    ensures visits { VisitsPast table after (K.told keeper.new) (K.visited keeper.old)
         (K.visited keeper.new) }
     ensures err { OnErr result (Becomes K.Keeper keeper.old keeper.new Stays) }
     ensures cause { HasCause K.Keeper keeper.old keeper.new result }

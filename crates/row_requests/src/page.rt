@@ -104,7 +104,7 @@ pub fn show_page<K: Keeper>(
         (K.told keeper.old) (said r) (K.told keeper.new)) }
     ensures whole { IfOk result IsReply }
     ensures still { Becomes K.Keeper keeper.old keeper.new Stays }
-    ensures visits { VisitsPage schema.now.tables table.now after (K.told keeper.old)
+    ensures visits { VisitsPage schema.now.tables table.now after (K.told keeper.new)
         (K.visited keeper.old) (K.visited keeper.new) }
     ensures reached { IsErrOf result Failed → ReachesPage schema.now.tables table.now }
     ensures cause { HasCause K.Keeper keeper.old keeper.new result }

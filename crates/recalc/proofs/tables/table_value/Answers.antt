@@ -8,4 +8,4 @@ returns-clause-value g c =
 
 pub returns-clause-most : goal.returns-clause-most
 returns-clause-most g c =
-    told_whole c.args.table c.in_ok-query.query (g.K.Keeper.told c.args.keeper.now) (g.K.Keeper.told c.scan.new.keeper) (g.K.Keeper.visited c.args.keeper.now) (g.K.Keeper.visited c.scan.new.keeper) _ c.in_ok-query.ensures c.scan.ensures.told c.scan.ensures.most
+    told_whole c.args.table c.in_ok-query.query (g.K.Keeper.told c.scan.new.keeper) (g.K.Keeper.visited c.args.keeper.now) (g.K.Keeper.visited c.scan.new.keeper) c.in_ok-query.ensures c.scan.ensures.most

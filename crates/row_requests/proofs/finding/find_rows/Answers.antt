@@ -34,11 +34,11 @@ returns-in-Ok-clause-fit g c =
 pub returns-in-Ok-clause-visits : goal.returns-in-Ok-clause-visits
 returns-in-Ok-clause-visits g c =
     let most : c.args.after < 2 ^ 32 = search rules in
-    visits_past c.keys_order.ensures.order c.args.table c.args.after most (g.K.Keeper.told c.args.keeper.now) (g.K.Keeper.visited c.args.keeper.now) (g.K.Keeper.visited c.scan.new.self)
-    (subst (λ q. VisitsTold (rows_told (g.K.Keeper.told c.args.keeper.now)) q (g.K.Keeper.visited c.args.keeper.now) (g.K.Keeper.visited c.scan.new.self)) c.in_ok-query.ensures c.scan.ensures.most)
+    visits_past c.keys_order.ensures.order c.args.table c.args.after most (g.K.Keeper.told c.scan.new.self) (g.K.Keeper.visited c.args.keeper.now) (g.K.Keeper.visited c.scan.new.self)
+    (subst (λ q. VisitsTold (rows_told (g.K.Keeper.told c.scan.new.self)) q (g.K.Keeper.visited c.args.keeper.now) (g.K.Keeper.visited c.scan.new.self)) c.in_ok-query.ensures c.scan.ensures.most)
 
 pub returns-clause-visits : goal.returns-clause-visits
 returns-clause-visits g c =
     let most : c.args.after < 2 ^ 32 = search rules in
-    visits_past c.keys_order.ensures.order c.args.table c.args.after most (g.K.Keeper.told c.args.keeper.now) (g.K.Keeper.visited c.args.keeper.now) (g.K.Keeper.visited c.scan.new.self)
-    (subst (λ q. VisitsTold (rows_told (g.K.Keeper.told c.args.keeper.now)) q (g.K.Keeper.visited c.args.keeper.now) (g.K.Keeper.visited c.scan.new.self)) c.in_ok-query.ensures c.scan.ensures.most)
+    visits_past c.keys_order.ensures.order c.args.table c.args.after most (g.K.Keeper.told c.scan.new.self) (g.K.Keeper.visited c.args.keeper.now) (g.K.Keeper.visited c.scan.new.self)
+    (subst (λ q. VisitsTold (rows_told (g.K.Keeper.told c.scan.new.self)) q (g.K.Keeper.visited c.args.keeper.now) (g.K.Keeper.visited c.scan.new.self)) c.in_ok-query.ensures c.scan.ensures.most)

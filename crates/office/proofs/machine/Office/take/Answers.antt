@@ -265,7 +265,7 @@ returns-in-Items-clause-costs g c =
 
 pub returns-in-Page-clause-costs : goal.returns-in-Page-clause-costs
 returns-in-Page-clause-costs g c =
-    let told = g.K.Keeper.told c.self.inside.keeper in
+    let told = g.K.Keeper.told c.show_page.new.keeper in
     let visited = g.K.Keeper.visited in
     ok_always c.show_page.result _ (λ r.
     costs_by c.args.route.now (Page c.in-Page.table c.in-Page.after) c.args.self.now _ (said r) _ c.self.inside.caches.items c.args.steps.now (counts c.args.steps.now (visited c.show_page.new.keeper)) c.in-Page.is c.self.view_is
