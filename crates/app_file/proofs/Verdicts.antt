@@ -55,3 +55,10 @@ one_reading file a v p q = as_app a v (one_read file (Ok a) v p q)
 
 pub one_break : IsOneBreak
 one_break file b c p q = one_read file (Err b) (Err c) p q
+
+-- JSON is read in one way
+pub one_value : (root : Data) (a : AppFile) (v : Result AppFile FileBreak) → IsReadOf root (Ok a) → IsReadOf root v → v ≡ Ok a
+one_value root a v p q = as_app a v (one_root_read root (Ok a) v p q)
+
+pub one_value_break : (root : Data) (b c : FileBreak) → IsReadOf root (Err b) → IsReadOf root (Err c) → (b ≡ c) ⊎ (IsBadPart b × IsBadPart c)
+one_value_break root b c p q = one_root_read root (Err b) (Err c) p q

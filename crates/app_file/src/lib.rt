@@ -19,4 +19,4 @@ pub use breaks::FileBreak;
 pub use file::{AppFile, ControlShape, PropertyText, ScreenShape};
 pub use laws::{one_break, one_reading};
 pub use limits::Limit;
-pub use reading::read;
+pub use reading::{read, read_value};

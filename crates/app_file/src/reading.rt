@@ -41,14 +41,15 @@ pub fn read(alloc: Global, bytes: &[u8]) -> Result<AppFile, OrMemory<FileBreak>>
         return Err(OrMemory::Refused(FileBreak::NoJson));
     };
     match Json::from_str(alloc, text) {
-        Ok(root) => app_in(alloc, &root),
+        Ok(root) => read_value(alloc, &root),
         Err(error) if error.is_memory() => Err(OrMemory::Memory),
         Err(_) => Err(OrMemory::Refused(FileBreak::NoJson)),
     }
 }
 
-// The app that a file's JSON holds.
-fn app_in(alloc: Global, root: &Json) -> Result<AppFile, OrMemory<FileBreak>>
+/// The app that JSON holds, as it is written. JSON is refused that isn't of the form of app files,
+/// or passes a limit, and the first of these is told.
+pub fn read_value(alloc: Global, root: &Json) -> Result<AppFile, OrMemory<FileBreak>>
     ensures app { IfOk result (λ a. IsReadOf (view root.now) (Ok a)) }
     ensures refused { IfErr result (TellsFileBreak (λ b. IsReadOf (view root.now) (Err b))) }
 {

@@ -132,3 +132,7 @@ sound_file file v a e (json _ root _ h r) = sound_root root v a e r
 
 pub read_is_sound : ReadIsSound
 read_is_sound file a r = sound_file file (Ok a) a refl r
+
+-- and so is what is read of JSON
+pub value_is_sound : (root : Data) (a : AppFile) → IsReadOf root (Ok a) → IsSoundFile a
+value_is_sound root a r = sound_root root (Ok a) a refl r

@@ -16,13 +16,13 @@ pub returns-in-Ok-from_str-clause-app : goal.returns-in-Ok-from_str-clause-app
 returns-in-Ok-from_str-clause-app c =
     let is_json : read c.args.bytes.now ≡ Some (view c.in-Ok-from_str.root) = subst (λ t. read t ≡ Some (view c.in-Ok-from_str.root)) c.in-Ok.ensures.cases.0 c.in-Ok-from_str.ensures.ok in
     let is : HasJson c.args.bytes.now (view c.in-Ok-from_str.root) = record { short = c.if-bytes-gt-MOST_BYTES.false; utf8 = c.in-Ok.ensures.cases.1; json = is_json } in
-    IfOk-weaker c.app_in.result _ _ (λ a h. json _ _ (Ok a) is h) c.app_in.ensures.app
+    IfOk-weaker c.read_value.result _ _ (λ a h. json _ _ (Ok a) is h) c.read_value.ensures.app
 
 pub returns-in-Ok-from_str-clause-refused : goal.returns-in-Ok-from_str-clause-refused
 returns-in-Ok-from_str-clause-refused c =
     let is_json : read c.args.bytes.now ≡ Some (view c.in-Ok-from_str.root) = subst (λ t. read t ≡ Some (view c.in-Ok-from_str.root)) c.in-Ok.ensures.cases.0 c.in-Ok-from_str.ensures.ok in
     let is : HasJson c.args.bytes.now (view c.in-Ok-from_str.root) = record { short = c.if-bytes-gt-MOST_BYTES.false; utf8 = c.in-Ok.ensures.cases.1; json = is_json } in
-    IfErr-weaker c.app_in.result _ _ (told_json c.args.bytes.now _ is) c.app_in.ensures.refused
+    IfErr-weaker c.read_value.result _ _ (told_json c.args.bytes.now _ is) c.read_value.ensures.refused
 
 pub returns-in-Err-2-clause-refused : goal.returns-in-Err-2-clause-refused
 returns-in-Err-2-clause-refused c =

@@ -5,7 +5,7 @@ use Rattle.app_file.specs.Contents.{app_of}
 use Rattle.app_file.specs.Files.{IsReadOf, app, passed}
 use Rattle.app_file.specs.Limits.{first_passed, limits}
 use Rattle.app_file.proofs.Told.{told_part}
-use Rattle.app_file.proofs.reading.app_in.Goals as goal
+use Rattle.app_file.proofs.reading.read_value.Goals as goal
 
 pub returns-in-Err-clause-refused : goal.returns-in-Err-clause-refused
 returns-in-Err-clause-refused c = told_part (view c.args.root.now) c.in-Err.end c.bad_part.result c.in-Err.ensures.bad c.bad_part.ensures
