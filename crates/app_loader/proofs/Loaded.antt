@@ -3,7 +3,8 @@ use Rattle.std.proofs.Common.{◌≡◌, ℕ, suc, ◌+◌, List, [], ◌∷◌,
 use Rattle.std.proofs.lemmas.List.{map-append}
 use Rattle.fx_infer.specs.Depths.{EntriesAreNoDeeper, TreesAreNoDeeper}
 use Rattle.fx_core.specs.declared.broken.Broken.{Broken}
-use Rattle.app_file.specs.Files.{IsRead}
+use Rattle.serde_json.specs.Data.{Data}
+use Rattle.app_file.specs.Files.{IsRead, IsReadOf}
 use Rattle.app_file.specs.declared.file.AppFile.{AppFile}
 use Rattle.app_file.specs.declared.file.ControlShape.{ControlShape}
 use Rattle.app_file.specs.declared.file.ScreenShape.{ScreenShape}
@@ -11,14 +12,15 @@ use Rattle.app_cells.specs.declared.app.App.{App}
 use Rattle.app_cells.specs.declared.cell.Cell.{Cell}
 use Rattle.app_cells.specs.declared.frame.Frame.{Frame}
 use Rattle.app_cells.specs.Spots.{IsFrame}
-use Rattle.app_texts.specs.Files.{ReadIsSound, control_of, controls_from}
+use Rattle.app_texts.specs.Files.{IsSoundFile, ReadIsSound, control_of, controls_from}
 use Rattle.app_texts.specs.Texts.{AreFormulasOf, IsReading}
 use Rattle.app_texts.proofs.Readings.{file_placed}
 use Rattle.app_texts.proofs.Spotted.{sound_frame}
 use Rattle.app_texts.specs.Frames.{without_items}
-use Rattle.app_loader.specs.Edits.{IsLoaded, LoadedApp}
+use Rattle.app_texts.proofs.Sound.{value_is_sound}
+use Rattle.app_loader.specs.Edits.{IsLoaded, LoadedApp, LoadedValue}
 use Rattle.app_loader.specs.Judged as judge
-use Rattle.app_loader.specs.Judged.{JudgedApp, JudgedFile, JudgedFormulas}
+use Rattle.app_loader.specs.Judged.{JudgedApp, JudgedFile, JudgedFormulas, JudgedValue}
 use Rattle.app_loader.proofs.Framed.{judged_parts, loaded}
 use Rattle.app_loader.proofs.Shallow.{file_shallow}
 use Rattle.app_loader.proofs.Singles.{reading_parts}
@@ -58,16 +60,31 @@ app_parts : {file : List ℕ} {v : Result App (List Broken)} → JudgedApp file 
 app_parts (judge.unread file b r) = tt
 app_parts (judge.read file af v r j) = by_app file af v r j
 
-file_loaded : ReadIsSound → TreesAreNoDeeper → EntriesAreNoDeeper → (file : List ℕ) (af : AppFile) (a : App) → IsRead file (Ok af) → IfFile af (Ok a) → IsLoaded a
-file_loaded sound trees entries file af a r h =
+file_loaded : TreesAreNoDeeper → EntriesAreNoDeeper → (af : AppFile) (a : App) → IsSoundFile af → IfFile af (Ok a) → IsLoaded a
+file_loaded trees entries af a is h =
     let parts = reading_parts h.2 in
     let f = h.0 in
     let blank : map without_items f.controls ≡ f.controls =
     ap (λ (g : Frame). map without_items g.controls) parts.0 ∙ file_blank 0 0 af.screens ∙ sym (ap (λ (g : Frame). g.controls) parts.0) in
-    let is = sound file af r in
     loaded f h.1 a blank (subst IsFrame (sym parts.0) (sound_frame af is))
     (file_placed af f f h.1 h.1 [] (subst (λ (g : Frame). AreFormulasOf af g h.1 []) parts.0 parts.1) parts.0 refl refl)
     (file_shallow trees entries af f h.1 h.2) (judged_parts h.3)
 
 pub loaded_app : ReadIsSound → TreesAreNoDeeper → EntriesAreNoDeeper → LoadedApp
-loaded_app sound trees entries file a h = let parts = app_parts h in file_loaded sound trees entries file parts.0 a parts.1 (file_parts parts.2)
+loaded_app sound trees entries file a h = let parts = app_parts h in file_loaded trees entries parts.0 a (sound file parts.0 parts.1) (file_parts parts.2)
+
+-- ---- JSON
+abbrev IfValue : Data → Result App (List Broken) → Type 0
+IfValue root (Ok a) = (af : AppFile) × IsReadOf root (Ok af) × JudgedFile af (Ok a)
+IfValue root (Err bs) = Unit {0}
+
+by_value : (root : Data) (af : AppFile) (v : Result App (List Broken)) → IsReadOf root (Ok af) → JudgedFile af v → IfValue root v
+by_value root af (Ok a) r j = (af, r, j)
+by_value root af (Err bs) r j = tt
+
+value_parts : {root : Data} {v : Result App (List Broken)} → JudgedValue root v → IfValue root v
+value_parts (judge.unread_value root b r) = tt
+value_parts (judge.read_value root af v r j) = by_value root af v r j
+
+pub loaded_value : TreesAreNoDeeper → EntriesAreNoDeeper → LoadedValue
+loaded_value trees entries root a h = let parts = value_parts h in file_loaded trees entries parts.0 a (value_is_sound root parts.0 parts.1) (file_parts parts.2)

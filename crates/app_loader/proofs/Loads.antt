@@ -12,7 +12,8 @@ use Rattle.fx_core.specs.declared.names.Names.{Names}
 use Rattle.fx_core.specs.declared.rule.Rule.TheVariants as rule
 use Rattle.fx_core.specs.declared.signatures.Signature.{Signature}
 use Rattle.session_state.specs.Changes.{HoldsTables}
-use Rattle.app_file.specs.Files.{IsRead, broken_of}
+use Rattle.serde_json.specs.Data.{Data}
+use Rattle.app_file.specs.Files.{IsRead, IsReadOf, broken_of}
 use Rattle.app_file.specs.declared.breaks.FileBreak.{FileBreak}
 use Rattle.app_file.specs.declared.file.AppFile.{AppFile}
 use Rattle.app_cells.specs.Spots.{IsPlaced}
@@ -30,7 +31,7 @@ use Rattle.app_loader.specs.Cells.{round_cell}
 use Rattle.app_loader.specs.JudgedFormulas.{JudgedCells, ReportsBreaks}
 use Rattle.app_loader.specs.Types.{AreLawfullyTyped, HaveLawfulTrees}
 use Rattle.app_loader.specs.Judged as judge
-use Rattle.app_loader.specs.Judged.{AreNamedFormulas, Judged, JudgedApp, JudgedFile, JudgedFormulas, JudgedText, most_source_bytes}
+use Rattle.app_loader.specs.Judged.{AreNamedFormulas, Judged, JudgedApp, JudgedFile, JudgedFormulas, JudgedText, JudgedValue, most_source_bytes}
 
 pub tells_weaker : (P Q : List Broken → Type 0) → ((bs : List Broken) → P bs → Q bs) → (e : AppEnd) → ReportsBreaks P e → ReportsBreaks Q e
 tells_weaker P Q f (end.Refused all) h = f all.items h
@@ -109,6 +110,16 @@ read_err file a h = err_weaker (λ bs. JudgedFile a (Err bs)) (λ bs. JudgedApp 
 
 pub unread_end : (file : List ℕ) (b : FileBreak) (c : Broken) → IsRead file (Err b) → c ≡ broken_of b → (e : AppEnd) → ReportsBreaks (λ bs. bs ≡ c ∷ []) e → ReportsBreaks (λ bs. JudgedApp file (Err bs)) e
 unread_end file b c h same = tells_this (λ bs. JudgedApp file (Err bs)) c (broken_of b) same (judge.unread file b h)
+
+-- ---- JSON
+pub value_ok : (root : Data) (a : AppFile) → IsReadOf root (Ok a) → (r : Result App AppEnd) → IfOk r (λ b. JudgedFile a (Ok b)) → IfOk r (λ b. JudgedValue root (Ok b))
+value_ok root a h = ok_weaker (λ b. JudgedFile a (Ok b)) (λ b. JudgedValue root (Ok b)) (λ b j. judge.read_value root a (Ok b) h j)
+
+pub value_err : (root : Data) (a : AppFile) → IsReadOf root (Ok a) → (r : Result App AppEnd) → IfErr r (ReportsBreaks (λ bs. JudgedFile a (Err bs))) → IfErr r (ReportsBreaks (λ bs. JudgedValue root (Err bs)))
+value_err root a h = err_weaker (λ bs. JudgedFile a (Err bs)) (λ bs. JudgedValue root (Err bs)) (λ bs j. judge.read_value root a (Err bs) h j)
+
+pub no_value_end : (root : Data) (b : FileBreak) (c : Broken) → IsReadOf root (Err b) → c ≡ broken_of b → (e : AppEnd) → ReportsBreaks (λ bs. bs ≡ c ∷ []) e → ReportsBreaks (λ bs. JudgedValue root (Err bs)) e
+no_value_end root b c h same = tells_this (λ bs. JudgedValue root (Err bs)) c (broken_of b) same (judge.unread_value root b h)
 
 pub opens_ok : (k : ℕ) → 0 < k → (r : Result App AppEnd) → IfOk r (λ a. length a.names.screens ≡ k) → IfOk r (λ a. 0 < length a.names.screens)
 opens_ok k l = ok_weaker (λ a. length a.names.screens ≡ k) (λ a. 0 < length a.names.screens) (λ a e. subst (λ n. 0 < n) (sym e) l)

@@ -23,6 +23,8 @@ use Rattle.fx_core.specs.declared.rule.Rule.{Rule}
 use Rattle.fx_core.specs.declared.rule.Rule.TheVariants as rule
 use Rattle.fx_typing.specs.Details.{IsToldBrokenWhole}
 use Rattle.fx_typing.specs.Rounds.{AreFinalTypes, StillChanges}
+use Rattle.serde_json.specs.Data.{Data}
+use Rattle.app_file.proofs.Verdicts.{one_value, one_value_break}
 use Rattle.app_file.specs.Files.{IsBadPart, IsOneBreak, IsOneReading, broken_of}
 use Rattle.app_file.specs.declared.breaks.FileBreak.{FileBreak}
 use Rattle.app_file.specs.declared.breaks.FileBreak.TheVariants as why
@@ -41,8 +43,8 @@ use Rattle.app_loader.specs.Admitted.{AreRefused, Breaks, in_cell}
 use Rattle.app_loader.specs.Cells.{round_cell, judged_cell, cell_place}
 use Rattle.app_loader.specs.JudgedFormulas.{AreSettled, JudgedCells, app, cyclic, refused, unsettled, unsettling}
 use Rattle.app_loader.specs.Judged as judge
-use Rattle.app_loader.specs.Judged.{Judged, JudgedApp, JudgedFile, JudgedFormulas, JudgedText, misnamed, named, no_text, text, too_long}
-use Rattle.app_loader.specs.Verdicts.{AreSameBreaks, IsOneRefusalOfAFile, IsOneRefusalOfAText, IsSameBreak, bad_part, circle, same, too_deep}
+use Rattle.app_loader.specs.Judged.{Judged, JudgedApp, JudgedFile, JudgedFormulas, JudgedText, JudgedValue, misnamed, named, no_text, text, too_long}
+use Rattle.app_loader.specs.Verdicts.{AreSameBreaks, IsOneRefusalOfAFile, IsOneRefusalOfAText, IsOneRefusalOfAValue, IsSameBreak, bad_part, circle, same, too_deep}
 use Rattle.app_loader.proofs.Functions.{breaks_alike}
 use Rattle.app_loader.proofs.OneInfos.{judged_at, none_refused}
 use Rattle.app_loader.proofs.OneReading.{named_reading_one, not_both, not_both_named, reading_one}
@@ -300,6 +302,18 @@ app_same law one {w = w} (judge.read file a v p j) (judge.read _ b _ q k) =
 
 pub one_refusal_of_a_file : IsOneReading → IsOneBreak → IsOneRefusalOfAFile
 one_refusal_of_a_file law one file bs cs p q = app_same law one p q
+
+-- ---- JSON
+value_same : {root : Data} {v w : Result App (List Broken)} → JudgedValue root v → JudgedValue root w → SameRefusal v w
+value_same (judge.unread_value root b p) (judge.unread_value _ c q) = elim (one_value_break root b c p q) [ inl e ↦ told_same b c e | inr h ↦ parts_same b c h.0 h.1 ]
+value_same (judge.unread_value root b p) (judge.read_value _ a w q j) = absurd (not_held a b (one_value root a (Err b) q p))
+value_same (judge.read_value root a v p j) (judge.unread_value _ c q) = absurd (not_held a c (one_value root a (Err c) p q))
+value_same {w = w} (judge.read_value root a v p j) (judge.read_value _ b _ q k) =
+    let e : b ≡ a = held_same b a (one_value root a (Ok b) p q) in
+    file_same j (subst (λ (z : AppFile). JudgedFile z w) e k)
+
+pub one_refusal_of_a_value : IsOneRefusalOfAValue
+one_refusal_of_a_value root bs cs p q = value_same p q
 
 -- ---- texts of named formulas
 abbrev IfUnnamed : List ℕ → Result (Frame × List Cell) (List Broken) → Type 0

@@ -4,7 +4,9 @@ use Rattle.std.specs.Str.{IsUtf8}
 use Rattle.fx_core.specs.declared.broken.Broken.{Broken}
 use Rattle.fx_core.specs.declared.names.Names.{Names}
 use Rattle.fx_core.specs.declared.sources.Source.{Source}
-use Rattle.app_file.specs.Files.{IsOneReading, IsRead}
+use Rattle.serde_json.specs.Data.{Data}
+use Rattle.app_file.proofs.Verdicts.{one_value}
+use Rattle.app_file.specs.Files.{IsOneReading, IsRead, IsReadOf}
 use Rattle.app_file.specs.declared.breaks.FileBreak.{FileBreak}
 use Rattle.app_file.specs.declared.file.AppFile.{AppFile}
 use Rattle.app_cells.specs.Leaning.{cell_behind, edges_of}
@@ -23,8 +25,8 @@ use Rattle.app_loader.specs.Cycles.{IsCycle}
 use Rattle.app_loader.specs.JudgedFormulas.{AreSettled, IsAppOf, JudgedCells, app, cyclic, refused, unsettling}
 use Rattle.app_loader.specs.Supports.{without_support}
 use Rattle.app_loader.specs.Judged as judge
-use Rattle.app_loader.specs.Judged.{AreNamedFormulas, Judged, JudgedApp, JudgedFile, JudgedFormulas, JudgedText, most_source_bytes, misnamed, named, no_text, text, too_long}
-use Rattle.app_loader.specs.Verdicts.{IsOneApp, IsOneAppOfAFile, IsOneAppOfAText, IsOneVerdict, IsSameApp}
+use Rattle.app_loader.specs.Judged.{AreNamedFormulas, Judged, JudgedApp, JudgedFile, JudgedFormulas, JudgedText, JudgedValue, most_source_bytes, misnamed, named, no_text, text, too_long}
+use Rattle.app_loader.specs.Verdicts.{IsOneApp, IsOneAppOfAFile, IsOneAppOfAText, IsOneAppOfAValue, IsOneValueVerdict, IsOneVerdict, IsSameApp}
 use Rattle.app_loader.proofs.Circles.{behind_alike, edges_alike, no_circle}
 use Rattle.app_loader.proofs.Functions.{breaks_alike}
 use Rattle.app_loader.proofs.OneInfos.{infos_one, none_refused}
@@ -170,6 +172,36 @@ one_app law file a bs p q = app_agree law q a (app_accepted p)
 
 pub one_app_of_a_file : IsOneReading → IsOneAppOfAFile
 one_app_of_a_file law file a b p q = app_agree law q a (app_accepted p)
+
+-- ---- JSON
+record IsValueOf (root : Data) (b : App) : Type 0 where
+  held : AppFile
+  is_read : IsReadOf root (Ok held)
+  is_of : IsFileOf held b
+
+abbrev IfValueOf : Data → Result App (List Broken) → Type 0
+IfValueOf root (Ok b) = IsValueOf root b
+IfValueOf root (Err bs) = Unit {0}
+
+value_by : (root : Data) (a : AppFile) (v : Result App (List Broken)) → IsReadOf root (Ok a) → IfFile a v → IfValueOf root v
+value_by root a (Ok b) r h = record { held = a; is_read = r; is_of = h }
+value_by root a (Err bs) r h = tt
+
+value_accepted : {root : Data} {v : Result App (List Broken)} → JudgedValue root v → IfValueOf root v
+value_accepted (judge.unread_value root b r) = tt
+value_accepted (judge.read_value root a v r j) = value_by root a v r (file_accepted j)
+
+value_agree : {root : Data} {v : Result App (List Broken)} → JudgedValue root v → (b : App) → IsValueOf root b → Agree b v
+value_agree (judge.unread_value root c r) b h = absurd (not_held h.held c (one_value root h.held (Err c) h.is_read r))
+value_agree (judge.read_value root a v r j) b h =
+    let same : a ≡ h.held = held_same a h.held (one_value root h.held (Ok a) h.is_read r) in
+    file_agree (subst (λ (z : AppFile). JudgedFile z v) same j) b h.is_of
+
+pub one_value_verdict : IsOneValueVerdict
+one_value_verdict root a bs p q = value_agree q a (value_accepted p)
+
+pub one_app_of_a_value : IsOneAppOfAValue
+one_app_of_a_value root a b p q = value_agree q a (value_accepted p)
 
 -- ---- texts of named formulas
 record IsTextOf (source : List ℕ) (b : App) : Type 0 where

@@ -51,3 +51,6 @@ file_opens file v a e (json _ root _ h r) = root_opens root v a e r
 
 pub read_opens : (file : List ℕ) (a : AppFile) → IsRead file (Ok a) → 0 < length a.screens
 read_opens file a r = file_opens file (Ok a) a refl r
+
+pub value_opens : (root : Data) (a : AppFile) → IsReadOf root (Ok a) → 0 < length a.screens
+value_opens root a r = root_opens root (Ok a) a refl r

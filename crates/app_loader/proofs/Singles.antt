@@ -269,6 +269,10 @@ file_once file v a e (json _ root _ h r) = root_once root v a e r
 pub read_single : (file : List ℕ) (a : AppFile) → IsRead file (Ok a) → (f : Frame) (cs : List Cell) → IsReading a (Ok (f, cs)) → HaveOneTemplate cs
 read_single file a r f cs h = file_single a f cs (file_once file (Ok a) a refl r) (reading_parts h).1
 
+-- of JSON that is read
+pub value_single : (root : Data) (a : AppFile) → IsReadOf root (Ok a) → (f : Frame) (cs : List Cell) → IsReading a (Ok (f, cs)) → HaveOneTemplate cs
+value_single root a r f cs h = file_single a f cs (root_once root (Ok a) a refl r) (reading_parts h).1
+
 -- and those of a text of named formulas
 pub named_single : (source : List ℕ) (f : Frame) (cs : List Cell) → IsNamedReading source (Ok (f, cs)) → HaveOneTemplate cs
 named_single source f cs h = single 0 0 cs (named_at_rise bare_frame source cs [] (named_parts h).1 refl)

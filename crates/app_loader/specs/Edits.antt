@@ -1,6 +1,7 @@
 -- Edits of an app, judged: they make this app, or these are the breaks of the first stage that has
 -- any.
 use Rattle.std.specs.Prelude.{◌≤◌, ℕ, List, [], ◌∷◌, All, length, Result, Ok, Err}
+use Rattle.serde_json.specs.Data.{Data}
 use Rattle.fx_core.specs.declared.broken.Broken.{Broken}
 use Rattle.app_cells.specs.declared.app.App.{App}
 use Rattle.app_cells.specs.declared.cell.Cell.{Cell}
@@ -8,7 +9,7 @@ use Rattle.app_cells.specs.Spots.{IsFrame, IsPlaced}
 use Rattle.app_texts.specs.Edits.{IsEdited}
 use Rattle.app_texts.specs.Frames.{app_frame, written_texts}
 use Rattle.app_loader.specs.Cells.{AreShallow}
-use Rattle.app_loader.specs.Judged.{JudgedApp, JudgedFormulas}
+use Rattle.app_loader.specs.Judged.{JudgedApp, JudgedFormulas, JudgedValue}
 use Rattle.app_loader.specs.Verdicts.{AreSameBreaks, IsSameApp}
 
 -- What holds of an app that was loaded, and is asked of one that is to be edited: what it has
@@ -47,3 +48,7 @@ IsOneEditRefusal =
 -- an app file that is accepted is loaded
 abbrev pub LoadedApp : Type 0
 LoadedApp = (file : List ℕ) (a : App) → JudgedApp file (Ok a) → IsLoaded a
+
+-- and so is JSON that is accepted
+abbrev pub LoadedValue : Type 0
+LoadedValue = (root : Data) (a : App) → JudgedValue root (Ok a) → IsLoaded a

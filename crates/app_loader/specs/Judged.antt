@@ -7,7 +7,8 @@ use Rattle.fx_core.specs.declared.broken.Broken.{Broken}
 use Rattle.fx_core.specs.declared.names.Names.{Names}
 use Rattle.fx_core.specs.declared.rule.Rule.TheVariants as rule
 use Rattle.fx_core.specs.declared.signatures.Signature.{Signature}
-use Rattle.app_file.specs.Files.{IsRead, broken_of}
+use Rattle.serde_json.specs.Data.{Data}
+use Rattle.app_file.specs.Files.{IsRead, IsReadOf, broken_of}
 use Rattle.app_file.specs.declared.breaks.FileBreak.{FileBreak}
 use Rattle.app_file.specs.declared.file.AppFile.{AppFile}
 use Rattle.app_cells.specs.declared.app.App.{App}
@@ -56,6 +57,13 @@ pub data JudgedApp : List ℕ → Result App (List Broken) → Type 0 where
       → JudgedApp file (Err (broken_of b ∷ []))
   read : (file : List ℕ) (a : AppFile) (v : Result App (List Broken)) → IsRead file (Ok a)
       → JudgedFile a v → JudgedApp file v
+
+-- JSON, judged likewise
+pub data JudgedValue : Data → Result App (List Broken) → Type 0 where
+  unread_value : (root : Data) (b : FileBreak) → IsReadOf root (Err b)
+      → JudgedValue root (Err (broken_of b ∷ []))
+  read_value : (root : Data) (a : AppFile) (v : Result App (List Broken)) → IsReadOf root (Ok a)
+      → JudgedFile a v → JudgedValue root v
 
 -- a text of named formulas, judged
 pub data JudgedText : List ℕ → Result App (List Broken) → Type 0 where

@@ -2,10 +2,11 @@
 use Rattle.std.specs.Prelude.{◌≡◌, ℕ, List, Ok, Err, map}
 use Rattle.fx_sig.specs.Entries.{entry}
 use Rattle.std.specs.List.{AllZip}
+use Rattle.serde_json.specs.Data.{Data}
 use Rattle.fx_core.specs.declared.broken.Broken.{Broken}
 use Rattle.fx_core.specs.declared.rule.Rule.TheVariants as rule
 use Rattle.app_cells.specs.declared.app.App.{App}
-use Rattle.app_loader.specs.Judged.{Judged, JudgedApp}
+use Rattle.app_loader.specs.Judged.{Judged, JudgedApp, JudgedValue}
 
 -- no text is both accepted and refused
 abbrev pub IsOneVerdict : Type 0
@@ -16,6 +17,11 @@ IsOneVerdict = (bytes : List ℕ) (a : App) (bs : List Broken) → Judged bytes 
 abbrev pub IsOneApp : Type 0
 IsOneApp = (file : List ℕ) (a : App) (bs : List Broken) → JudgedApp file (Ok a)
     → JudgedApp file (Err bs) → ⊥
+
+-- and no JSON is
+abbrev pub IsOneValueVerdict : Type 0
+IsOneValueVerdict = (root : Data) (a : App) (bs : List Broken) → JudgedValue root (Ok a)
+    → JudgedValue root (Err bs) → ⊥
 
 -- The same formulas with their typed trees, the same names with their types, and the same row
 -- limit. Tables of functions have the same entries, and may stand at two places in memory; and the
@@ -34,6 +40,11 @@ IsOneAppOfAText = (bytes : List ℕ) (a b : App) → Judged bytes (Ok a) → Jud
 -- and so is a file
 abbrev pub IsOneAppOfAFile : Type 0
 IsOneAppOfAFile = (file : List ℕ) (a b : App) → JudgedApp file (Ok a) → JudgedApp file (Ok b)
+    → IsSameApp a b
+
+-- and so is JSON
+abbrev pub IsOneAppOfAValue : Type 0
+IsOneAppOfAValue = (root : Data) (a b : App) → JudgedValue root (Ok a) → JudgedValue root (Ok b)
     → IsSameApp a b
 
 -- The same break; or both say that a text is too deep, that formulas lean on one another in a
@@ -58,3 +69,8 @@ IsOneRefusalOfAText = (bytes : List ℕ) (bs cs : List Broken) → Judged bytes 
 abbrev pub IsOneRefusalOfAFile : Type 0
 IsOneRefusalOfAFile = (file : List ℕ) (bs cs : List Broken) → JudgedApp file (Err bs)
     → JudgedApp file (Err cs) → AreSameBreaks bs cs
+
+-- and of JSON
+abbrev pub IsOneRefusalOfAValue : Type 0
+IsOneRefusalOfAValue = (root : Data) (bs cs : List Broken) → JudgedValue root (Err bs)
+    → JudgedValue root (Err cs) → AreSameBreaks bs cs

@@ -2,7 +2,7 @@
 ghost use Rattle.std.specs.Prelude.{◌≡◌, Err, IfErr, IfOk, Ok};
 ghost use Rattle.app_texts.specs.Frames.{app_frame};
 ghost use Rattle.app_loader.specs.Edits.{IsLoaded, IsOneEdit, IsOneEdited, IsOneEditRefusal};
-ghost use Rattle.app_loader.specs.Edits.{JudgedEdit, LoadedApp};
+ghost use Rattle.app_loader.specs.Edits.{JudgedEdit, LoadedApp, LoadedValue};
 ghost use Rattle.app_semantics.specs.Sound.{IsSoundApp};
 ghost use Rattle.app_loader.specs.JudgedFormulas.{ReportsBreaks};
 ghost use Rattle.fx_types.specs.Words.{scalars_of};
@@ -65,5 +65,12 @@ pub fn loaded_app()
     ensures { LoadedApp }
 {
     read_is_sound();
+    no_deeper();
+}
+
+/// A law, and no work: JSON that is accepted is a loaded app, so that it can be edited.
+pub fn loaded_value()
+    ensures { LoadedValue }
+{
     no_deeper();
 }

@@ -19,11 +19,11 @@ pub mod writing;
 
 pub use app_cells::{App, CellInfo};
 pub use app_semantics;
-pub use editing::{edit, loaded_app, one_edit, one_edit_refusal, one_edited};
+pub use editing::{edit, loaded_app, loaded_value, one_edit, one_edit_refusal, one_edited};
 pub use finding::find;
 pub use fx_core::{AppEnd, Broken};
-pub use loading::{load, load_named};
+pub use loading::{load, load_named, load_value};
 pub use verdicts::{
-    one_app, one_app_of_a_file, one_app_of_a_text, one_refusal_of_a_file, one_refusal_of_a_text,
-    one_verdict,
+    one_app, one_app_of_a_file, one_app_of_a_text, one_app_of_a_value, one_refusal_of_a_file,
+    one_refusal_of_a_text, one_refusal_of_a_value, one_value_verdict, one_verdict,
 };

@@ -2,7 +2,9 @@
 ghost use Rattle.std.specs.Prelude.{◌≡◌, ◌<◌, ◌≤◌, ◌∷◌, [], All, Err, IfErr, IfOk, Ok, length};
 ghost use Rattle.app_cells.specs.Spots.{IsFrame, IsPlaced};
 ghost use Rattle.app_loader.specs.Judged.{HasSingles, Judged, JudgedApp, JudgedFile};
-ghost use Rattle.app_loader.specs.Judged.{JudgedFormulas, JudgedText, most_source_bytes};
+ghost use Rattle.app_loader.specs.Judged.{JudgedFormulas, JudgedText, JudgedValue};
+ghost use Rattle.app_loader.specs.Judged.{most_source_bytes};
+ghost use Rattle.serde_json.specs.View.{view};
 ghost use Rattle.app_names.specs.NameRules as rules;
 ghost use Rattle.app_semantics.specs.Sound.{IsSoundApp};
 ghost use Rattle.app_loader.specs.Accepted.{HaveOneTemplate};
@@ -22,6 +24,7 @@ use fx_base::{Memory, OrMemory};
 use fx_core::{AppEnd, Broken, Rule};
 use fx_infer::no_deeper;
 use fx_types::Words;
+use serde_json::Value as Json;
 use std::alloc::Global;
 
 /// The most bytes of a text of named formulas.
@@ -40,6 +43,25 @@ pub fn load(alloc: Global, bytes: &[u8]) -> Result<App, AppEnd>
     // The law is called for what it says of what is read of a file.
     read_is_sound();
     match app_file::read(alloc, bytes) {
+        Ok(file) => load_file(alloc, file),
+        Err(OrMemory::Refused(broken)) => {
+            let broken = broken.into_broken(alloc)?;
+            Err(only(alloc, broken))
+        }
+        Err(OrMemory::Memory) => Err(AppEnd::Memory),
+    }
+}
+
+/// The app that JSON holds. What breaks a rule is refused as that of an app file is, but for the
+/// length of a file, and that it is JSON.
+pub fn load_value(alloc: Global, value: &Json) -> Result<App, AppEnd>
+    ensures app { IfOk result (λ a. JudgedValue (view value.now) (Ok a)) }
+    ensures sound { IfOk result IsSoundApp }
+    ensures opens { IfOk result (λ a. 0 < length a.names.screens) }
+    ensures tables { IfOk result (λ a. HoldsTables a.names) }
+    ensures refused { IfErr result (ReportsBreaks (λ bs. JudgedValue (view value.now) (Err bs))) }
+{
+    match app_file::read_value(alloc, value) {
         Ok(file) => load_file(alloc, file),
         Err(OrMemory::Refused(broken)) => {
             let broken = broken.into_broken(alloc)?;

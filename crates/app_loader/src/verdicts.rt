@@ -1,5 +1,7 @@
 //! What verdicts files and texts may have.
 ghost use Rattle.app_loader.specs.Verdicts.{IsOneApp, IsOneAppOfAFile, IsOneAppOfAText};
+ghost use Rattle.app_loader.specs.Verdicts.{IsOneAppOfAValue, IsOneRefusalOfAValue};
+ghost use Rattle.app_loader.specs.Verdicts.{IsOneValueVerdict};
 ghost use Rattle.app_loader.specs.Verdicts.{IsOneRefusalOfAFile, IsOneRefusalOfAText, IsOneVerdict};
 
 use app_file::{one_break, one_reading};
@@ -43,3 +45,18 @@ pub fn one_refusal_of_a_file()
     one_reading();
     one_break();
 }
+
+/// A law, and no work: no JSON is both accepted and refused.
+pub fn one_value_verdict()
+    ensures { IsOneValueVerdict }
+{}
+
+/// A law, and no work: JSON that is accepted is one app.
+pub fn one_app_of_a_value()
+    ensures { IsOneAppOfAValue }
+{}
+
+/// A law, and no work: of JSON that is refused the same breaks are told.
+pub fn one_refusal_of_a_value()
+    ensures { IsOneRefusalOfAValue }
+{}
