@@ -21,7 +21,7 @@ use Rattle.session_state.proofs.Moving.{apart, was as was_of}
 use Rattle.session_state.specs.Carrying.{collection_was, place_of_collection}
 use Rattle.session_state.specs.Sessions.{SessionState}
 use Rattle.recalc.specs.Outcomes.{IsRestarted, let_out}
-use Rattle.recalc.specs.Carrying.{AreHad, IsCarried, IsCarriedAt, IsEditOf, IsOldCell, cell_was, place_of_cell, received, taken_from}
+use Rattle.recalc.specs.Carrying.{AreHad, IsBegunAnew, IsCarried, IsCarriedAt, IsEditOf, IsOldCell, cell_was, place_of_cell, received, taken_from}
 use Rattle.recalc.specs.Kept.{IsClean, IsInOrder, IsRoomFor, CacheState, Leans, source_index, stamp_of, cached_value}
 use Rattle.recalc.specs.declared.stamps.Stamp.{Stamp}
 
@@ -217,6 +217,29 @@ module _ (old new : App) (before from after : CacheState) (i j : ℕ) (e : Stamp
         get_or-set_other from.values.cells j c blank blank far ∙ f.left p c (omega (arith, low)) inside was;
     order = taken_order old from j f.order;
   }
+
+-- in the room that was used up nothing is kept yet, which is in order for the app
+pub begun_anew : (a : App) (before after : CacheState) → IsRoomFor a before.room → IsRestarted (length a.cells) before after → IsBegunAnew a before after
+begun_anew a before after room h = record {
+  order = record {
+    few = room.few;
+    stamps = h.cells;
+    values = h.valued;
+    places = λ s there. subst (λ n. source_index s < n) (sym h.places) (room.places s there);
+    fits = λ k c at. subst (λ d. fits_in d (shape c.ty) ≡ true) (sym (h.values k)) refl;
+    bare = λ k aside. h.values k;
+    alone = λ k e is. (let no : None ≡ Some e = sym (h.stamps k) ∙ is in absurd cc);
+    leans = λ k d e is current leans. (let no : None ≡ Some e = sym (h.stamps k) ∙ is in absurd cc);
+    low = record {
+      versions = λ p. (let zero_ = h.versions p in omega (arith, zero_));
+      checked = λ k e is. (let no : None ≡ Some e = sym (h.stamps k) ∙ is in absurd cc);
+      moved = λ k e is. (let no : None ≡ Some e = sym (h.stamps k) ∙ is in absurd cc);
+    };
+  };
+  empty = h.stamps;
+  emptied = h.emptied;
+  day = h.day;
+}
 
 -- in the room nothing is kept yet
 pub filling_start : (old new : App) (before after : CacheState) → IsInOrder old before → IsRoomFor new before.room → IsRestarted (length new.cells) before after → IsFilling old new before (let_out before) 0 after

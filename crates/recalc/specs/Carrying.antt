@@ -190,3 +190,10 @@ pub record IsCarried (old new : App) (before after : CacheState) : Type 0 where
   pub right : (s : SessionState) (tables : ToldRows) (m : ℕ) → HoldsFitting old.names s
       → IsRight (present old s tables m) [] before
       → IsRight (present new (carried old.names new.names s) tables m) [] after
+
+-- BEGUN ANEW for an app that replaces the old one: nothing is kept, and the day stays
+pub record IsBegunAnew (a : App) (before after : CacheState) : Type 0 where
+  pub order : IsInOrder a after
+  pub empty : (k : ℕ) → stamp_of after k ≡ None
+  pub emptied : after.emptied ≡ before.emptied
+  pub day : after.values.day ≡ before.values.day

@@ -9,7 +9,8 @@ ghost use Rattle.recalc.specs.app_semantics.Needed.{is_alone as is_alone_in};
 ghost use Rattle.recalc.specs.app_semantics.Needed.{stands_alone as is_by_itself};
 ghost use Rattle.recalc.specs.app_semantics.Sound.{IsSoundApp};
 ghost use Rattle.recalc.specs.Filling.{IsFilling};
-ghost use Rattle.recalc.specs.Carrying.{AreOldCells, AreOldPlaces, IsCarried, IsCarriedAt};
+ghost use Rattle.recalc.specs.Carrying.{AreOldCells, AreOldPlaces, IsBegunAnew, IsCarried};
+ghost use Rattle.recalc.specs.Carrying.{IsCarriedAt};
 ghost use Rattle.recalc.specs.Carrying.{IsEditOf, IsLeft, IsOldCell};
 ghost use Rattle.recalc.specs.Kept.{IsInOrder, IsRoomFor, CacheState, stamp_of};
 
@@ -192,5 +193,14 @@ impl Cache {
         for number in order {
             self.carry_next(&mut from, old, new, cells, *number);
         }
+    }
+
+    /// Goes over to an app that replaces the old one, in the room that was made, which is used up.
+    /// Nothing is kept any more. It takes no memory.
+    pub fn begin_anew(&mut self, app: &App)
+        requires { IsRoomFor app.now self.old.room }
+        ensures { IsBegunAnew app.now self.old self.new }
+    {
+        let _kept = self.restart(app.cells.len());
     }
 }
