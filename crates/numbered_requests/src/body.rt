@@ -32,7 +32,7 @@ pub trait Body: Drop {
 }
 
 /// The JSON that a body is, if it is one.
-pub(crate) fn json_of(alloc: Global, body: &[u8]) -> Result<Option<Json>, Memory>
+pub fn json_of(alloc: Global, body: &[u8]) -> Result<Option<Json>, Memory>
     ensures { IfOk result (λ j. option_map json_view j ≡ json_in_body body.now) }
 {
     let Ok(text) = std::str::from_utf8(body) else {

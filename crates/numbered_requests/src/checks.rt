@@ -189,14 +189,45 @@ fn check_shape<B: Body>(alloc: Global, json: &Json) -> Result<Checked<B>, Memory
     }
 }
 
+/// Checks what the JSON of a body asks for, where it is some.
+fn check_json<B: Body>(alloc: Global, json: Option<&Json>) -> Result<Checked<B>, Memory>
+    ensures is { IfOk result (IsChecked (worded B.asked
+        (option_map (λ j. json_view j.now) json.entry))) }
+    ensures sound { IfOk result (IsSoundCheck B.sound) }
+{
+    match json {
+        Some(json) => check_shape(alloc, json),
+        None => refuse(alloc, 9),
+    }
+}
+
 /// Checks what a body asks for.
 fn check_body<B: Body>(alloc: Global, body: &[u8]) -> Result<Checked<B>, Memory>
     ensures is { IfOk result (IsChecked (worded B.asked (json_in_body body.now))) }
     ensures sound { IfOk result (IsSoundCheck B.sound) }
 {
-    match json_of(alloc, body)? {
-        Some(json) => check_shape(alloc, &json),
-        None => refuse(alloc, 9),
+    let json = json_of(alloc, body)?;
+    check_json(alloc, json.as_ref())
+}
+
+/// Checks a desk's request as `check_desk` does, where the JSON of its body is read already, if it
+/// is some.
+pub fn check_desk_json<B: Body>(
+    alloc: Global,
+    desks: &[Named<Desk>],
+    name: &Words,
+    body: &[u8],
+    json: Option<&Json>,
+) -> Result<Checked<B>, Memory>
+    requires kept { KeepReplies desks.now }
+    requires read { option_map (λ j. json_view j.now) json ≡ json_in_body body.now }
+    ensures is { IfOk result (IsChecked (checks B.asked B.number (desk_of name.now desks.now)
+        body.now)) }
+    ensures sound { IfOk result (IsSoundCheck B.sound) }
+{
+    match check_json(alloc, json)? {
+        Checked::Acts(asked) => check_desk_number(alloc, desks, name, body, asked),
+        Checked::Says(reply) => Ok(Checked::Says(reply)),
     }
 }
 
@@ -213,10 +244,8 @@ pub fn check_desk<B: Body>(
         body.now)) }
     ensures sound { IfOk result (IsSoundCheck B.sound) }
 {
-    match check_body(alloc, body)? {
-        Checked::Acts(asked) => check_desk_number(alloc, desks, name, body, asked),
-        Checked::Says(reply) => Ok(Checked::Says(reply)),
-    }
+    let json = json_of(alloc, body)?;
+    check_desk_json(alloc, desks, name, body, json.as_ref())
 }
 
 /// Checks a session's request: its body is JSON (9) and has the shape (10), the session is live

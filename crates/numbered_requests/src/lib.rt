@@ -9,8 +9,8 @@ pub mod edit;
 pub mod reply;
 pub mod values;
 
-pub use body::Body;
-pub use checks::{Checked, MOST_DESKS, check_desk, check_session};
+pub use body::{Body, json_of};
+pub use checks::{Checked, MOST_DESKS, check_desk, check_desk_json, check_session};
 pub use directory::{Named, is_among, place_of, put};
 pub use edit::Edit;
 pub use reply::Reply;
