@@ -18,7 +18,7 @@ use Rattle.app_wire.specs.declared.head.Method.TheVariants as method
 use Rattle.app_wire.specs.declared.route.Place.{Place}
 use Rattle.app_wire.specs.declared.route.Place.TheVariants as place
 use Rattle.app_wire.specs.declared.route.Route.{Route}
-use Rattle.app_wire.specs.declared.route.Route.TheVariants.{Begin, End, View, Named, Items, Event, Input, Rows, Edit, Page, Plan, Graph}
+use Rattle.app_wire.specs.declared.route.Route.TheVariants.{Begin, End, View, Named, Items, Event, Input, Rows, Edit, Replace, Page, Plan, Graph}
 use Rattle.app_wire.specs.declared.route.RouteEnd.{RouteEnd}
 use Rattle.app_wire.specs.declared.route.RouteEnd.TheVariants.{NoRoute, WrongMethod, Memory}
 use Rattle.app_wire.proofs.RouteSteps.{Has}
@@ -30,17 +30,18 @@ Among p [] = ⊥
 Among p (q ∷ rest) = (q ≡ p) ⊎ Among p rest
 
 among : (p : Place) → Among p places
-among place.Edit = inl refl
-among place.Rows = inr (inl refl)
-among place.Graph = inr (inr (inl refl))
-among place.Plan = inr (inr (inr (inl refl)))
-among place.Page = inr (inr (inr (inr (inl refl))))
-among place.Event = inr (inr (inr (inr (inr (inl refl)))))
-among place.Input = inr (inr (inr (inr (inr (inr (inl refl))))))
-among place.Items = inr (inr (inr (inr (inr (inr (inr (inl refl)))))))
-among place.Named = inr (inr (inr (inr (inr (inr (inr (inr (inl refl))))))))
-among place.View = inr (inr (inr (inr (inr (inr (inr (inr (inr (inl refl)))))))))
-among place.Session = inr (inr (inr (inr (inr (inr (inr (inr (inr (inr (inl refl))))))))))
+among place.Replace = inl refl
+among place.Edit = inr (inl refl)
+among place.Rows = inr (inr (inl refl))
+among place.Graph = inr (inr (inr (inl refl)))
+among place.Plan = inr (inr (inr (inr (inl refl))))
+among place.Page = inr (inr (inr (inr (inr (inl refl)))))
+among place.Event = inr (inr (inr (inr (inr (inr (inl refl))))))
+among place.Input = inr (inr (inr (inr (inr (inr (inr (inl refl)))))))
+among place.Items = inr (inr (inr (inr (inr (inr (inr (inr (inl refl))))))))
+among place.Named = inr (inr (inr (inr (inr (inr (inr (inr (inr (inl refl)))))))))
+among place.View = inr (inr (inr (inr (inr (inr (inr (inr (inr (inr (inl refl))))))))))
+among place.Session = inr (inr (inr (inr (inr (inr (inr (inr (inr (inr (inr (inl refl)))))))))))
 
 plain_words : (p : Place) → are_plain (kinds p) ≡ true
 plain_words place.Session = refl
@@ -51,6 +52,7 @@ plain_words place.Event = refl
 plain_words place.Input = refl
 plain_words place.Rows = refl
 plain_words place.Edit = refl
+plain_words place.Replace = refl
 plain_words place.Page = refl
 plain_words place.Plan = refl
 plain_words place.Graph = refl
@@ -99,6 +101,7 @@ kinds_are (Event n) = refl
 kinds_are (Input n) = refl
 kinds_are (Rows n) = refl
 kinds_are (Edit n) = refl
+kinds_are (Replace n) = refl
 kinds_are (Page t a) = refl
 kinds_are Plan = refl
 kinds_are Graph = refl
@@ -293,6 +296,7 @@ route_by place.Event m ps = Event (name_at ps 1)
 route_by place.Input m ps = Input (name_at ps 1)
 route_by place.Rows m ps = Rows (name_at ps 1)
 route_by place.Edit m ps = Edit (name_at ps 1)
+route_by place.Replace m ps = Replace (name_at ps 1)
 route_by place.Page m ps = Page (name_at ps 1) (count_at ps 2)
 route_by place.Plan m ps = Plan
 route_by place.Graph m ps = Graph
@@ -308,6 +312,7 @@ by_parts (Event n) = refl
 by_parts (Input n) = refl
 by_parts (Rows n) = refl
 by_parts (Edit n) = refl
+by_parts (Replace n) = refl
 by_parts (Page t a) = refl
 by_parts Plan = refl
 by_parts Graph = refl
@@ -391,6 +396,7 @@ is_session place.Event = false
 is_session place.Input = false
 is_session place.Rows = false
 is_session place.Edit = false
+is_session place.Replace = false
 is_session place.Page = false
 is_session place.Plan = false
 is_session place.Graph = false
@@ -404,6 +410,7 @@ method_at place.Event = method.Post
 method_at place.Input = method.Post
 method_at place.Rows = method.Post
 method_at place.Edit = method.Post
+method_at place.Replace = method.Post
 method_at place.Page = method.Get
 method_at place.Plan = method.Get
 method_at place.Graph = method.Get
@@ -419,6 +426,7 @@ one_method (Event n) e = refl
 one_method (Input n) e = refl
 one_method (Rows n) e = refl
 one_method (Edit n) e = refl
+one_method (Replace n) e = refl
 one_method (Page t a) e = refl
 one_method Plan e = refl
 one_method Graph e = refl
@@ -476,6 +484,7 @@ reads_begin path name m at e h = (said_path path (Begin name) at (h, tt), refl, 
     by (Input n) p is = cc
     by (Rows n) p is = cc
     by (Edit n) p is = cc
+    by (Replace n) p is = cc
     by (Page t a) p is = cc
     by Plan p is = cc
     by Graph p is = cc

@@ -11,7 +11,8 @@ use Rattle.app_wire.specs.declared.route.Place.{Place}
 use Rattle.app_wire.specs.declared.route.Place.TheVariants as place
 use Rattle.app_wire.specs.declared.route.Route.{Route}
 use Rattle.app_wire.specs.declared.route.Route.TheVariants.{Begin, End, View, Named, Items, Event}
-use Rattle.app_wire.specs.declared.route.Route.TheVariants.{Input, Rows, Edit, Page, Plan, Graph}
+use Rattle.app_wire.specs.declared.route.Route.TheVariants.{Input, Rows, Edit, Replace}
+use Rattle.app_wire.specs.declared.route.Route.TheVariants.{Page, Plan, Graph}
 use Rattle.app_wire.specs.declared.route.RouteEnd.{RouteEnd}
 use Rattle.app_wire.specs.declared.route.RouteEnd.TheVariants.{NoRoute, WrongMethod, Memory}
 
@@ -32,6 +33,7 @@ kinds place.Event = text (codes "s") ∷ caller ∷ text (codes "event") ∷ []
 kinds place.Input = text (codes "s") ∷ caller ∷ text (codes "input") ∷ []
 kinds place.Rows = text (codes "desk") ∷ caller ∷ text (codes "rows") ∷ []
 kinds place.Edit = text (codes "desk") ∷ caller ∷ text (codes "edit") ∷ []
+kinds place.Replace = text (codes "desk") ∷ caller ∷ text (codes "app") ∷ []
 kinds place.Page = text (codes "rows") ∷ title ∷ number ∷ []
 kinds place.Plan = text (codes "plan") ∷ []
 kinds place.Graph = text (codes "graph") ∷ []
@@ -58,6 +60,7 @@ route_pattern place.Event = (codes "/s/{name}/event", (4, 8) ∷ [])
 route_pattern place.Input = (codes "/s/{name}/input", (4, 8) ∷ [])
 route_pattern place.Rows = (codes "/desk/{name}/rows", (7, 11) ∷ [])
 route_pattern place.Edit = (codes "/desk/{name}/edit", (7, 11) ∷ [])
+route_pattern place.Replace = (codes "/desk/{name}/app", (7, 11) ∷ [])
 route_pattern place.Page = (codes "/rows/{table}/{after}", (7, 12) ∷ (15, 20) ∷ [])
 route_pattern place.Plan = (codes "/plan", [])
 route_pattern place.Graph = (codes "/graph", [])
@@ -73,8 +76,8 @@ route_row p = record {
 -- all places, in the router's order: a pattern stands after those that go on from it
 abbrev pub places : List Place
 places =
-    place.Edit ∷ place.Rows ∷ place.Graph ∷ place.Plan ∷ place.Page ∷ place.Event ∷ place.Input
-    ∷ place.Items ∷ place.Named
+    place.Replace ∷ place.Edit ∷ place.Rows ∷ place.Graph ∷ place.Plan ∷ place.Page ∷ place.Event
+    ∷ place.Input ∷ place.Items ∷ place.Named
     ∷ place.View ∷ place.Session ∷ []
 
 -- the router's rows
@@ -124,6 +127,7 @@ route_index (Event name) = place.Event
 route_index (Input name) = place.Input
 route_index (Rows name) = place.Rows
 route_index (Edit name) = place.Edit
+route_index (Replace name) = place.Replace
 route_index (Page name after) = place.Page
 route_index Plan = place.Plan
 route_index Graph = place.Graph

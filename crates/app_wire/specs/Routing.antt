@@ -11,7 +11,8 @@ use Rattle.app_wire.specs.declared.head.Method.{Method}
 use Rattle.app_wire.specs.declared.head.Method.TheVariants.{Get, Put, Post, Delete}
 use Rattle.app_wire.specs.declared.route.Route.{Route}
 use Rattle.app_wire.specs.declared.route.Route.TheVariants.{Begin, End, View, Named, Items, Event}
-use Rattle.app_wire.specs.declared.route.Route.TheVariants.{Input, Rows, Edit, Page, Plan, Graph}
+use Rattle.app_wire.specs.declared.route.Route.TheVariants.{Input, Rows, Edit, Replace}
+use Rattle.app_wire.specs.declared.route.Route.TheVariants.{Page, Plan, Graph}
 use Rattle.app_wire.specs.declared.route.RouteEnd.{RouteEnd}
 use Rattle.app_wire.specs.declared.route.RouteEnd.TheVariants.{NoRoute, WrongMethod, Memory}
 
@@ -83,6 +84,7 @@ route_path (Event name) = word (codes "s") ∷ caller name ∷ word (codes "even
 route_path (Input name) = word (codes "s") ∷ caller name ∷ word (codes "input") ∷ []
 route_path (Rows name) = word (codes "desk") ∷ caller name ∷ word (codes "rows") ∷ []
 route_path (Edit name) = word (codes "desk") ∷ caller name ∷ word (codes "edit") ∷ []
+route_path (Replace name) = word (codes "desk") ∷ caller name ∷ word (codes "app") ∷ []
 route_path (Page name after) = word (codes "rows") ∷ title name ∷ number after ∷ []
 route_path Plan = word (codes "plan") ∷ []
 route_path Graph = word (codes "graph") ∷ []
@@ -102,6 +104,7 @@ method_of (Event name) = Post
 method_of (Input name) = Post
 method_of (Rows name) = Post
 method_of (Edit name) = Post
+method_of (Replace name) = Post
 method_of (Page name after) = Get
 method_of Plan = Get
 method_of Graph = Get

@@ -25,6 +25,8 @@ pub(crate) enum Place {
     Rows,
     /// `/desk/{name}/edit`
     Edit,
+    /// `/desk/{name}/app`
+    Replace,
     /// `/rows/{table}/{after}`
     Page,
     /// `/plan`
@@ -53,6 +55,8 @@ pub enum Route {
     Rows(Words),
     /// `POST /desk/{name}/edit`
     Edit(Words),
+    /// `POST /desk/{name}/app`
+    Replace(Words),
     /// `GET /rows/{table}/{after}`
     Page(Words, u32),
     /// `GET /plan`
@@ -75,6 +79,7 @@ impl Drop for Route {
             Route::Input(_) => {}
             Route::Rows(_) => {}
             Route::Edit(_) => {}
+            Route::Replace(_) => {}
             Route::Page(_, _) => {}
             Route::Plan => {}
             Route::Graph => {}
@@ -90,7 +95,11 @@ impl Route {
         match self {
             Route::Begin(_) => Method::Put,
             Route::End(_) => Method::Delete,
-            Route::Event(_) | Route::Input(_) | Route::Rows(_) | Route::Edit(_) => Method::Post,
+            Route::Event(_)
+            | Route::Input(_)
+            | Route::Rows(_)
+            | Route::Edit(_)
+            | Route::Replace(_) => Method::Post,
             Route::View(_)
             | Route::Named(_)
             | Route::Items(_, _, _)

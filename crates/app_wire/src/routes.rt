@@ -33,6 +33,7 @@ fn add_places(router: &mut Router<Place>) -> Result<(), InsertError>
     router.insert("/s/{name}/input", Place::Input)?;
     router.insert("/desk/{name}/rows", Place::Rows)?;
     router.insert("/desk/{name}/edit", Place::Edit)?;
+    router.insert("/desk/{name}/app", Place::Replace)?;
     router.insert("/rows/{table}/{after}", Place::Page)?;
     router.insert("/plan", Place::Plan)?;
     router.insert("/graph", Place::Graph)?;
@@ -68,6 +69,7 @@ fn route_at(alloc: Global, place: Place, method: Method, path: &str) -> Result<R
         Place::Input => Ok(Route::Input(caller_at(alloc, path, 2)?)),
         Place::Rows => Ok(Route::Rows(caller_at(alloc, path, 2)?)),
         Place::Edit => Ok(Route::Edit(caller_at(alloc, path, 2)?)),
+        Place::Replace => Ok(Route::Replace(caller_at(alloc, path, 2)?)),
         Place::Page => Ok(Route::Page(title_at(alloc, path, 2)?, number_at(path, 3)?)),
         Place::Plan => Ok(Route::Plan),
         Place::Graph => Ok(Route::Graph),

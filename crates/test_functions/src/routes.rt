@@ -100,6 +100,7 @@ fn put_route(page: &mut Page, route: &Route) {
         Route::Input(name) => put_name(page, "Input ", name),
         Route::Rows(name) => put_name(page, "Rows ", name),
         Route::Edit(name) => put_name(page, "Edit ", name),
+        Route::Replace(name) => put_name(page, "Replace ", name),
         Route::Page(table, after) => {
             put_name(page, "Page ", table);
             page.put_made(format!(in page.alloc; " {after}"));

@@ -17,4 +17,5 @@ returns c =
     let j = c.in_ok-insert-9.ensures in
     let k = c.in_ok-insert-10.ensures in
     let l = c.in_ok-insert-11.ensures in
-    rw (l.1, k.1, j.1, i.1, h.1, g.1, f.1, e.1, d.1, b.1, a.1, c.requires) (refl {a = route_table})
+    let m = c.in_ok-insert-12.ensures in
+    rw (m.1, l.1, k.1, j.1, i.1, h.1, g.1, f.1, e.1, d.1, b.1, a.1, c.requires) (refl {a = route_table})

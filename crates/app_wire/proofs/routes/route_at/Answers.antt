@@ -1,5 +1,5 @@
 use Rattle.std.proofs.Common.{refl}
-use Rattle.app_wire.specs.declared.route.Route.TheVariants.{Edit, Event, Graph, Input, Items, Named, Page, Plan, Rows, View}
+use Rattle.app_wire.specs.declared.route.Route.TheVariants.{Edit, Event, Graph, Input, Items, Named, Page, Plan, Replace, Rows, View}
 use Rattle.app_wire.proofs.RoutePlaces.{reads_at}
 use Rattle.app_wire.proofs.routes.route_at.Goals as goal
 
@@ -20,6 +20,9 @@ returns-in_ok-caller_at-in-Rows c = reads_at c.args.place c.args.method c.args.p
 
 pub returns-in_ok-caller_at-in-Edit : goal.returns-in_ok-caller_at-in-Edit
 returns-in_ok-caller_at-in-Edit c = reads_at c.args.place c.args.method c.args.path.now (Edit c.in_ok-caller_at-in-Edit.field-0) c.in-Edit.is c.requires refl (c.in_ok-caller_at-in-Edit.ensures, tt)
+
+pub returns-in_ok-caller_at-in-Replace : goal.returns-in_ok-caller_at-in-Replace
+returns-in_ok-caller_at-in-Replace c = reads_at c.args.place c.args.method c.args.path.now (Replace c.in_ok-caller_at-in-Replace.field-0) c.in-Replace.is c.requires refl (c.in_ok-caller_at-in-Replace.ensures, tt)
 
 pub returns-in_ok-number_at-in-Items : goal.returns-in_ok-number_at-in-Items
 returns-in_ok-number_at-in-Items c =
