@@ -2,9 +2,7 @@
 use Rattle.std.proofs.Common.{◌≡◌, ℕ, suc, ◌+◌, ◌<◌, ◌≤◌, Bool, true, false, ◌&&◌, List, [], ◌∷◌, ◌++◌, length, get_or, drop, refl, sym, ap, ◌∙◌, subst, arith, append_assoc, length-append}
 use Rattle.std.proofs.Math.Seq.{drop-cons}
 use Rattle.std.proofs.lemmas.List.{append-nil}
-use Rattle.std.specs.Prelude.{◌||◌, Option, Some, None, codes, is_some, unwrap_or, if◌then◌else◌}
-use Rattle.fx_plan.specs.Mixed.{MixOf, mix_of}
-use Rattle.fx_plan.specs.QueryExpressions.{sketch_of}
+use Rattle.std.specs.Prelude.{Some, codes, unwrap_or}
 use Rattle.std.proofs.Math.Bool.{and-false, and-true}
 use Rattle.fx_core.specs.declared.functions.Fun.{Fun}
 use Rattle.fx_core.specs.declared.schema.TableShape.{TableShape}
@@ -15,7 +13,7 @@ use Rattle.fx_plan.specs.declared.site_list.Scoped.{Scoped}
 use Rattle.fx_plan.specs.declared.site_list.Scoped.TheVariants.{Formulas}
 use Rattle.fx_core.specs.declared.sites.Site.{Site}
 use Rattle.fx_plan.specs.SitePlaces.{scope_opened, parts_in, stand_at, within_call}
-use Rattle.fx_plan.specs.Sites.{Position, Use, deeper, is_asked, is_query, listed, opens_row_scope, own_by, own_use, part_at, site, site_use, sites_numbered, takes_whole, terms_count, totals, use_by, uses_among, uses_in}
+use Rattle.fx_plan.specs.Sites.{Position, Use, deeper, is_asked, listed, opens_row_scope, own_use, part_at, site, sites_numbered, takes_whole, terms_count, totals, uses_among, uses_in}
 
 numbered_length : (n : ℕ) (us : List Use) → length (sites_numbered n us) ≡ length us
 numbered_length n [] = refl
@@ -137,17 +135,3 @@ pub totals_none : (ts : List TableShape) (k : ℕ) (q : Term) (cs : List Term) �
 totals_none ts k q [] h = absurd (omega (arith, h))
 totals_none ts k q (a ∷ []) h = absurd (omega (arith, h))
 totals_none ts k q (a ∷ b ∷ cs) h = refl
-
--- whether one query is asked for a tree
-pub mixed_asked : (ts : List TableShape) (k : ℕ) (t : Term) (m : MixOf) → mix_of ts k t ≡ Some m → true ≡ is_asked ts k t
-mixed_asked ts k t m e = sym (ap (λ (o : Option MixOf). is_some o || is_query ts k t) e)
-
-pub other_asked : (ts : List TableShape) (k : ℕ) (t : Term) (b : Bool) → mix_of ts k t ≡ None → b ≡ is_query ts k t → b ≡ is_asked ts k t
-other_asked ts k t b e f = f ∙ sym (ap (λ (o : Option MixOf). is_some o || is_query ts k t) e)
-
--- what is listed of a tree itself
-pub mixed_own : (ts : List TableShape) (p : Position) (t : Term) (m : MixOf) → mix_of ts p.depth t ≡ Some m → site_use m.table (codes "Filter") false ∷ [] ≡ own_use ts p t
-mixed_own ts p t m e = sym (ap (λ (o : Option MixOf). own_by p o (sketch_of ts p.depth t)) e)
-
-pub other_own : (ts : List TableShape) (p : Position) (t : Term) (us : List Use) → mix_of ts p.depth t ≡ None → us ≡ (if p.inner then [] else use_by p (sketch_of ts p.depth t)) → us ≡ own_use ts p t
-other_own ts p t us e f = f ∙ sym (ap (λ (o : Option MixOf). own_by p o (sketch_of ts p.depth t)) e)

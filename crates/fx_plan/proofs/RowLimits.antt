@@ -1,21 +1,19 @@
 -- Parts, limited one after another.
-use Rattle.std.specs.Prelude.{◌&&◌, ◌||◌}
-use Rattle.std.proofs.Common.{◌≡◌, ℕ, suc, ◌+◌, ◌<◌, Bool, true, false, not, Option, List, [], ◌∷◌, ◌++◌, length, get_or, drop, refl, sym, ap, ◌∙◌, subst, arith, append_assoc}
+use Rattle.std.proofs.Common.{◌≡◌, ℕ, suc, ◌+◌, ◌<◌, Bool, false, List, [], ◌∷◌, ◌++◌, length, get_or, drop, refl, sym, ap, ◌∙◌, subst, arith, append_assoc}
 use Rattle.std.proofs.Math.Seq.{drop-cons}
 use Rattle.std.proofs.Math.Bool.{and-false, and-true}
 use Rattle.fx_plan.specs.declared.site_list.Scoped.{Scoped}
 use Rattle.fx_plan.specs.declared.site_list.Scoped.TheVariants.{Nothing, Others, Formulas}
-use Rattle.fx_plan.specs.Mixed.{MixOf, mix_of}
-use Rattle.fx_plan.specs.Sites.{terms_count, deeper, is_asked, is_formula, is_query, is_update, opens_row_scope, takes_whole}
+use Rattle.fx_plan.specs.Sites.{terms_count, deeper, is_formula, is_update, opens_row_scope}
 use Rattle.fx_types.specs.Types.{Shape}
 use Rattle.fx_core.specs.declared.deeds.Deed.{Deed}
 use Rattle.fx_core.specs.declared.functions.Form.{Form}
 use Rattle.fx_core.specs.declared.functions.Fun.{Fun}
 use Rattle.fx_core.specs.Rows.{row_of, takes_at}
 use Rattle.fx_core.specs.declared.schema.TableShape.{TableShape}
-use Rattle.fx_core.specs.Term.{Term, Terms, of, nil, cons, all, term_field_names, field_terms, Top}
+use Rattle.fx_core.specs.Term.{Term, of, nil, cons, all, term_field_names, field_terms, Top}
 use Rattle.fx_core.specs.Term as top
-use Rattle.fx_plan.specs.Limited.{limited, parts_limited, taken_as, takes_first_whole}
+use Rattle.fx_plan.specs.Limited.{limited, parts_limited, takes_first_whole}
 use Rattle.fx_plan.specs.Limits.{depth_at, each_limited, fields_limited, with_limited_parts}
 
 module _ (ts : List TableShape) (n k : ℕ) (h : Top) (m : ℕ) (depth : ℕ → ℕ) where
@@ -51,21 +49,6 @@ count_is [] = refl
 count_is (c ∷ cs) = ap suc (count_is cs)
 
 -- ---- one tree
-
--- a tree as it is taken, from itself with its parts limited
-limited_is : (ts : List TableShape) (n k : ℕ) (w : Bool) (t : Term) → limited ts n k w t ≡ taken_as n (mix_of ts k t) (is_query ts k t && not w) (with_limited_parts ts n k t)
-limited_is ts n k w (of h cs) = refl
-
-pub taken_limited : (ts : List TableShape) (n k : ℕ) (w : Bool) (t : Term) (o : Option MixOf) (cut : Bool) (x y : Term) →
-    o ≡ mix_of ts k t → cut ≡ (is_query ts k t && not w) → x ≡ with_limited_parts ts n k t → y ≡ taken_as n o cut x → y ≡ limited ts n k w t
-taken_limited ts n k w t o cut x y a b c d = d ∙ (λ i. taken_as n (a i) (b i) (c i)) ∙ sym (limited_is ts n k w t)
-
--- whether the first part may be taken whole
-pub asked_first : (ts : List TableShape) (k : ℕ) (t : Term) → is_asked ts k t ≡ true → true ≡ takes_first_whole ts k t
-asked_first ts k t e = sym (ap (λ b. b || takes_whole ts k t) e)
-
-pub unasked_first : (ts : List TableShape) (k : ℕ) (t : Term) (b : Bool) → is_asked ts k t ≡ false → b ≡ takes_whole ts k t → b ≡ takes_first_whole ts k t
-unasked_first ts k t b e f = f ∙ sym (ap (λ b. b || takes_whole ts k t) e)
 
 module _ (ts : List TableShape) (n k : ℕ) where
   -- a tree without parts
