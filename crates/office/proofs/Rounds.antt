@@ -145,7 +145,7 @@ pub way_on : (a : App) (xs ys zs : List Source) (s : Source) (old mid new : Cach
 way_on a xs ys zs s old mid new h t = record {
   order = λ o. t.order (h.order o);
   right = λ r tables m k. t.right r tables m zs (h.right r tables m k);
-  last = λ room. (t.kept (now room)).2 ∙ ap (λ n. n + 1) (h.last (before room)) ∙ sum;
+  last = λ room. ap (λ (c : CacheState). c.last) (t.only (now room)) ∙ ap (λ n. n + 1) (h.last (before room)) ∙ sum;
   left = λ room k far clean. t.left (now room) k (λ z. far s (among_last ys s) z) (h.left (before room) k (λ x among z. far x (among_left x ys s among) z) clean);
   but = left_then a (ys ++ s ∷ []) old mid new (left_wider a ys (ys ++ s ∷ []) old mid (λ x among. among_left x ys s among) h.but) (left_wider a (s ∷ []) (ys ++ s ∷ []) mid new last_one t.but);
   day = t.day ∙ h.day;

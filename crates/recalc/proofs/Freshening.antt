@@ -8,7 +8,7 @@ use Rattle.recalc.specs.app_cells.declared.app.App.{App}
 use Rattle.recalc.specs.app_cells.declared.app.CellInfo.{CellInfo}
 use Rattle.recalc.specs.app_semantics.Fresh.{IsCellValue}
 use Rattle.recalc.specs.app_semantics.Needed.{IsFreshAt, Needs, further, is_alone, itself, stands_alone}
-use Rattle.recalc.specs.app_semantics.Present.{present}
+use Rattle.recalc.specs.app_semantics.Present.{Present, present}
 use Rattle.session_state.specs.Sessions.{SessionState}
 use Rattle.recalc.proofs.Places.{alone_of, aside_of}
 use Rattle.recalc.specs.Kept.{IsClean, IsInOrder, IsRight, IsUnmoved, CacheState, cached_value}
@@ -27,14 +27,17 @@ clean_unmoved a c o k i there clean = record {
   cells = λ d leans own. (o.leans k d clean.0 clean.1 clean.2 (i, there, leans, own)).1;
 }
 
-pub clean_fresh : (a : App) (s : SessionState) (tables : ToldRows) (m : ℕ) (c : CacheState) (k : ℕ) → IsRight (present a s tables m) [] c → IsClean a c k → IsFreshAt (present a s tables m) (cached_value c) k
-clean_fresh a s tables m c k r clean = λ d i need there. by d i need there (stands_alone i) refl
+pub clean_is_fresh : (p : Present) (c : CacheState) (k : ℕ) → IsRight p [] c → IsClean p.app c k → IsFreshAt p (cached_value c) k
+clean_is_fresh p c k r clean = λ d i need there. by d i need there (stands_alone i) refl
   where
-    by : (d : ℕ) (i : CellInfo) → Needs a k d → slice_get a.cells d ≡ Some i → (b : Bool) → stands_alone i ≡ b → IsCellValue (present a s tables m) (cached_value c) i (cached_value c d)
+    by : (d : ℕ) (i : CellInfo) → Needs p.app k d → slice_get p.app.cells d ≡ Some i → (b : Bool) → stands_alone i ≡ b → IsCellValue p (cached_value c) i (cached_value c d)
     by d i need there true alone =
-        let below : IsClean a c d = needed_clean a c r.order k d need clean (alone_of a.cells d i there alone) in
-        r.valid d below.0 i below.1 there (λ x l n. absurd l) (clean_unmoved a c r.order d i there below)
-    by d i need there false aside = no_value (present a s tables m) (cached_value c) i (cached_value c d) aside (r.order.bare d (aside_of a.cells d i there aside))
+        let below : IsClean p.app c d = needed_clean p.app c r.order k d need clean (alone_of p.app.cells d i there alone) in
+        r.valid d below.0 i below.1 there (λ x l n. absurd l) (clean_unmoved p.app c r.order d i there below)
+    by d i need there false aside = no_value p (cached_value c) i (cached_value c d) aside (r.order.bare d (aside_of p.app.cells d i there aside))
+
+pub clean_fresh : (a : App) (s : SessionState) (tables : ToldRows) (m : ℕ) (c : CacheState) (k : ℕ) → IsRight (present a s tables m) [] c → IsClean a c k → IsFreshAt (present a s tables m) (cached_value c) k
+clean_fresh a s tables m = clean_is_fresh (present a s tables m)
 
 -- a formula that has no value by itself needs none
 needs_itself : (a : App) (d e : ℕ) → is_alone a.cells d ≡ false → Needs a d e → d ≡ e

@@ -26,7 +26,7 @@ touched_is a source old mid place plain h = record {
   none = λ room o k clean. subst (λ (c : CacheState). IsClean a c k) (h.same room) (raised_none a source mid place (h.order o) k clean);
   day = h.day;
   but = left_then a (source ∷ []) old mid (raised mid source) (left_all a (source ∷ []) old mid (made_left a old mid h)) (raised_left a source mid place);
-  kept = λ room. (ap (λ (c : CacheState). c.stamps) (h.same room), ap (λ (c : CacheState). c.values) (h.same room), ap (λ (c : CacheState). c.last + 1) (h.same room), ap (λ (c : CacheState). c.emptied) (h.same room));
+  only = λ room. ap (λ (c : CacheState). raised c source) (h.same room);
   places = length-set mid.versions (source_index source) (mid.last + 1) ∙ h.places;
 }
 

@@ -61,8 +61,8 @@ pub record StaysCleanExcept (a : App) (xs : List Source) (old new : CacheState) 
       → IsClean a old k → IsClean a new k
 
 -- A SOURCE THAT IS NO CELL WAS TOUCHED: what is kept is right where it was still to be told; and,
--- unless the numbers ran out, exactly the cells that reach it are clean no more, and nothing is
--- lost.
+-- unless the numbers ran out, exactly the cells that reach it are clean no more, and nothing but
+-- the number of its last change is another one.
 pub record IsTouched (a : App) (source : Source) (old new : CacheState) : Type 0 where
   pub order : IsInOrder a old → IsInOrder a new
   pub right : (s : SessionState) (tables : ToldRows) (m : ℕ) (pending : List Source)
@@ -73,8 +73,7 @@ pub record IsTouched (a : App) (source : Source) (old new : CacheState) : Type 0
   pub left : HasNumbersLeft old.last → (k : ℕ) → (Reaches a k source → ⊥) → IsClean a old k
       → IsClean a new k
   pub none : HasNumbersLeft old.last → IsInOrder a old → (k : ℕ) → IsClean a new k → IsClean a old k
-  pub kept : HasNumbersLeft old.last → (new.stamps ≡ old.stamps) × (new.values ≡ old.values)
-      × (new.last ≡ old.last + 1) × (new.emptied ≡ old.emptied)
+  pub only : HasNumbersLeft old.last → new ≡ raised old source
   pub but : StaysCleanExcept a (source ∷ []) old new
   pub places : length new.versions ≡ length old.versions
   pub day : new.values.day ≡ old.values.day

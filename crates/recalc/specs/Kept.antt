@@ -1,6 +1,6 @@
 -- Kept values, and the numbers by which it is known which of them stand.
-use Rattle.std.specs.Prelude.{◌≡◌, ◌+◌, ◌*◌, ◌<◌, ◌≤◌, ◌^◌, ℕ, List, length, true, false, Option}
-use Rattle.std.specs.Prelude.{Some, None, slice_get, slice_index, slice_index_or}
+use Rattle.std.specs.Prelude.{◌≡◌, ◌+◌, ◌*◌, ◌<◌, ◌≤◌, ◌^◌, ℕ, List, [], length, true, false}
+use Rattle.std.specs.Prelude.{Option, Some, None, slice_get, slice_index, slice_index_or}
 use Rattle.fx_types.specs.Values.{Data, blank}
 use Rattle.fx_core.specs.Reads.{IsAmong, source_number, source_rank}
 use Rattle.fx_core.specs.declared.names.Names.{Names}
@@ -13,7 +13,7 @@ use Rattle.recalc.specs.app_cells.Reach.{Reaches, is_cell}
 use Rattle.recalc.specs.app_cells.declared.app.App.{App}
 use Rattle.recalc.specs.app_cells.declared.app.CellInfo.{CellInfo}
 use Rattle.recalc.specs.app_semantics.Fresh.{IsCellValue}
-use Rattle.recalc.specs.app_semantics.Needed.{is_alone}
+use Rattle.recalc.specs.app_semantics.Needed.{IsFreshAt, is_alone}
 use Rattle.recalc.specs.app_semantics.Present.{Present}
 use Rattle.recalc.specs.declared.stamps.Stamp.{Stamp}
 
@@ -137,3 +137,8 @@ pub record IsRight (p : Present) (pending : List Source) (c : CacheState) : Type
   pub valid : (k : ℕ) (e : Stamp) (i : CellInfo) → stamp_of c k ≡ Some e
       → slice_get p.app.cells k ≡ Some i → NamesNone pending i → IsUnmoved p.app c i e.checked
       → IsCellValue p (cached_value c) i (cached_value c k)
+
+-- A CLEAN CELL HAS ITS FRESH VALUE, and so has each that it needs, where what is kept is right
+abbrev pub CleanIsFresh : Type 0
+CleanIsFresh = (p : Present) (c : CacheState) (k : ℕ) → IsRight p [] c → IsClean p.app c k
+    → IsFreshAt p (cached_value c) k

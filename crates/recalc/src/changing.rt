@@ -42,8 +42,9 @@ impl Cache {
     }
 
     /// Says that a source of the app has changed. The values of the cells that reach it don't stand
-    /// any more, and all others do as before, unless the numbers ran out. What is kept of the cells
-    /// that reach a cell goes. It takes no memory.
+    /// any more, and all others do as before: nothing but the number of the source's last change is
+    /// another one, unless the numbers ran out. What is kept of the cells that reach a cell goes. It
+    /// takes no memory.
     pub fn touched(&mut self, app: &App, source: Source)
         requires { is_cell source ≡ false → source_index source < length self.old.versions }
         ensures told { (a : AnApp) → is_cell source ≡ false → IsTouched a source self.old self.new }
