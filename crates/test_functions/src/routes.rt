@@ -20,6 +20,8 @@ POST /s/a/event
 POST /s/a/input
 POST /desk/d/rows
 POST /desk/d/edit
+POST /desk/d/app
+GET /desk/d/app
 GET /rows/Stock/1
 GET /rows/T/4294967295
 GET /rows/T/0000000009
