@@ -1,5 +1,5 @@
 -- Values as they come in.
-use Rattle.std.proofs.Common.{◌≡◌, ℕ, suc, Bool, true, false, cond, List, [], ◌∷◌, ◌++◌, length, Option, Some, None, String, refl, ap, ap₂, sym, ◌∙◌, append_assoc, arith, bytes_eq}
+use Rattle.std.proofs.Common.{◌≡◌, ℕ, suc, Bool, true, false, cond, List, [], ◌∷◌, length, Option, Some, None, String, refl, ap, sym, ◌∙◌, arith, bytes_eq}
 use Rattle.std.specs.Prelude.{IfSome, codes, option_map, slice_get, string_bytes, ℤ}
 use Rattle.std.specs.declared.alloc.Global.{Global}
 use Rattle.serde_json.specs.Data as json
@@ -8,12 +8,10 @@ use Rattle.serde_json.specs.Events.{members_len}
 use Rattle.serde_json.specs.Find.{as_object, as_str}
 use Rattle.serde_json.specs.View.{members_view, view as json_view}
 use Rattle.serde_json.specs.declared.value.Value.{Value as Json}
-use Rattle.fx_types.specs.ValueView.{view}
 use Rattle.fx_types.specs.Values.{Data, date, number}
-use Rattle.fx_types.specs.Words.{scalars_of}
-use Rattle.fx_types.specs.declared.values.Value.{Value}
 use Rattle.fx_value.specs.Order.{IsScalar}
-use Rattle.numbered_requests.specs.GivenValues.{member_count, member_value, spelled_day, spelled_number, tagged_value, value_in, whole_number}
+use Rattle.field_texts.specs.Spelled.{spelled_day, spelled_number}
+use Rattle.numbered_requests.specs.GivenValues.{member_count, member_value, tagged_value, value_in, whole_number}
 
 -- ---- what comes in is a scalar
 

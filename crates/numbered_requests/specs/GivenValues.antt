@@ -1,50 +1,20 @@
 -- Values as they come in, and the members of objects.
-use Rattle.std.specs.Prelude.{ℕ, ◌+◌, ◌-◌, ◌*◌, ◌&&◌, nat_le, ℤ, pos, neg_ℤ, ◌*ℤ◌, int_le, List, []}
-use Rattle.std.specs.Prelude.{◌∷◌, take, drop, codes, bytes_eq, Option, Some, None, option_and_then}
+use Rattle.std.specs.Prelude.{ℕ, ◌*◌, ◌&&◌, nat_le, ℤ, pos, ◌*ℤ◌, List}
+use Rattle.std.specs.Prelude.{codes, bytes_eq, Option, Some, None, option_and_then}
 use Rattle.std.specs.Prelude.{option_map, if◌then◌else◌}
-use Rattle.std.specs.List.{fold}
 use Rattle.serde_json.specs.Data as json
 use Rattle.serde_json.specs.Data.{Members, no_members, member}
 use Rattle.serde_json.specs.Events.{members_len}
 use Rattle.serde_json.specs.Find.{as_array, as_i64, as_number, as_object, as_str, as_u64, get}
-use Rattle.jiff_core.specs.Calendar.{days_from_civil}
 use Rattle.fx_types.specs.Values.{Data, blank, number, text, boolean, date}
 use Rattle.fx_types.specs.Words.{scalars_of}
-use Rattle.fx_number.specs.Decimal.{greatest}
-use Rattle.fx_number.specs.Reading.{spelled}
-use Rattle.fx_types.specs.DateText.{date_text}
+use Rattle.field_texts.specs.Spelled.{spelled_day, spelled_number, units_in_range}
 
 -- ---- values
-
--- a count of ten-thousandths, where it is one of a number
-abbrev pub units_in_range : ℤ → Option ℤ
-units_in_range z = if int_le (neg_ℤ (pos greatest)) z
-    && int_le z (pos greatest) then Some z else None
 
 -- the number that a JSON number is: a whole one in range
 abbrev pub whole_number : json.Num → Option ℤ
 whole_number n = option_and_then (λ z. units_in_range (z *ℤ pos 10000)) (as_i64 n)
-
--- the number that a text spells
-abbrev pub spelled_number : List ℕ → Option ℤ
-spelled_number s = option_and_then units_in_range (spelled s)
-
--- the number that digits are, whatever bytes they are
-abbrev pub digits_of : List ℕ → ℕ
-digits_of ds = fold (λ n d. n * 10 + (d - 48)) 0 ds
-
--- the day that a text would name as `yyyy-mm-dd`
-abbrev pub day_at : List ℕ → ℤ
-day_at s = days_from_civil (pos (digits_of (take 4 s))) (digits_of (take 2 (drop 5 s)))
-    (digits_of (take 2 (drop 8 s)))
-
--- the day, where it is one and this is its text
-abbrev pub day_if : ℤ → List ℕ → Option ℤ
-day_if z s = if int_le (neg_ℤ (pos 25567)) z && int_le z (pos 2932896)
-    && bytes_eq s (date_text z) then Some z else None
-
-abbrev pub spelled_day : List ℕ → Option ℤ
-spelled_day s = day_if (day_at s) s
 
 -- `{"n":".."}` is a number, and `{"d":".."}` a date
 abbrev pub tagged_value : List ℕ → List ℕ → Option Data

@@ -10,16 +10,16 @@ ghost use Rattle.numbered_requests.specs.GivenValues.{items_at as items_at_key};
 ghost use Rattle.numbered_requests.specs.GivenValues.{member_count as member_count_of};
 ghost use Rattle.numbered_requests.specs.GivenValues.{member_value as member_value_of};
 ghost use Rattle.numbered_requests.specs.GivenValues.{members_at as members_at_key};
-ghost use Rattle.numbered_requests.specs.GivenValues.{member_number as number_at_key, spelled_day};
-ghost use Rattle.numbered_requests.specs.GivenValues.{spelled_number as spelled_number_of};
+ghost use Rattle.numbered_requests.specs.GivenValues.{member_number as number_at_key};
 ghost use Rattle.numbered_requests.specs.GivenValues.{tagged_value as tagged_value_of};
 ghost use Rattle.numbered_requests.specs.GivenValues.{member_text as text_at_key};
 ghost use Rattle.numbered_requests.specs.GivenValues.{value_in as value_in_json};
 ghost use Rattle.numbered_requests.specs.GivenValues.{whole_number as whole_number_of};
 
+use field_texts::{spelled_day, spelled_number};
 use fx_base::Memory;
-use fx_number::{Num, spelling_laws};
-use fx_types::{Day, Value, Words};
+use fx_number::Num;
+use fx_types::{Value, Words};
 use serde_json::{Map, Number, Value as Json};
 use std::alloc::Global;
 
@@ -80,22 +80,6 @@ fn tagged_value(key: &str, text: &str) -> Option<Value>
         "d" => spelled_day(text).map(Value::Date),
         _ => None,
     }
-}
-
-/// The number that a text spells.
-fn spelled_number(text: &str) -> Option<Num>
-    ensures { result ≡ spelled_number_of text.now }
-{
-    // Called for what it says: a text spells one number at most, which is found from left to right.
-    spelling_laws();
-    fx_number::read(text)
-}
-
-/// The day that a text spells.
-fn spelled_day(text: &str) -> Option<Day>
-    ensures { result ≡ spelled_day text.now }
-{
-    fx_primitives::date_value(text).ok()
 }
 
 /// How many members an object has.
