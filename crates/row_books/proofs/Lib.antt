@@ -1,0 +1,3 @@
+mod BagLoops
+mod BookLemmas
+pub mod Places

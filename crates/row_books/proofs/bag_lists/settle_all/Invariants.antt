@@ -1,0 +1,6 @@
+use Rattle.number_bags.specs.Bags.{now_in, then_in}
+use Rattle.row_books.proofs.Places.{AreMoved}
+use Rattle.row_books.proofs.bag_lists.settle_all.Given as goal
+
+abbrev pub invariant-loop-bag : goal.invariant-loop-bag
+invariant-loop-bag l = AreMoved then_in now_in l.initial.bags l.bag-index l.bags
