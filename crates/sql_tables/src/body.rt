@@ -1,8 +1,9 @@
 // The body of the schema.
-ghost use Rattle.std.specs.Prelude.{◌≡◌, false, true, ℕ, IfOk, List, OnErr, OnOk, Option, map};
+ghost use Rattle.std.specs.Prelude.{◌≡◌, ◌≤◌, false, true, ℕ, IfOk, List, OnErr, OnOk, Option, map};
 ghost use Rattle.sqlite.specs.Held.{state};
 ghost use Rattle.sqlite.specs.State.{HasCleanDisk, IsUnchanged};
 ghost use Rattle.std.specs.Option.{option_to_list};
+ghost use Rattle.sqlite_trees.specs.View.{doubt};
 ghost use Rattle.sql_meanings.specs.Schema.{kept_schema};
 ghost use Rattle.sql_meanings.specs.Forms.{GoesOn, LeavesOrRollsBack};
 ghost use Rattle.sql_meanings.specs.Calls.{RunsInside, RunsReading};
@@ -36,6 +37,8 @@ pub fn read_body<S: Alter>(conn: &mut Connection<S>) -> Result<Vec<Row>, Error>
         → (state S.Store conn.old).now.schema ≡ kept_schema → (body : Option (List ℕ))
         → HasBody (state S.Store conn.old).now.trees body
         → IfOk result (λ rows. rows.items ≡ map body_at (option_to_list body)) }
+    ensures later { doubt (state S.Store conn.old).is_clean
+        ≤ doubt (state S.Store conn.new).is_clean }
     ensures mode { conn.old.in_transaction ≡ false → conn.new.in_transaction ≡ false }
     ensures same { HasCleanDisk (state S.Store conn.new)
         → (state S.Store conn.old).now.schema ≡ kept_schema

@@ -1,7 +1,8 @@
 // The last number of each table.
-ghost use Rattle.std.specs.Prelude.{◌≡◌, false, true, IfOk, OnErr, OnOk, map};
+ghost use Rattle.std.specs.Prelude.{◌≡◌, ◌≤◌, false, true, IfOk, OnErr, OnOk, map};
 ghost use Rattle.sqlite.specs.Held.{state};
 ghost use Rattle.sqlite.specs.State.{HasCleanDisk, IsUnchanged};
+ghost use Rattle.sqlite_trees.specs.View.{doubt};
 ghost use Rattle.sql_meanings.specs.Schema.{kept_schema};
 ghost use Rattle.sql_meanings.specs.Forms.{GoesOn, LeavesOrRollsBack};
 ghost use Rattle.sql_meanings.specs.Calls.{RunsInside, RunsReading};
@@ -65,6 +66,8 @@ pub fn read_lasts<S: Alter>(conn: &mut Connection<S>) -> Result<Vec<Row>, Error>
         → (state S.Store conn.old).now.schema ≡ kept_schema → (ns : LastsOf)
         → AreLasts (state S.Store conn.old).now.trees ns
         → IfOk result (λ rows. rows.items ≡ map last_at ns) }
+    ensures later { doubt (state S.Store conn.old).is_clean
+        ≤ doubt (state S.Store conn.new).is_clean }
     ensures mode { conn.old.in_transaction ≡ false → conn.new.in_transaction ≡ false }
     ensures same { HasCleanDisk (state S.Store conn.new)
         → (state S.Store conn.old).now.schema ≡ kept_schema
