@@ -1,6 +1,6 @@
--- The numbers that the index gives in ranges of `ID` rise.
-use Rattle.std.proofs.Common.{◌≡◌, ℕ, zero, suc, ◌==◌, ◌<◌, ◌≤◌, ◌^◌, ◌*◌, pos, List, [], ◌∷◌, ◌++◌, filter, length, map, take, refl, sym, ap, ap₂, ◌∙◌, arith, Bool, true, false, not, cond, ◌&&◌, ◌||◌, Option, None, Some, subst}
-use Rattle.std.specs.Prelude.{option_to_list}
+-- The numbers that the index gives in ranges of `ID`, or in that of one key, rise.
+use Rattle.std.proofs.Common.{◌≡◌, ◌⊎◌, inl, inr, ℕ, zero, suc, ◌+◌, ◌-◌, ◌==◌, ◌<◌, ◌≤◌, ◌^◌, ◌*◌, pos, List, [], ◌∷◌, ◌++◌, filter, get_or, length, map, take, refl, sym, ap, ap₂, ◌∙◌, arith, Bool, true, false, not, cond, ◌&&◌, ◌||◌, Option, None, Some, subst}
+use Rattle.std.specs.Prelude.{bytes_eq, option_to_list}
 use Rattle.std.specs.Cmp.{unsigned_ties}
 use Rattle.std.specs.Cmp.Lexicographic.{nat_list_cmp_total, slice_cmp}
 use Rattle.std.specs.List.{list_any, AllByRecursion}
@@ -12,28 +12,33 @@ use Rattle.std.specs.Ordering.{nat_cmp, int_cmp, ordering_then, is_eq, is_le, is
 use Rattle.std.specs.declared.cmp.Ordering.{Ordering}
 use Rattle.std.specs.declared.cmp.Ordering.TheVariants.{Less, Equal, Greater}
 use Rattle.std.proofs.lemmas.Int.{ints}
-use Rattle.std.proofs.lemmas.Bool.{and_parts, eqb-true}
+use Rattle.std.proofs.lemmas.Bool.{and_parts, eqb-true, or_right}
 use Rattle.std.proofs.lemmas.Bool.Decides.{nat_tests}
-use Rattle.std.proofs.lemmas.Cmp.{tied_itself}
-use Rattle.std.proofs.lemmas.List.{append-nil, append_assoc, take_all}
+use Rattle.std.proofs.lemmas.Cmp.{nat_cmp_total, tied_itself}
+use Rattle.std.proofs.lemmas.List.{append-nil, append_assoc, take_all, take_more}
 use Rattle.std.proofs.lemmas.List.Folds.{list_any-append}
 use Rattle.std.proofs.lemmas.Map.Keys.{sorted_head, sorted_tail}
-use Rattle.fx_types.specs.Values.{Data}
+use Rattle.std.proofs.lemmas.Map.Text.{is_eq-slice_cmp}
+use Rattle.fx_types.specs.Values.{Data, blank, boolean}
+use Rattle.fx_core.specs.declared.schema.Column.{Column}
 use Rattle.fx_number.specs.Decimal.{IsInRange}
 use Rattle.fx_value.specs.Keys.{KeysOrder, key_bytes}
 use Rattle.fx_value.proofs.ByteOrder.{le_trans, lt_is}
-use Rattle.row_queries.specs.Ranges.{AreRangesRising, EndsBeforeAll, in_range, is_before_end}
+use Rattle.row_queries.specs.Ranges.{AreRangesRising, EndsBeforeAll, HoldEveryKey, in_range, in_ranges, is_before_end}
 use Rattle.row_queries.specs.TableRows.{id_value}
 use Rattle.row_queries.specs.declared.ranges.KeyRange.{KeyRange}
 use Rattle.row_queries.specs.declared.rows.Row.{Row}
 use Rattle.row_keeper.specs.declared.index.Mark.{Mark}
 use Rattle.row_keeper.specs.declared.row_slots.Slot.{Slot}
-use Rattle.row_keeper.specs.Covered.{Agrees, NoneAbove, covers, has_entry}
+use Rattle.row_keeper.specs.Covered.{Agrees, NoneAbove, covered_of, covers, has_entry, lie_in}
 use Rattle.row_keeper.specs.Entries.{IndexEntry, Entries, among, entry_cmp, hits_in, ids_in, ids_of, lies_at, now_in}
 use Rattle.row_keeper.specs.Found.{row_under, rows_of_ids}
+use Rattle.row_keeper.specs.Pages.{GoesByNumber, HoldOneKey}
+use Rattle.row_keeper.specs.Rules.{only_key}
 use Rattle.row_keeper.specs.Slots.{now_at}
-use Rattle.row_keeper.proofs.FoundLemmas.{bytes_same, less_not_at}
+use Rattle.row_keeper.proofs.FoundLemmas.{bytes_same, hits_are, less_not_at}
 use Rattle.row_keeper.proofs.MarkLemmas.{entry_total}
+use Rattle.row_keeper.proofs.RuleLemmas.{one_key}
 
 -- ---- the numbers are those that are hit
 at_number : (i n : ℕ) → is_at (nat_cmp i) n ≡ (n == i)
@@ -164,54 +169,68 @@ IsIn rows r i = (in_range (K i) r ≡ true) × (i < 2 ^ 32) × (is_some (now_at 
 lies_zero : (r : KeyRange) (e : IndexEntry × Mark) → lies_at 0 r e ≡ true → (e.0.0.0 ≡ 0) × (in_range e.0.0.1 r ≡ true)
 lies_zero r e h = let b = and_parts (e.0.0.0 == 0) (in_range e.0.0.1 r) h in (eqb-true e.0.0.0 0 b.0, b.1)
 
-abbrev kept : KeyRange → Entries → List ℕ
-kept r es = ids_of (filter (lies_at 0 r) es)
+-- the numbers of the entries of a column in a range
+abbrev kept_in : ℕ → KeyRange → Entries → List ℕ
+kept_in column r es = ids_of (filter (lies_at column r) es)
 
-kept_is : (r : KeyRange) (e : IndexEntry × Mark) (es : Entries) (u t : Bool) → lies_at 0 r e ≡ u → e.1.is ≡ t → kept r (e ∷ es) ≡ cond (u && t) (e.0.1 ∷ kept r es) (kept r es)
-kept_is r e es u t a b = ap (λ x. ids_of (cond x (e ∷ rest) rest)) a ∙ go u
+kept_is : (column : ℕ) (r : KeyRange) (e : IndexEntry × Mark) (es : Entries) (u t : Bool) → lies_at column r e ≡ u → e.1.is ≡ t → kept_in column r (e ∷ es) ≡ cond (u && t) (e.0.1 ∷ kept_in column r es) (kept_in column r es)
+kept_is column r e es u t a b = ap (λ x. ids_of (cond x (e ∷ rest) rest)) a ∙ go u
   where
     rest : Entries
-    rest = filter (λ x. lies_at 0 r x) es
+    rest = filter (λ x. lies_at column r x) es
 
     still : Entries
     still = filter (λ x. x.1.is) rest
 
-    go : (x : Bool) → ids_of (cond x (e ∷ rest) rest) ≡ cond (x && t) (e.0.1 ∷ kept r es) (kept r es)
+    go : (x : Bool) → ids_of (cond x (e ∷ rest) rest) ≡ cond (x && t) (e.0.1 ∷ kept_in column r es) (kept_in column r es)
     go false = refl
     go true = ap (λ y. map (λ (p : IndexEntry × Mark). p.0.1) (cond y (e ∷ still) still)) b ∙ by t
       where
-        by : (y : Bool) → map (λ (p : IndexEntry × Mark). p.0.1) (cond y (e ∷ still) still) ≡ cond y (e.0.1 ∷ kept r es) (kept r es)
+        by : (y : Bool) → map (λ (p : IndexEntry × Mark). p.0.1) (cond y (e ∷ still) still) ≡ cond y (e.0.1 ∷ kept_in column r es) (kept_in column r es)
         by true = refl
         by false = refl
 
+-- where the entries of rows in a range go as their numbers do, these rise
+module _ (column : ℕ) (r : KeyRange) (P : IndexEntry → Type 0) (goes : (e q : IndexEntry) → P e → P q → entry_cmp e q ≡ Less → nat_cmp e.1 q.1 ≡ Less) where
+  abbrev Told : IndexEntry × Mark → Type 0
+  Told e = lies_at column r e ≡ true → e.1.is ≡ true → P e.0
+
+  below_kept : (e : IndexEntry) → P e → (es : Entries) → AllByRecursion (λ y. entry_cmp e y ≡ Less) (keys_of es) → AllByRecursion Told es → AllByRecursion (λ j. nat_cmp e.1 j ≡ Less) (kept_in column r es)
+  below_kept e p [] below told = tt
+  below_kept e p (x ∷ es) below told = go (lies_at column r x) refl x.1.is refl (below_kept e p es below.1 told.1)
+    where
+      Q : List ℕ → Type 0
+      Q ids = AllByRecursion (λ j. nat_cmp e.1 j ≡ Less) ids
+
+      go : (u : Bool) → lies_at column r x ≡ u → (t : Bool) → x.1.is ≡ t → Q (kept_in column r es) → Q (kept_in column r (x ∷ es))
+      go true a true b rest = subst Q (sym (kept_is column r x es true true a b)) (goes e x.0 p (told.0 a b) below.0, rest)
+      go true a false b rest = subst Q (sym (kept_is column r x es true false a b)) rest
+      go false a t b rest = subst Q (sym (kept_is column r x es false t a b)) rest
+
+  rising_kept : (es : Entries) → IsStrictlySortedBy entry_cmp (keys_of es) → AllByRecursion Told es → Rises (kept_in column r es)
+  rising_kept [] sorted told = rises_none
+  rising_kept (e ∷ es) sorted told = go (lies_at column r e) refl e.1.is refl (rising_kept es (sorted_tail entry_cmp e.0 (keys_of es) sorted) told.1)
+    where
+      go : (u : Bool) → lies_at column r e ≡ u → (t : Bool) → e.1.is ≡ t → Rises (kept_in column r es) → Rises (kept_in column r (e ∷ es))
+      go true a true b rest = subst Rises (sym (kept_is column r e es true true a b)) (rises_more e.0.1 (kept_in column r es) (below_kept e.0 (told.0 a b) es (sorted_head entry_cmp e.0 (keys_of es) sorted) told.1) rest)
+      go true a false b rest = subst Rises (sym (kept_is column r e es true false a b)) rest
+      go false a t b rest = subst Rises (sym (kept_is column r e es false t a b)) rest
+
+-- ---- in ranges of `ID`
+abbrev kept : KeyRange → Entries → List ℕ
+kept r es = kept_in 0 r es
+
+-- an entry of `ID` has the key of its number
+abbrev IsOwn : IndexEntry → Type 0
+IsOwn e = (e.0.0 ≡ 0) × (e.0.1 ≡ K e.1) × (e.1 < 2 ^ 32)
+
 module _ (law : KeysOrder) (rows : List (ℕ × Slot)) where
-  below_kept : (r : KeyRange) (e : IndexEntry × Mark) → e.0.0.0 ≡ 0 → e.0.0.1 ≡ K e.0.1 → e.0.1 < 2 ^ 32 → (es : Entries) → AllByRecursion (λ y. entry_cmp e.0 y ≡ Less) (keys_of es) → AllByRecursion (IsKeyed rows) es
-      → AllByRecursion (λ j. nat_cmp e.0.1 j ≡ Less) (kept r es)
-  below_kept r e c k l [] below keys = tt
-  below_kept r e c k l (x ∷ es) below keys = go (lies_at 0 r x) refl x.1.is refl (below_kept r e c k l es below.1 keys.1)
+  own_rising : (r : KeyRange) (es : Entries) → IsStrictlySortedBy entry_cmp (keys_of es) → AllByRecursion (IsKeyed rows) es → Rises (kept r es)
+  own_rising r es sorted keys = rising_kept 0 r IsOwn (λ e q p k. before law e q p.0 k.0 p.1 k.1 p.2 k.2) es sorted (all es keys)
     where
-      P : List ℕ → Type 0
-      P ids = AllByRecursion (λ j. nat_cmp e.0.1 j ≡ Less) ids
-
-      go : (u : Bool) → lies_at 0 r x ≡ u → (t : Bool) → x.1.is ≡ t → P (kept r es) → P (kept r (x ∷ es))
-      go true a true b rest =
-          let z = lies_zero r x a in
-          let q = keys.0 b z.0 in
-          subst P (sym (kept_is r x es true true a b)) (before law e.0 x.0 c z.0 k q.0 l q.1 below.0, rest)
-      go true a false b rest = subst P (sym (kept_is r x es true false a b)) rest
-      go false a t b rest = subst P (sym (kept_is r x es false t a b)) rest
-
-  rising_kept : (r : KeyRange) (es : Entries) → IsStrictlySortedBy entry_cmp (keys_of es) → AllByRecursion (IsKeyed rows) es → Rises (kept r es)
-  rising_kept r [] sorted keys = rises_none
-  rising_kept r (e ∷ es) sorted keys = go (lies_at 0 r e) refl e.1.is refl (rising_kept r es (sorted_tail entry_cmp e.0 (keys_of es) sorted) keys.1)
-    where
-      go : (u : Bool) → lies_at 0 r e ≡ u → (t : Bool) → e.1.is ≡ t → Rises (kept r es) → Rises (kept r (e ∷ es))
-      go true a true b rest =
-          let z = lies_zero r e a in
-          let q = keys.0 b z.0 in
-          subst Rises (sym (kept_is r e es true true a b)) (rises_more e.0.1 (kept r es) (below_kept r e z.0 q.0 q.1 es (sorted_head entry_cmp e.0 (keys_of es) sorted) keys.1) rest)
-      go true a false b rest = subst Rises (sym (kept_is r e es true false a b)) rest
-      go false a t b rest = subst Rises (sym (kept_is r e es false t a b)) rest
+      all : (part : Entries) → AllByRecursion (IsKeyed rows) part → AllByRecursion (Told 0 r IsOwn (λ e q p k. before law e q p.0 k.0 p.1 k.1 p.2 k.2)) part
+      all [] k = tt
+      all (e ∷ part) k = (λ a b. let z = lies_zero r e a in let q = k.0 b z.0 in (z.0, q.0, q.1), all part k.1)
 
   in_kept : (r : KeyRange) (es : Entries) → AllByRecursion (IsKeyed rows) es → AllByRecursion (IsIn rows r) (kept r es)
   in_kept r [] keys = tt
@@ -221,9 +240,9 @@ module _ (law : KeysOrder) (rows : List (ℕ × Slot)) where
       go true a true b rest =
           let z = lies_zero r e a in
           let q = keys.0 b z.0 in
-          subst (AllByRecursion (IsIn rows r)) (sym (kept_is r e es true true a b)) ((subst (λ k. in_range k r ≡ true) q.0 z.1, q.1, q.2), rest)
-      go true a false b rest = subst (AllByRecursion (IsIn rows r)) (sym (kept_is r e es true false a b)) rest
-      go false a t b rest = subst (AllByRecursion (IsIn rows r)) (sym (kept_is r e es false t a b)) rest
+          subst (AllByRecursion (IsIn rows r)) (sym (kept_is 0 r e es true true a b)) ((subst (λ k. in_range k r ≡ true) q.0 z.1, q.1, q.2), rest)
+      go true a false b rest = subst (AllByRecursion (IsIn rows r)) (sym (kept_is 0 r e es true false a b)) rest
+      go false a t b rest = subst (AllByRecursion (IsIn rows r)) (sym (kept_is 0 r e es false t a b)) rest
 
   -- ---- and those of ranges that rise
   all_append : (P : ℕ → Type 0) (xs ys : List ℕ) → AllByRecursion P xs → AllByRecursion P ys → AllByRecursion P (xs ++ ys)
@@ -271,12 +290,80 @@ module _ (law : KeysOrder) (rows : List (ℕ × Slot)) where
 
   pub ids_rise : (rs : List KeyRange) (es : Entries) → AreRangesRising rs → IsStrictlySortedBy entry_cmp (keys_of es) → AllByRecursion (IsKeyed rows) es → Rises (ids_in 0 rs es)
   ids_rise [] es h sorted keys = rises_none
-  ids_rise (r ∷ rs) es h sorted keys = rises_append (kept r es) (ids_in 0 rs es) (rising_kept r es sorted keys) (ids_rise rs es h.1 sorted keys) (cross r rs es keys h.0)
+  ids_rise (r ∷ rs) es h sorted keys = rises_append (kept r es) (ids_in 0 rs es) (own_rising r es sorted keys) (ids_rise rs es h.1 sorted keys) (cross r rs es keys h.0)
 
-  pub ids_there : (rs : List KeyRange) (es : Entries) → AllByRecursion (IsKeyed rows) es → AllByRecursion (λ i. is_some (now_at rows i) ≡ true) (ids_in 0 rs es)
-  ids_there [] es keys = tt
-  ids_there (r ∷ rs) es keys = all_append (λ i. is_some (now_at rows i) ≡ true) (kept r es) (ids_in 0 rs es)
-      (all_weaker (IsIn rows r) (λ i. is_some (now_at rows i) ≡ true) (λ j k. k.2) (kept r es) (in_kept r es keys)) (ids_there rs es keys)
+-- ---- in the range of one key
+-- an entry in the range is one of the column and the key
+abbrev IsOnly : ℕ → List ℕ → IndexEntry → Type 0
+IsOnly column key e = (e.0.0 ≡ column) × (e.0.1 ≡ key)
+
+the_key : (key k : List ℕ) → in_range k (only_key key) ≡ true → k ≡ key
+the_key key k h = bytes_same k key (sym (is_eq-slice_cmp k key) ∙ sym (one_key key k) ∙ h)
+
+lies_only : (column : ℕ) (key : List ℕ) (e : IndexEntry × Mark) → lies_at column (only_key key) e ≡ true → IsOnly column key e.0
+lies_only column key e h = let b = and_parts (e.0.0.0 == column) (in_range e.0.0.1 (only_key key)) h in (eqb-true e.0.0.0 column b.0, the_key key e.0.0.1 b.1)
+
+only_goes : (column : ℕ) (key : List ℕ) (e q : IndexEntry) → IsOnly column key e → IsOnly column key q → entry_cmp e q ≡ Less → nat_cmp e.1 q.1 ≡ Less
+only_goes column key e q a b h =
+    sym (ap₂ (λ x y. ordering_then (ordering_then x y) (nat_cmp e.1 q.1)) (ap₂ nat_cmp a.0 b.0 ∙ tied_itself nat_cmp_total column) (ap₂ (slice_cmp nat_cmp) a.1 b.1 ∙ tied_itself nat_list_cmp_total key)) ∙ h
+
+only_rising : (column : ℕ) (key : List ℕ) (es : Entries) → IsStrictlySortedBy entry_cmp (keys_of es) → Rises (kept_in column (only_key key) es)
+only_rising column key es sorted = rising_kept column (only_key key) (IsOnly column key) (only_goes column key) es sorted (all es)
+  where
+    all : (part : Entries) → AllByRecursion (Told column (only_key key) (IsOnly column key) (only_goes column key)) part
+    all [] = tt
+    all (e ∷ part) = (λ a b. lies_only column key e a, all part)
+
+-- ---- where a query goes by numbers
+pub goes_rise : KeysOrder → (rows : List (ℕ × Slot)) (column : ℕ) (rs : List KeyRange) (es : Entries) → GoesByNumber column rs → AreRangesRising rs → IsStrictlySortedBy entry_cmp (keys_of es) → AllByRecursion (IsKeyed rows) es → Rises (ids_in column rs es)
+goes_rise law rows column rs es (inl e) h sorted keys = subst (λ k. Rises (ids_in k rs es)) (sym e) (ids_rise law rows rs es h sorted keys)
+goes_rise law rows column rs es (inr k) h sorted keys =
+    subst (λ ranges. Rises (ids_in column ranges es)) (sym k.1) (subst Rises (sym (append-nil (kept_in column (only_key k.0) es))) (only_rising column k.0 es sorted))
+
+-- one key isn't every key
+not_every : (key : List ℕ) → HoldEveryKey (only_key key ∷ []) → ⊥
+not_every key every =
+    let none : key_bytes blank ≡ key = the_key key (key_bytes blank) (alone (in_range (key_bytes blank) (only_key key)) (every blank tt)) in
+    let some : key_bytes (boolean true) ≡ key = the_key key (key_bytes (boolean true)) (alone (in_range (key_bytes (boolean true)) (only_key key)) (every (boolean true) tt)) in
+    absurd (let e : true ≡ false = ap is_one (none ∙ sym some) in cc)
+  where
+    alone : (b : Bool) → (b || false) ≡ true → b ≡ true
+    alone true h = refl
+    alone false h = absurd cc
+
+    is_one : List ℕ → Bool
+    is_one (b ∷ []) = true
+    is_one bs = false
+
+pub goes_covered : (columns : List Column) (column : ℕ) (rs : List KeyRange) → GoesByNumber column rs → (covers (covered_of columns) column ≡ true) ⊎ HoldEveryKey rs → covers (covered_of columns) column ≡ true
+goes_covered columns column rs goes (inl h) = h
+goes_covered columns column rs (inl e) (inr every) = ap (covers (covered_of columns)) e
+goes_covered columns column rs (inr k) (inr every) = absurd (not_every k.0 (subst HoldEveryKey k.1 every))
+
+-- bytes that end in a 0 are those before it, with the 0 behind
+pub next_bytes : (bytes next : List ℕ) → 1 ≤ length next → bytes_eq (take (length next - 1) next) bytes ≡ true → get_or next (length next - 1) 0 ≡ 0 → next ≡ bytes ++ 0 ∷ []
+next_bytes bytes next l = go (length next - 1) (omega (arith, l))
+  where
+    go : (n : ℕ) → n + 1 ≡ length next → bytes_eq (take n next) bytes ≡ true → get_or next n 0 ≡ 0 → next ≡ bytes ++ 0 ∷ []
+    go n m same last =
+        sym (take_all (n + 1) next (omega (arith, m))) ∙ take_more next n 0 (omega (arith, m))
+        ∙ ap₂ (λ (xs : List ℕ) y. xs ++ y ∷ []) (bytes_same (take n next) bytes same) last
+
+-- ---- the numbers are those of rows
+each : (P : ℕ → Type 0) (ids : List ℕ) → ((i : ℕ) → list_any (is_at (nat_cmp i)) ids ≡ true → P i) → AllByRecursion P ids
+each P [] h = tt
+each P (i ∷ ids) h = (
+  h i (ap (λ b. b || list_any (is_at (nat_cmp i)) ids) (ap is_eq (tied_itself nat_cmp_total i))),
+  each P ids (λ j m. h j (or_right (is_at (nat_cmp j) i) (list_any (is_at (nat_cmp j)) ids) m)),
+)
+
+pub ids_there : (covered : List ℕ) (column : ℕ) (rows : List (ℕ × Slot)) (es : Entries) (rs : List KeyRange) → covers covered column ≡ true → Agrees covered rows es → IsStrictlySortedBy entry_cmp (keys_of es) → AllByRecursion (λ i. is_some (now_at rows i) ≡ true) (ids_in column rs es)
+ids_there covered column rows es rs has agrees sorted =
+    each (λ i. is_some (now_at rows i) ≡ true) (ids_in column rs es) (λ i m. there i (now_at rows i) (sym (hits_are covered column rows es has agrees sorted rs i) ∙ sym (ids_are_hits column rs es i) ∙ m))
+  where
+    there : (i : ℕ) (o : Option (List Data)) → lie_in column rs i o ≡ true → is_some o ≡ true
+    there i None h = absurd cc
+    there i (Some cells) h = refl
 
 -- the rows of the first numbers are the first rows
 pub rows_taken : (rows : List (ℕ × Slot)) (ids : List ℕ) (n : ℕ) → AllByRecursion (λ i. is_some (now_at rows i) ≡ true) ids → rows_of_ids rows (take n ids) ≡ take n (rows_of_ids rows ids)

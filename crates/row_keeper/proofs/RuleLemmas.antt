@@ -25,7 +25,7 @@ use Rattle.row_keeper.specs.Sound.{IsSoundRow, lies_among}
 use Rattle.row_keeper.specs.Tables.{has_id}
 
 -- ---- one key alone
-one_key : (key k : List ℕ) → in_range k (only_key key) ≡ is_eq (R k key)
+pub one_key : (key k : List ℕ) → in_range k (only_key key) ≡ is_eq (R k key)
 one_key key k = ap₂ (λ x y. x && y) (ap is_le (nat_list_cmp_total.antisymm key k)) (before_after k key) ∙ both_reversed (R k key)
 
 -- ---- values of one column are of one type

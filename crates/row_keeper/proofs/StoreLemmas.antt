@@ -422,17 +422,17 @@ module _ (shapes : List TableShape) (q : Query) (is : IsQuery shapes q) (tables 
   ascend : (rows : List Row) → AreInIdOrder rows → IsSorted (row_order None) rows
   ascend rows h k d low high = subst (λ n. is_lt (nat_cmp (slice_index_or rows n d).id (slice_index_or rows k d).id) ≡ false) (let e : suc k ≡ k + 1 = omega arith in e) (ids_ascend rows h k d (omega (arith, high)))
 
-  pub first_is : q.column ≡ 0 → q.order ≡ None → IsSoundTable t → (most : ℕ) (first : List Row) → first ≡ take most (filter (lies_among 0 q.ranges) t.now.rows) → AreFirstRows q (rows_at (rows_of_tables (states_now tables)) q.table) most first
-  first_is column order sound most first e =
+  pub first_is : q.order ≡ None → IsSoundTable t → (most : ℕ) (first : List Row) → first ≡ take most (filter (lies q) t.now.rows) → AreFirstRows q (rows_at (rows_of_tables (states_now tables)) q.table) most first
+  first_is order sound most first e =
       let asked = filter (lies q) t.now.rows in (
         asked,
         asked_is asked (IsPermutation-refl asked) (subst (λ o. IsSorted (row_order o) asked) (sym order) (ascend asked (order_less (lies q) t.now.rows sound.now.rising))),
-        e ∙ ap (λ k. take most (filter (lies_among k q.ranges) t.now.rows)) (sym column),
+        e,
       )
 
-  pub first_fit : q.column ≡ 0 → IsSoundTable t → (most : ℕ) (first : List Row) → first ≡ take most (filter (lies_among 0 q.ranges) t.now.rows) → IsSomeAnd (slice_get shapes q.table) (λ (s : TableShape). AllByRecursion (IsRowOf s) first)
-  first_fit column sound most first e =
+  pub first_fit : IsSoundTable t → (most : ℕ) (first : List Row) → first ≡ take most (filter (lies q) t.now.rows) → IsSomeAnd (slice_get shapes q.table) (λ (s : TableShape). AllByRecursion (IsRowOf s) first)
+  first_fit sound most first e =
       subst (λ o. IsSomeAnd o (λ (s : TableShape). AllByRecursion (IsRowOf s) first)) (sym is.is_table)
-      (subst (λ (rows : List Row). AllByRecursion (IsRowOf is.table) rows) (sym (e ∙ ap (λ k. take most (filter (lies_among k q.ranges) t.now.rows)) (sym column)))
+      (subst (λ (rows : List Row). AllByRecursion (IsRowOf is.table) rows) (sym e)
       (recursion_from_All (IsRowOf is.table) (take most (filter (lies q) t.now.rows)) (All-take (IsRowOf is.table) most (filter (lies q) t.now.rows)
       (All-filter (lies q) (IsRowOf is.table) t.now.rows (state_of is.table t (sym shaped) sound.now).fit))))

@@ -1,14 +1,25 @@
 -- What queries give that take the first rows by their numbers.
-use Rattle.std.specs.Prelude.{◌≡◌, ℕ, ◌≤◌, List, length, map, take, None, Some}
+use Rattle.std.specs.Prelude.{◌≡◌, ◌⊎◌, ℕ, ◌≤◌, List, [], ◌∷◌, length, map, take, None, Some}
 use Rattle.std.specs.List.{filter}
 use Rattle.row_queries.specs.Queries.{AreAsked, first_outcome_fault, given_of, lies, outcome_on}
 use Rattle.row_queries.specs.RowTests.{HasNoFaults}
 use Rattle.row_queries.specs.declared.queries.Query.{Query}
+use Rattle.row_queries.specs.declared.ranges.KeyRange.{KeyRange}
 use Rattle.row_queries.specs.declared.rows.Row.{Row}
+use Rattle.row_keeper.specs.Rules.{only_key}
+
+-- ranges that hold one key alone
+abbrev pub HoldOneKey : List KeyRange → Type 0
+HoldOneKey rs = (key : List ℕ) × (rs ≡ only_key key ∷ [])
+
+-- the index has the rows of such ranges by rising numbers: its entries go by keys, those of `ID` as
+-- the numbers do, and those of one key go by numbers
+abbrev pub GoesByNumber : ℕ → List KeyRange → Type 0
+GoesByNumber column rs = (column ≡ 0) ⊎ HoldOneKey rs
 
 -- a query takes the first so many rows by their numbers, and its test has no errors as constants
 pub record IsPage (q : Query) (most : ℕ) : Type 0 where
-  pub column : q.column ≡ 0
+  pub goes : GoesByNumber q.column q.ranges
   pub order : q.order ≡ None
   pub sound : HasNoFaults q.test
   pub take : q.take ≡ Some most

@@ -1,9 +1,11 @@
 // What queries give that take the first rows by their numbers.
-ghost use Rattle.std.specs.Prelude.{◌≡◌, ◌≤◌, ◌<◌, ◌⊎◌, true, slice_get, IfOk, IfSome, IsSomeAnd};
+ghost use Rattle.std.specs.Prelude.{◌≡◌, ◌≤◌, ◌<◌, ◌⊎◌, ◌++◌, ◌∷◌, [], true, slice_get, IfOk};
+ghost use Rattle.std.specs.Prelude.{IfSome, IsSomeAnd};
 ghost use Rattle.std.specs.List.{All};
 ghost use Rattle.row_queries.specs.Queries.{IsQuery};
 ghost use Rattle.row_queries.specs.TableRows.{IsRowOf, rows_at};
-ghost use Rattle.row_keeper.specs.Pages.{QueryGives, IsPage};
+ghost use Rattle.row_keeper.specs.Pages.{GoesByNumber, HoldOneKey, IsPage, QueryGives};
+ghost use Rattle.row_keeper.specs.Rules.{only_key};
 ghost use Rattle.row_keeper.specs.Tables.{rows_of_tables, shapes_of};
 
 use crate::answers::give_rows;
@@ -11,7 +13,7 @@ use crate::constants::is_sound;
 use crate::scans::{first_rows, judge};
 use crate::store::Store;
 use fx_base::Memory;
-use row_queries::{Query, Row};
+use row_queries::{KeyRange, Query, Row};
 use std::alloc::Global;
 
 /// The rows that a query gives, and how many were asked for them.
@@ -21,12 +23,49 @@ pub struct Page {
     pub asked: usize,
 }
 
+/// Whether bytes are the first ones after others: those with a 0 behind.
+fn is_next(bytes: &[u8], next: &[u8]) -> bool
+    ensures { result ≡ true → next.now ≡ bytes.now ++ 0 ∷ [] }
+{
+    match next {
+        [start @ .., last] => *last == 0 && start == bytes,
+        [] => false,
+    }
+}
+
+/// Whether a range holds its first key alone.
+fn is_of_one_key(range: &KeyRange) -> bool
+    ensures { result ≡ true → range.now ≡ only_key range.now.from }
+{
+    match &range.upto {
+        Some(upto) => is_next(range.from.as_bytes(), upto.as_bytes()),
+        None => false,
+    }
+}
+
+/// Whether ranges hold one key alone.
+fn hold_one_key(ranges: &[KeyRange]) -> bool
+    ensures { result ≡ true → HoldOneKey ranges.now }
+{
+    match ranges {
+        [range] => is_of_one_key(range),
+        _ => false,
+    }
+}
+
+/// Whether a query goes by the numbers of rows.
+fn goes_by_number(query: &Query) -> bool
+    ensures { result ≡ true → GoesByNumber query.now.column query.now.ranges }
+{
+    query.column == 0 || hold_one_key(query.ranges.as_slice())
+}
+
 /// How many rows a query takes, where it takes the first ones by their numbers and no constant of
 /// its test is an error.
 pub fn page_size(query: &Query) -> Option<u32>
     ensures { IfSome result (λ n. IsPage query.now n) }
 {
-    if query.column != 0 || !is_sound(&query.test) {
+    if !goes_by_number(query) || !is_sound(&query.test) {
         return None;
     }
     match query.order {

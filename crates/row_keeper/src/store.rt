@@ -13,7 +13,7 @@ ghost use Rattle.row_keeper.specs.Changes.{Shapes};
 ghost use Rattle.row_keeper.specs.Kept.{columns_kept, columns_shaped, empty_table, schema_then};
 ghost use Rattle.row_keeper.specs.Kept.{kept_then};
 ghost use Rattle.row_keeper.specs.MovedTables.{AreMoves, IsReshaped, Reshapes};
-ghost use Rattle.row_keeper.specs.Pages.{AreFirstRows};
+ghost use Rattle.row_keeper.specs.Pages.{AreFirstRows, GoesByNumber};
 ghost use Rattle.row_keeper.specs.Shaped.{by, shaped_so};
 ghost use Rattle.row_keeper.specs.Skips.{numbers_passed};
 ghost use Rattle.row_keeper.specs.StoreView.{no_store, shape_of, tables_now, tables_then};
@@ -299,7 +299,7 @@ impl Store {
     /// The first rows, at most so many, that a query asks which goes by the numbers of rows.
     pub fn first(&self, query: &Query, most: u32) -> Result<Vec<Row>, Memory>
         requires query { IsQuery (shapes_of self.now.schema) query.now }
-        requires column { query.now.column ≡ 0 }
+        requires goes { GoesByNumber query.now.column query.now.ranges }
         requires order { query.now.order ≡ None }
         ensures first { IfOk result (λ rows. AreFirstRows query.now
             (rows_at (rows_of_tables self.now.now) query.now.table) most rows.items) }
@@ -312,7 +312,7 @@ impl Store {
     {
         let table = &self.tables[query.table as usize];
         table.is_sound();
-        Ok(table.first(query.ranges.as_slice(), most as usize)?)
+        Ok(table.first(query.column, query.ranges.as_slice(), most as usize)?)
     }
 
     /// A fact about all tables, and no work.

@@ -9,6 +9,7 @@ ghost use Rattle.std.specs.List.{list_any};
 ghost use Rattle.fx_value.specs.Order.{IsScalar};
 ghost use Rattle.row_queries.specs.TableRows.{AreCellsOf, value_at};
 ghost use Rattle.row_keeper.specs.Covered.{covered_of, covers, entries_of};
+ghost use Rattle.row_keeper.specs.Pages.{GoesByNumber};
 ghost use Rattle.row_keeper.specs.Slots.{now_at, rows_now, rows_then};
 ghost use Rattle.row_queries.specs.Ranges.{AreRangesRising, HoldEveryKey};
 ghost use Rattle.row_keeper.specs.Skips.{passed_now};
@@ -249,18 +250,22 @@ impl Table {
         all_rows(self.alloc, &self.slots.by_id)
     }
 
-    /// The first rows, at most so many, by rising numbers, of those whose numbers have keys in
-    /// ranges.
-    pub fn first(&self, ranges: &[KeyRange], most: usize) -> Result<Vec<Row>, Memory>
-        requires { AreRangesRising ranges.now }
+    /// The first rows, at most so many, by rising numbers, of those whose keys in a column lie in
+    /// ranges: in ranges of `ID`, or in that of one key.
+    pub fn first(&self, column: u16, ranges: &[KeyRange], most: usize) -> Result<Vec<Row>, Memory>
+        requires column { column ≤ length self.now.columns }
+        requires reaches { (covers (covered_of self.now.columns) column ≡ true)
+            ⊎ HoldEveryKey ranges.now }
+        requires rises { AreRangesRising ranges.now }
+        requires goes { GoesByNumber column ranges.now }
         ensures { IfOk result (λ rows. rows.items
-            ≡ take most (filter (lies_among 0 ranges.now) self.now.now.rows)) }
+            ≡ take most (filter (lies_among column ranges.now) self.now.now.rows)) }
     {
         // It is called for what it says: keys of numbers go as the numbers do, which the last of
         // them bounds.
         keys_order();
         let _last = self.last;
-        let ids = self.index.first_hits(self.alloc, 0, ranges, most)?;
+        let ids = self.index.first_hits(self.alloc, column, ranges, most)?;
         rows_of(self.alloc, &self.slots.by_id, &ids)
     }
 
