@@ -13,7 +13,7 @@ use Rattle.fx_types.specs.Values.{Data}
 use Rattle.session_requests.specs.declared.trigger.Trigger.{Trigger}
 use Rattle.session_requests.specs.declared.trigger.Trigger.TheVariants.{OnSelect}
 use Rattle.app_wire.specs.declared.route.Route.{Route}
-use Rattle.app_wire.specs.declared.route.Route.TheVariants.{Begin, End, View, Named as Shown, Items, Event, Input, Rows, Edit, Page, Plan, Graph}
+use Rattle.app_wire.specs.declared.route.Route.TheVariants.{Begin, End, View, Named as Shown, Items, Event, Input, Rows, Edit, Replace, Page, Plan, Graph}
 use Rattle.session_state.specs.Once.{LastRequest}
 use Rattle.row_requests.specs.Bodies.{posted_in}
 use Rattle.numbered_requests.specs.Checks.{IsLastAsked, checks, desk_of, if_live, session_of}
@@ -40,7 +40,11 @@ use Rattle.office.specs.Answers.{Exchange, Plays}
 use Rattle.office.specs.Isolation.{AreOfOthers, Caller, IsOf, caller_of, desk, last_request_of, kept_of_session, session}
 use Rattle.office.specs.State.{OfficeState, schema_of}
 use Rattle.office.specs.Step.{AnswersRequest, RouteStep, Left, PassesChecks, office_parts}
-use Rattle.office.proofs.Repeats.{acts_once as edits_again}
+use Rattle.app_replacements.specs.Bodies.{replaced_in}
+use Rattle.app_replacements.specs.declared.body.Replacement.{Replacement}
+use Rattle.office.specs.Replacing.{PostsApp, ReachesApp, ReachesChecked, ReplacesChecked}
+use Rattle.office.proofs.Repeats.{acts_once as edits_again, desk_again}
+use Rattle.office.proofs.Replacements.{Outcome, outcome}
 use Rattle.row_requests.proofs.Again.{checks_again}
 use Rattle.numbered_requests.proofs.Again.{Asks, comes_again, passed}
 use Rattle.numbered_requests.proofs.Directories.{find_put}
@@ -138,13 +142,17 @@ input_kept lost app moment name body said told told' xs ys h differ = by (checks
 abbrev edit_number : Change → ℕ
 edit_number e = e.seq
 
--- the last request that was accepted of a desk is an edit, and what was said is kept
-pub record IsKeptEdit (desks : List (Named LastRequest)) (name body said : List ℕ) : Type 0 where
+-- the last request that was accepted of a desk is one of these, and what was said is kept
+pub record IsKeptOfDesk (T : Type 0) (asked : json.Data → Option T) (number : T → ℕ) (desks : List (Named LastRequest)) (name body said : List ℕ) : Type 0 where
   pub kept : LastRequest
   pub found : find name desks ≡ Some kept
-  pub last : IsLastAsked Change edit_in edit_number kept
+  pub last : IsLastAsked T asked number kept
   pub body_is : kept.body ≡ body
   pub reply_is : kept.reply ≡ said
+
+-- an edit
+abbrev pub IsKeptEdit : List (Named LastRequest) → List ℕ → List ℕ → List ℕ → Type 0
+IsKeptEdit desks name body said = IsKeptOfDesk Change edit_in edit_number desks name body said
 
 -- an accepted edit is kept
 edit_kept : (name body said : List ℕ) (p p' : Parts) → PostsEdit name body p said p' → find name p'.desks ≢ find name p.desks → IsKeptEdit p'.desks name body said
@@ -167,6 +175,31 @@ edit_kept name body said p p' h differ = by (edit_checks p.desks name body) refl
     by (Err words) e k = absurd (differ (ap (λ (x : Parts). find name x.desks) k.1))
     by (Ok it) e k = ended it e k.verdict k.ends
 
+-- ---- replacements
+
+abbrev replacement_number : Replacement → ℕ
+replacement_number r = r.seq
+
+abbrev pub IsKeptReplacement : List (Named LastRequest) → List ℕ → List ℕ → List ℕ → Type 0
+IsKeptReplacement desks name body said = IsKeptOfDesk Replacement replaced_in replacement_number desks name body said
+
+-- an accepted one is kept
+replacement_kept : (lost : Type 0) (name body said : List ℕ) (s new : OfficeState) → PostsApp lost name body s said new → find name new.desks ≢ find name s.desks → IsKeptReplacement new.desks name body said
+replacement_kept lost name body said s new h differ = by (outcome lost name body s said new h)
+  where
+    by : Outcome lost name body s said new → IsKeptReplacement new.desks name body said
+    by (inl left) = absurd (differ (ap (λ (x : OfficeState). find name x.desks) left.others))
+    by (inr served) =
+        let kept : LastRequest = record { last = served.asked.seq; body = body; reply = edit_reply served.asked.seq } in
+        let asks = passed Replacement replaced_in replacement_number (desk_of name s.desks) body served.asked served.checked in
+        record {
+          kept = kept;
+          found = ap (λ (x : OfficeState). find name x.desks) served.is ∙ find_put LastRequest name kept s.desks;
+          last = record { value = asks.value; is_json = asks.is_json; it = served.asked; shape = asks.shape; last = refl };
+          body_is = refl;
+          reply_is = sym served.said_is;
+        }
+
 -- ---- the last request of a caller
 
 -- it came by this route, with this body, and this was said
@@ -174,6 +207,7 @@ data IsLastOf : Caller → Route → OfficeState → List ℕ → List ℕ → T
   rows : (name body said : List ℕ) (s : OfficeState) → IsKept s.desks name body said → IsLastOf (desk name) (Rows name) s body said
   event : (name body said : List ℕ) (s : OfficeState) → IsKeptOf Sent event_in event_number s.sessions name body said → IsLastOf (session name) (Event name) s body said
   edit : (name body said : List ℕ) (s : OfficeState) → IsKeptEdit s.desks name body said → IsLastOf (desk name) (Edit name) s body said
+  replacement : (name body said : List ℕ) (s : OfficeState) → IsKeptReplacement s.desks name body said → IsLastOf (desk name) (Replace name) s body said
   input : (name body said : List ℕ) (s : OfficeState) → IsKeptOf Given input_in input_number s.sessions name body said → IsLastOf (session name) (Input name) s body said
 
 -- after a posted request that changed what is kept of its caller
@@ -198,6 +232,10 @@ does_keep lost moment (Edit n) body s new said caller is posted does differ =
     let named : desk n ≡ caller = cc in
     subst (λ c. IsLastOf c (Edit n) new body said) named
     (edit n body said new (edit_kept n body said (office_parts s) (office_parts new) does.0 (subst (λ c. last_request_of c new ≢ last_request_of c s) (sym named) differ)))
+does_keep lost moment (Replace n) body s new said caller is posted does differ =
+    let named : desk n ≡ caller = cc in
+    subst (λ c. IsLastOf c (Replace n) new body said) named
+    (replacement n body said new (replacement_kept lost n body said s new does (subst (λ c. last_request_of c new ≢ last_request_of c s) (sym named) differ)))
 does_keep lost moment (Begin n) body s new said caller is posted does differ = absurd (cc)
 does_keep lost moment (End n) body s new said caller is posted does differ = absurd (cc)
 does_keep lost moment (View n) body s new said caller is posted does differ = absurd (cc)
@@ -231,6 +269,10 @@ says_again once before now moment _ _ s new body said reply (edit name _ _ _ is)
     let h = edits_again name said is.kept (office_parts s) (office_parts new) is.found is.last
     (subst (λ b. PostsEdit name b (office_parts s) said (office_parts new)) (sym is.body_is) does.0) in
     (h.0 ∙ is.reply_is, does.1 ∙ ap (λ (p : Parts). record s { app = p.app; sessions = p.sessions; desks = p.desks }) h.1)
+says_again once before now moment _ _ s new body said reply (replacement name _ _ _ is) does =
+    let h = subst (λ (r : Result Replacement (List ℕ)). ReplacesChecked (SilenceCause before now) name is.kept.body r s said new) (desk_again Replacement replaced_in replacement_number s.desks name is.kept is.found is.last)
+    (subst (λ (b : List ℕ). PostsApp (SilenceCause before now) name b s said new) (sym is.body_is) does) in
+    (h.0 ∙ is.reply_is, h.1)
 says_again once before now moment _ _ s new body said reply (event name _ _ _ is) does =
     let h = (once before now s.app moment name said is.state s.tables new.tables s.sessions new.sessions is.found).1 is.last
     (subst (λ b. PostsEvent (SilenceCause before now) s.app moment name b s.tables s.sessions said new.tables new.sessions) (sym is.body_is) does.0) in
@@ -256,6 +298,9 @@ never_reached _ _ s body reply (rows name _ _ _ is) reaches =
     let passes = subst (λ b. desk_checks s.desks name b ≡ Ok reaches.0) (sym is.body_is) reaches.1 in
     let e : Err is.kept.reply ≡ Ok reaches.0 = sym (checks_again s.desks name is.kept is.last) ∙ passes in absurd (cc)
 never_reached _ _ s body reply (edit name _ _ _ is) reaches = reaches
+never_reached _ _ s body reply (replacement name _ _ _ is) reaches =
+    subst (λ (r : Result Replacement (List ℕ)). ReachesChecked name is.kept.body r s) (desk_again Replacement replaced_in replacement_number s.desks name is.kept is.found is.last)
+    (subst (λ b. ReachesApp name b s) (sym is.body_is) reaches)
 never_reached _ _ s body reply (event name _ _ _ is) reaches = not_asked Sent event_in event_number s.sessions name body reply is reaches.0 reaches.1
 never_reached _ _ s body reply (input name _ _ _ is) reaches = not_asked Given input_in input_number s.sessions name body reply is reaches.0 reaches.1
 
@@ -279,8 +324,9 @@ desk_still t u name body said same is = record {
   reply_is = is.reply_is;
 }
 
-edit_still : (t u : OfficeState) (name body said : List ℕ) → find name u.desks ≡ find name t.desks → IsKeptEdit t.desks name body said → IsKeptEdit u.desks name body said
-edit_still t u name body said same is = record { kept = is.kept; found = same ∙ is.found; last = is.last; body_is = is.body_is; reply_is = is.reply_is }
+kept_still : (T : Type 0) (asked : json.Data → Option T) (number : T → ℕ) (t u : OfficeState) (name body said : List ℕ) → find name u.desks ≡ find name t.desks → IsKeptOfDesk T asked number t.desks name body said
+    → IsKeptOfDesk T asked number u.desks name body said
+kept_still T asked number t u name body said same is = record { kept = is.kept; found = same ∙ is.found; last = is.last; body_is = is.body_is; reply_is = is.reply_is }
 
 -- a session of which the same is kept was asked the same last
 session_still : (T : Type 0) (asked : json.Data → Option T) (number : T → ℕ) (t u : OfficeState) (name body said : List ℕ) → kept_of_session (find name u.sessions) ≡ kept_of_session (find name t.sessions)
@@ -302,7 +348,8 @@ session_still T asked number t u name body said same is = by (find name u.sessio
 -- while the same is kept of the caller it is the last
 still_last : (caller : Caller) (route : Route) (t u : OfficeState) (body said : List ℕ) → last_request_of caller u ≡ last_request_of caller t → IsLastOf caller route t body said → IsLastOf caller route u body said
 still_last _ _ t u body said same (rows name _ _ _ is) = rows name body said u (desk_still t u name body said same is)
-still_last _ _ t u body said same (edit name _ _ _ is) = edit name body said u (edit_still t u name body said same is)
+still_last _ _ t u body said same (edit name _ _ _ is) = edit name body said u (kept_still Change edit_in edit_number t u name body said same is)
+still_last _ _ t u body said same (replacement name _ _ _ is) = replacement name body said u (kept_still Replacement replaced_in replacement_number t u name body said same is)
 still_last _ _ t u body said same (event name _ _ _ is) = event name body said u (session_still Sent event_in event_number t u name body said same is)
 still_last _ _ t u body said same (input name _ _ _ is) = input name body said u (session_still Given input_in input_number t u name body said same is)
 

@@ -6,7 +6,7 @@ use Rattle.app_wire.specs.Framing.{Asked}
 use Rattle.app_wire.specs.Routing.{IsOneRoute, method_of}
 use Rattle.app_wire.specs.declared.head.Method.TheVariants.{Put}
 use Rattle.app_wire.specs.declared.route.Route.{Route}
-use Rattle.app_wire.specs.declared.route.Route.TheVariants.{Begin, End, View, Named as Shown, Items, Event, Input, Rows, Edit, Page, Plan, Graph}
+use Rattle.app_wire.specs.declared.route.Route.TheVariants.{Begin, End, View, Named as Shown, Items, Event, Input, Rows, Edit, Replace, Page, Plan, Graph}
 use Rattle.numbered_requests.specs.Directory.{find}
 use Rattle.row_keeper.specs.Tables.{Tables, rows_told}
 use Rattle.row_requests.specs.Sound.{AreSound}
@@ -74,6 +74,7 @@ does_alone laws p p' q q' moment (Input n) body a b new new' said said' name t u
     sends_input laws p p' q q' moment body a b new new' said said' n t u u' settled sound app (subst (λ m. find m a.sessions ≡ find m b.sessions) named same) e f g i h.0 k.0
 does_alone laws p p' q q' moment (Rows n) body a b new new' said said' name t u u' is other settled sound app same e f g i h k = cc
 does_alone laws p p' q q' moment (Edit n) body a b new new' said said' name t u u' is other settled sound app same e f g i h k = cc
+does_alone laws p p' q q' moment (Replace n) body a b new new' said said' name t u u' is other settled sound app same e f g i h k = cc
 does_alone laws p p' q q' moment (Page table after) body a b new new' said said' name t u u' is other settled sound app same e f g i h k = cc
 does_alone laws p p' q q' moment Plan body a b new new' said said' name t u u' is other settled sound app same e f g i h k = cc
 does_alone laws p p' q q' moment Graph body a b new new' said said' name t u u' is other settled sound app same e f g i h k = cc

@@ -8,7 +8,7 @@ use Rattle.session_views.specs.Galleries.{gallery_named}
 use Rattle.app_wire.specs.Framing.{Asked}
 use Rattle.app_wire.specs.Routing.{Routing}
 use Rattle.app_wire.specs.declared.route.Route.{Route}
-use Rattle.app_wire.specs.declared.route.Route.TheVariants.{Begin, End, View, Named as Formulas, Items, Event, Input, Rows, Edit, Page, Plan, Graph}
+use Rattle.app_wire.specs.declared.route.Route.TheVariants.{Begin, End, View, Named as Formulas, Items, Event, Input, Rows, Edit, Replace, Page, Plan, Graph}
 use Rattle.recalc.specs.Kept.{CacheState}
 use Rattle.numbered_requests.specs.Directory.{find, is_named}
 use Rattle.numbered_requests.specs.declared.directory.Named.{Named}
@@ -82,6 +82,10 @@ pub costs_rows : (desk said : List ℕ) (m : ℕ) (s t : OfficeState) (old new :
 unfolding CostsBy
 costs_rows desk said m s t old new x v w = refl
 
+pub costs_replacement : (desk said : List ℕ) (m : ℕ) (s t : OfficeState) (old new : List (Named CacheState)) (x v w : ℕ) → CostsBy (Replace desk) m s said t old new (counts x v) (counts x w)
+unfolding CostsBy
+costs_replacement desk said m s t old new x v w = refl
+
 -- by these nothing is evaluated, and the keeper isn't asked
 abbrev pub IsStill : Route → Type 0
 IsStill (Edit desk) = Unit {0}
@@ -101,6 +105,7 @@ costs_still (Formulas name) said m s t old new x v h = absurd h
 costs_still (Items name gallery from) said m s t old new x v h = absurd h
 costs_still (Page table number) said m s t old new x v h = absurd h
 costs_still (Rows desk) said m s t old new x v h = absurd h
+costs_still (Replace desk) said m s t old new x v h = absurd h
 costs_still (Begin name) said m s t old new x v h = absurd h
 costs_still (Event name) said m s t old new x v h = absurd h
 costs_still (Input name) said m s t old new x v h = absurd h
@@ -126,6 +131,7 @@ costs_any (Formulas name) said m s t old new before after h = absurd h
 costs_any (Items name gallery from) said m s t old new before after h = absurd h
 costs_any (Page table number) said m s t old new before after h = absurd h
 costs_any (Rows desk) said m s t old new before after h = absurd h
+costs_any (Replace desk) said m s t old new before after h = absurd h
 
 pub costs_acting : (route kind : Route) (said : List ℕ) (m : ℕ) (s t : OfficeState) (old new : List (Named CacheState)) (before after : Counts) → route ≡ kind → IsFormula kind → CostsBy route m s said t old new before after
 costs_acting route kind said m s t old new before after is acts = subst (λ (r : Route). CostsBy r m s said t old new before after) (sym is) (costs_any kind said m s t old new before after acts)

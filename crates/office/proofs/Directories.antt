@@ -1,6 +1,6 @@
 -- Things by their names: which are found, and which are left.
 use Rattle.std.proofs.Common.{◌≡◌, ◌≢◌, ℕ, zero, suc, Bool, true, false, List, [], ◌∷◌, ◌++◌, Option, Some, None, refl, ap, sym, ◌∙◌, subst, arith}
-use Rattle.std.specs.Prelude.{option_map, slice_set}
+use Rattle.std.specs.Prelude.{map, option_map, slice_set}
 use Rattle.std.proofs.lemmas.Grind.{common_steps}
 use Rattle.numbered_requests.specs.Checked.{KeepsReply, SessionsKeepReplies}
 use Rattle.numbered_requests.specs.Directory.{find, is_named, put_named, put_at}
@@ -9,10 +9,12 @@ use Rattle.numbered_requests.proofs.Directories.{find_here, find_past, same_byte
 use Rattle.std.specs.List.{AllByRecursion, position}
 use Rattle.fx_core.specs.declared.names.Names.{Names}
 use Rattle.session_requests.specs.Scenes.{quiet, unasked}
+use Rattle.session_state.specs.CarriedOver.{carried_over}
 use Rattle.session_state.specs.Carrying.{carried}
 use Rattle.session_state.specs.Changes.{FitsNames}
 use Rattle.session_state.specs.Sessions.{SessionState}
 use Rattle.office.specs.DeskEdits.{all_carried}
+use Rattle.office.specs.Replacing.{all_over}
 use Rattle.session_views.specs.Shows.{LiveSessionsFit}
 use Rattle.office.specs.Sessions.{sessions_without}
 
@@ -35,18 +37,26 @@ find_without T name other (n ∷ ns) differ = by (is_named name n) refl (is_name
 
 -- ---- that are carried
 
--- each is found by its name as before
-pub find_carried : (old new : Names) (name : List ℕ) (list : List (Named SessionState)) → find name (all_carried old new list) ≡ option_map (carried old new) (find name list)
-find_carried old new name [] = refl
-find_carried old new name (n ∷ ns) = by (is_named name n) refl (find_carried old new name ns)
+-- each became another, and is found by its name as before
+find_changed : (f : SessionState → SessionState) (name : List ℕ) (list : List (Named SessionState)) → find name (map (λ (n : Named SessionState). record n { it = f n.it }) list) ≡ option_map f (find name list)
+find_changed f name [] = refl
+find_changed f name (n ∷ ns) = by (is_named name n) refl (find_changed f name ns)
   where
     after : Named SessionState
-    after = record n { it = carried old new n.it }
+    after = record n { it = f n.it }
 
-    by : (b : Bool) → is_named name n ≡ b → find name (all_carried old new ns) ≡ option_map (carried old new) (find name ns)
-        → find name (after ∷ all_carried old new ns) ≡ option_map (carried old new) (find name (n ∷ ns))
-    by true e rest = find_here SessionState name after (all_carried old new ns) e ∙ sym (ap (option_map (carried old new)) (find_here SessionState name n ns e))
-    by false e rest = find_past SessionState name after (all_carried old new ns) e ∙ rest ∙ sym (ap (option_map (carried old new)) (find_past SessionState name n ns e))
+    others : List (Named SessionState)
+    others = map (λ (x : Named SessionState). record x { it = f x.it }) ns
+
+    by : (b : Bool) → is_named name n ≡ b → find name others ≡ option_map f (find name ns) → find name (after ∷ others) ≡ option_map f (find name (n ∷ ns))
+    by true e rest = find_here SessionState name after others e ∙ sym (ap (option_map f) (find_here SessionState name n ns e))
+    by false e rest = find_past SessionState name after others e ∙ rest ∙ sym (ap (option_map f) (find_past SessionState name n ns e))
+
+pub find_carried : (old new : Names) (name : List ℕ) (list : List (Named SessionState)) → find name (all_carried old new list) ≡ option_map (carried old new) (find name list)
+find_carried old new name list = find_changed (carried old new) name list
+
+pub find_over : (old new : Names) (name : List ℕ) (list : List (Named SessionState)) → find name (all_over old new list) ≡ option_map (carried_over old new) (find name list)
+find_over old new name list = find_changed (carried_over old new) name list
 
 -- ---- all of them
 

@@ -15,11 +15,12 @@ use Rattle.app_wire.specs.ReplyBytes.{reply}
 use Rattle.app_wire.specs.Routing.{IsOneRoute, Routing, method_of}
 use Rattle.app_wire.specs.declared.head.Method.TheVariants.{Get}
 use Rattle.app_wire.specs.declared.route.Route.{Route}
-use Rattle.app_wire.specs.declared.route.Route.TheVariants.{Begin, End, View, Named as Shown, Items, Event, Input, Rows, Edit, Page, Plan, Graph}
+use Rattle.app_wire.specs.declared.route.Route.TheVariants.{Begin, End, View, Named as Shown, Items, Event, Input, Rows, Edit, Replace, Page, Plan, Graph}
 use Rattle.app_wire.specs.declared.route.RouteEnd.{RouteEnd}
 use Rattle.app_wire.specs.declared.route.RouteEnd.TheVariants.{NoRoute, WrongMethod, Memory}
 use Rattle.row_keeper.specs.Tables.{Tables, rows_told}
 use Rattle.row_queries.specs.declared.rows.Row.{Row}
+use Rattle.session_state.specs.CarriedOver.{carried_over}
 use Rattle.session_state.specs.Carrying.{carried}
 use Rattle.session_state.specs.Changes.{FitsNames}
 use Rattle.session_state.specs.Sessions.{SessionState}
@@ -28,8 +29,9 @@ use Rattle.numbered_requests.specs.Directory.{find}
 use Rattle.numbered_requests.specs.declared.directory.Named.{Named}
 use Rattle.office.specs.Answers.{Exchange, Plays}
 use Rattle.office.specs.DeskEdits.{PostsEdit, all_carried}
-use Rattle.office.specs.Editing.{IsEdit}
-use Rattle.office.specs.Isolation.{AreOfOthers, Caller, SessionIsCarried, IsOf, caller_of, desk, kept_of_session, session}
+use Rattle.office.specs.Replacing.{PostsApp}
+use Rattle.office.specs.Editing.{IsEdit, IsReplacement}
+use Rattle.office.specs.Isolation.{AreOfOthers, Caller, SessionIsCarried, SessionIsCarriedOver, IsOf, caller_of, desk, kept_of_session, session}
 use Rattle.session_requests.specs.Laws.{LeavesOthers}
 use Rattle.office.specs.NamedReply.{IsNamedBody}
 use Rattle.office.specs.Ready.{IsSettledOffice}
@@ -37,6 +39,7 @@ use Rattle.office.specs.Sessions.{BeginsChecked, BeginsSession, ShowsNamedTo, be
 use Rattle.office.specs.State.{OfficeState, schema_of}
 use Rattle.office.specs.Step.{AnswersRequest, RouteStep, RoutedStep, Step, office_parts}
 use Rattle.office.proofs.Repeats.{carries_sessions, leaves_others as edits_leave}
+use Rattle.office.proofs.Replacements.{desk_left, session_over}
 use Rattle.row_requests.proofs.Again.{posts_others}
 use Rattle.numbered_requests.proofs.Directories.{find_other}
 use Rattle.office.proofs.Directories.{find_carried, find_without, found_fits}
@@ -62,16 +65,28 @@ desks_of s new e = ap (λ (x : OfficeState). x.desks) e
 abbrev IsEditOf : Route → Type 0
 IsEditOf route = (n : List ℕ) × (route ≡ Edit n)
 
--- a session is left, or goes over to the app that an edit makes
+-- or that of replacements
+abbrev IsReplacementOf : Route → Type 0
+IsReplacementOf route = (n : List ℕ) × (route ≡ Replace n)
+
+-- a session is left, or goes over to the app that an edit makes, or that replaces the old one
 abbrev IsLeft : Route → OfficeState → OfficeState → List ℕ → Type 0
-IsLeft route s new name = (find name new.sessions ≡ find name s.sessions) ⊎ (IsEditOf route × SessionIsCarried s new name)
+IsLeft route s new name =
+    (find name new.sessions ≡ find name s.sessions) ⊎ (IsEditOf route × SessionIsCarried s new name) ⊎ (IsReplacementOf route × SessionIsCarriedOver s new name)
 
 edit_leaves : (n body : List ℕ) (s new : OfficeState) (said name : List ℕ) → PostsEdit n body (office_parts s) said (office_parts new) → IsLeft (Edit n) s new name
 edit_leaves n body s new said name h = by (carries_sessions n body said (office_parts s) (office_parts new) h)
   where
     by : ((new.app ≡ s.app) × (new.sessions ≡ s.sessions)) ⊎ (new.sessions ≡ all_carried s.app.names new.app.names s.sessions) → IsLeft (Edit n) s new name
     by (inl e) = inl (ap (find name) e.1)
-    by (inr e) = inr ((n, refl), ap (find name) e ∙ find_carried s.app.names new.app.names name s.sessions)
+    by (inr e) = inr (inl ((n, refl), ap (find name) e ∙ find_carried s.app.names new.app.names name s.sessions))
+
+replacement_leaves : (lost : Type 0) (n body : List ℕ) (s new : OfficeState) (said name : List ℕ) → PostsApp lost n body s said new → IsLeft (Replace n) s new name
+replacement_leaves lost n body s new said name h = by (session_over lost n body s said new name h)
+  where
+    by : (find name new.sessions ≡ find name s.sessions) ⊎ SessionIsCarriedOver s new name → IsLeft (Replace n) s new name
+    by (inl e) = inl e
+    by (inr over) = inr (inr ((n, refl), over))
 
 -- a route leaves the sessions but the one that it is of
 pub does_session : LeavesOthers → (before now : Marks) (moment : ℕ) (route : Route) (body : List ℕ) (s new : OfficeState) (said name : List ℕ)
@@ -87,6 +102,7 @@ does_session others before now moment (Event n) body s new said name does other 
 does_session others before now moment (Input n) body s new said name does other = inl ((others before now s.app moment n name body said s.tables new.tables s.sessions new.sessions (λ e. other (ap (λ (m : List ℕ). Some (session m)) e))).0 does.0)
 does_session others before now moment (Rows n) body s new said name does other = inl (ap (λ (x : OfficeState). find name x.sessions) does.1)
 does_session others before now moment (Edit n) body s new said name does other = edit_leaves n body s new said name does.0
+does_session others before now moment (Replace n) body s new said name does other = replacement_leaves (SilenceCause before now) n body s new said name does
 does_session others before now moment (Page table after) body s new said name does other = inl (ap (λ (x : OfficeState). find name x.sessions) does.1)
 does_session others before now moment Plan body s new said name does other = inl (ap (find name) (sessions_of s new does.1))
 does_session others before now moment Graph body s new said name does other = inl (ap (find name) (sessions_of s new does.1))
@@ -107,17 +123,21 @@ does_desk lost moment (Rows n) body s new said name does other =
     (λ e. other (ap (λ (m : List ℕ). Some (desk m)) e)) does.0
 does_desk lost moment (Edit n) body s new said name does other =
     edits_leave n name body said (office_parts s) (office_parts new) (λ e. other (ap (λ (m : List ℕ). Some (desk m)) e)) does.0
+does_desk lost moment (Replace n) body s new said name does other =
+    desk_left lost n body s said new name (λ e. other (ap (λ (m : List ℕ). Some (desk m)) e)) does
 does_desk lost moment (Page table after) body s new said name does other = ap (λ (x : OfficeState). find name x.desks) does.1
 does_desk lost moment Plan body s new said name does other = ap (find name) (desks_of s new does.1)
 does_desk lost moment Graph body s new said name does other = ap (find name) (desks_of s new does.1)
 
--- the same of a request, whose route may be that of edits
+-- the same of a request, whose route may be that of edits or of replacements
 abbrev LeavesIt : OfficeState → OfficeState → Asked → List ℕ → Type 0
-LeavesIt old new request name = (find name new.sessions ≡ find name old.sessions) ⊎ (IsEdit request × SessionIsCarried old new name)
+LeavesIt old new request name =
+    (find name new.sessions ≡ find name old.sessions) ⊎ (IsEdit request × SessionIsCarried old new name) ⊎ (IsReplacement request × SessionIsCarriedOver old new name)
 
 by_route : (route : Route) (request : Asked) (old new : OfficeState) (name : List ℕ) → Routing request.method request.path (Ok route) → IsLeft route old new name → LeavesIt old new request name
 by_route route request old new name routed (inl e) = inl e
-by_route route request old new name routed (inr h) = inr ((h.0.0, subst (λ (r : Route). Routing request.method request.path (Ok r)) h.0.1 routed), h.1)
+by_route route request old new name routed (inr (inl h)) = inr (inl ((h.0.0, subst (λ (r : Route). Routing request.method request.path (Ok r)) h.0.1 routed), h.1))
+by_route route request old new name routed (inr (inr h)) = inr (inr ((h.0.0, subst (λ (r : Route). Routing request.method request.path (Ok r)) h.0.1 routed), h.1))
 
 pub leaves_session : LeavesOthers → (old new : OfficeState) (before now : Marks) (moment : ℕ) (request : Asked) (said name : List ℕ)
     → AnswersRequest old before moment request said now new → (IsOf (session name) request → ⊥) → LeavesIt old new request name
@@ -158,9 +178,14 @@ plays_leave_desk old before (x ∷ xs) new now name plays others =
 -- what is kept of the requests of a session stays too, whatever it holds
 keeps_kept : (old new : OfficeState) (request : Asked) (name : List ℕ) → LeavesIt old new request name → kept_of_session (find name new.sessions) ≡ kept_of_session (find name old.sessions)
 keeps_kept old new request name (inl e) = ap kept_of_session e
-keeps_kept old new request name (inr h) = ap kept_of_session h.1 ∙ still (find name old.sessions)
+keeps_kept old new request name (inr (inl h)) = ap kept_of_session h.1 ∙ still (find name old.sessions)
   where
     still : (o : Option SessionState) → kept_of_session (option_map (carried old.app.names new.app.names) o) ≡ kept_of_session o
+    still None = refl
+    still (Some s) = refl
+keeps_kept old new request name (inr (inr h)) = ap kept_of_session h.1 ∙ still (find name old.sessions)
+  where
+    still : (o : Option SessionState) → kept_of_session (option_map (carried_over old.app.names new.app.names) o) ≡ kept_of_session o
     still None = refl
     still (Some s) = refl
 
@@ -244,6 +269,7 @@ shows_one laws p p' q q' moment (Event n) body a b new new' said said' name is r
 shows_one laws p p' q q' moment (Input n) body a b new new' said said' name is reads settled app same known rows h k = absurd cc
 shows_one laws p p' q q' moment (Rows n) body a b new new' said said' name is reads settled app same known rows h k = cc
 shows_one laws p p' q q' moment (Edit n) body a b new new' said said' name is reads settled app same known rows h k = cc
+shows_one laws p p' q q' moment (Replace n) body a b new new' said said' name is reads settled app same known rows h k = cc
 shows_one laws p p' q q' moment (Page table after) body a b new new' said said' name is reads settled app same known rows h k = cc
 shows_one laws p p' q q' moment Plan body a b new new' said said' name is reads settled app same known rows h k = cc
 shows_one laws p p' q q' moment Graph body a b new new' said said' name is reads settled app same known rows h k = cc

@@ -9,7 +9,7 @@ use Rattle.app_wire.specs.Framing.{Asked}
 use Rattle.app_wire.specs.ReplyBytes.{refusal, reply}
 use Rattle.app_wire.specs.Routing.{Routing}
 use Rattle.app_wire.specs.declared.route.Route.{Route}
-use Rattle.app_wire.specs.declared.route.Route.TheVariants.{Begin, End, View, Named as Formulas, Items, Event, Input, Rows, Edit, Page, Plan, Graph}
+use Rattle.app_wire.specs.declared.route.Route.TheVariants.{Begin, End, View, Named as Formulas, Items, Event, Input, Rows, Edit, Replace, Page, Plan, Graph}
 use Rattle.fx_core.specs.Reads.{IsAmong}
 use Rattle.fx_core.specs.declared.sources.Source.{Source}
 use Rattle.fx_core.specs.declared.sources.Source.TheVariants as source
@@ -32,7 +32,7 @@ use Rattle.office.proofs.Rounds.{no_table, one_table}
 use Rattle.office.proofs.Sent.{other_apart, other_itself}
 use Rattle.office.proofs.Places.{cases_of, item_at, one_at, position_passes, position_within, set_here, set_there, some_at}
 use Rattle.office.specs.Caches.{EachCacheBecame, CacheTouched, IsToldAside, IsTurned, WentOver, is_other_place, is_table, tables_in}
-use Rattle.office.specs.Leaving.{ActsClean, AreActed, AreEachLeft, SessionsLeft, AreLeftAt, AreLeftBeside, AreStopped, BeginLeaves, EventLeaves, InputLeaves, LeavesActed, LeavesBy, LeavesClean, LeavesStopped, StopsClean, Writing, any_table, either, event_cut, input_cut, nothing, tables_of, those, day_turned}
+use Rattle.office.specs.Leaving.{ActsClean, AreActed, AreEachLeft, SessionsLeft, AreLeftAt, AreLeftBeside, AreStopped, BeginLeaves, EventLeaves, InputLeaves, LeavesActed, LeavesBy, LeavesClean, LeavesStopped, ReplacementLeaves, StopsClean, Writing, any_table, either, event_cut, input_cut, nothing, tables_of, those, day_turned}
 use Rattle.office.specs.Sessions.{OpensSessionWriting, begin_checks, most_sessions, sessions_without}
 use Rattle.view_text.specs.ReplyText.{ok_text}
 use Rattle.office.specs.State.{OfficeView, OfficeState, schema_of}
@@ -348,6 +348,10 @@ pub leaves_edit : (desk body : List ℕ) (s t : OfficeState) (old new : List (Na
 unfolding LeavesBy
 leaves_edit desk body s t old new h = (old, left_none s.app nothing old old (each_same s.app [] old), h)
 
+pub leaves_replacement : (desk body : List ℕ) (s t : OfficeState) (old new : List (Named CacheState)) → ReplacementLeaves desk body nothing s t old new → LeavesBy (Replace desk) nothing body s t old new
+unfolding LeavesBy
+leaves_replacement desk body s t old new h = h
+
 beside_more : (a : App) (one : List ℕ) (W : Writing) (old new : List (Named CacheState)) → AreLeftBeside a one W old new → AreLeftBeside a one (either nothing W) old new
 beside_more a one W old new h = λ name c d far was is. let it = h name c d far was is in (it.0, (λ x among. inr (it.1 x among)), it.2)
 
@@ -394,6 +398,8 @@ leaves_after (Begin name) V body s t cs ds es day h = left_after_beside s.app na
 leaves_after (Event name) V body s t cs ds es day h = left_after_beside s.app name V any_table cs ds es day h
 leaves_after (Input name) V body s t cs ds es day h = left_after_beside s.app name V any_table cs ds es day h
 leaves_after (Edit desk) V body s t cs ds es day (ks, left, over) = (ks, each_after s.app V cs ds ks day left, over)
+leaves_after (Replace desk) V body s t cs ds es day (inl left) = inl (left.0, left_after_none s.app V cs ds es day left.1)
+leaves_after (Replace desk) V body s t cs ds es day (inr none) = inr none
 
 -- a request whose route was taken after the office went over to the moment
 pub leaves_then : (s t u : OfficeState) (before moment : ℕ) (request : Asked) (route : Route) (cs ds es : List (Named CacheState)) → Routing request.method request.path (Ok route) → t ≡ s → AreEachLeft s.app (day_turned before moment) cs ds
@@ -507,6 +513,7 @@ acts_after lost m (Formulas name) V body s said t cs ds es day h = tt
 acts_after lost m (Items name gallery from) V body s said t cs ds es day h = tt
 acts_after lost m (Rows desk) V body s said t cs ds es day h = tt
 acts_after lost m (Edit desk) V body s said t cs ds es day h = tt
+acts_after lost m (Replace desk) V body s said t cs ds es day h = tt
 acts_after lost m (Page table after) V body s said t cs ds es day h = tt
 acts_after lost m Plan V body s said t cs ds es day h = tt
 acts_after lost m Graph V body s said t cs ds es day h = tt
@@ -599,6 +606,7 @@ acts_none (Formulas name) lost m body s said t cs ds h = tt
 acts_none (Items name gallery from) lost m body s said t cs ds h = tt
 acts_none (Rows desk) lost m body s said t cs ds h = tt
 acts_none (Edit desk) lost m body s said t cs ds h = tt
+acts_none (Replace desk) lost m body s said t cs ds h = tt
 acts_none (Page table after) lost m body s said t cs ds h = tt
 acts_none Plan lost m body s said t cs ds h = tt
 acts_none Graph lost m body s said t cs ds h = tt
@@ -684,6 +692,7 @@ stops_after m (Formulas name) V body s t cs ds es day h = tt
 stops_after m (Items name gallery from) V body s t cs ds es day h = tt
 stops_after m (Rows desk) V body s t cs ds es day h = tt
 stops_after m (Edit desk) V body s t cs ds es day h = tt
+stops_after m (Replace desk) V body s t cs ds es day h = tt
 stops_after m (Page table after) V body s t cs ds es day h = tt
 stops_after m Plan V body s t cs ds es day h = tt
 stops_after m Graph V body s t cs ds es day h = tt
@@ -741,6 +750,7 @@ stops_none m (Formulas name) body s t cs ds h = tt
 stops_none m (Items name gallery from) body s t cs ds h = tt
 stops_none m (Rows desk) body s t cs ds h = tt
 stops_none m (Edit desk) body s t cs ds h = tt
+stops_none m (Replace desk) body s t cs ds h = tt
 stops_none m (Page table after) body s t cs ds h = tt
 stops_none m Plan body s t cs ds h = tt
 stops_none m Graph body s t cs ds h = tt

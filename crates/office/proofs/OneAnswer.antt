@@ -11,7 +11,7 @@ use Rattle.std.specs.List.{All}
 use Rattle.app_wire.specs.Framing.{Asked}
 use Rattle.app_wire.specs.Routing.{IsOneRoute, Routing}
 use Rattle.app_wire.specs.declared.route.Route.{Route}
-use Rattle.app_wire.specs.declared.route.Route.TheVariants.{Begin, End, View, Named as Shown, Items, Event, Input, Rows, Edit, Page, Plan, Graph}
+use Rattle.app_wire.specs.declared.route.Route.TheVariants.{Begin, End, View, Named as Shown, Items, Event, Input, Rows, Edit, Replace, Page, Plan, Graph}
 use Rattle.app_wire.specs.declared.route.RouteEnd.{RouteEnd}
 use Rattle.app_wire.specs.declared.route.RouteEnd.TheVariants.{NoRoute, WrongMethod, Memory}
 use Rattle.app_cells.specs.declared.app.App.{App}
@@ -45,6 +45,7 @@ use Rattle.office.specs.State.{OfficeState, schema_of}
 use Rattle.office.specs.Step.{AreOne, RouteStep, RoutedStep, Step, alike, edited, office_parts, refused}
 use Rattle.office.proofs.Directories.{found_fits}
 use Rattle.office.proofs.Isolation.{ReplyLaws, holds_found, is_known, shows_alike}
+use Rattle.office.proofs.Replacements.{replacements_alike}
 use Rattle.office.proofs.StepLemmas.{still}
 
 one_ok : (x y : List ℕ × Tables) (r : Result (List ℕ × Tables) Refusal) → r ≡ Ok x → r ≡ Ok y → x ≡ y
@@ -208,10 +209,10 @@ edits_alike : (n : List ℕ) (request : Asked) (s new new' : OfficeState) (said 
     → ((said ≡ said') × (office_parts new' ≡ record (office_parts new) { app = new'.app }) × IsSameApp new.app new'.app) ⊎ RefusesAlike (office_parts s) said (office_parts new) said' (office_parts new')
     → AreOne request s new new' said said'
 edits_alike n request s new new' said said' routed h k (inl e) =
-    edited (n, routed) e.2
+    edited (inl (n, routed)) e.2
     (k ∙ ap (λ (p : Parts). record s { app = p.app; sessions = p.sessions; desks = p.desks }) e.1 ∙ sym (ap (λ (x : OfficeState). record x { app = new'.app }) h)) e.0
 edits_alike n request s new new' said said' routed h k (inr e) =
-    refused (n, routed) (record { breaks = e.breaks; breaks' = e.breaks'; same = e.same; first = e.first.0; second = e.second.0 })
+    refused (inl (n, routed)) (record { breaks = e.breaks; breaks' = e.breaks'; same = e.same; first = e.first.0; second = e.second.0 })
     (h ∙ unedited s (office_parts new) e.first.1) (k ∙ unedited s (office_parts new') e.second.1)
 
 -- a route does one thing
@@ -273,6 +274,8 @@ does_one laws p p' q q' moment (Rows n) request s new new' said said' t u u' rou
 does_one laws p p' q q' moment (Edit n) request s new new' said said' t u u' routed settled sound e f g h k =
     edits_alike n request s new new' said said' routed h.1 k.1
     (laws.edit n request.body said said' (office_parts s) (office_parts new) (office_parts new') h.0 k.0)
+does_one laws p p' q q' moment (Replace n) request s new new' said said' t u u' routed settled sound e f g h k =
+    replacements_alike (SilenceCause p p') (SilenceCause q q') n request s new new' said said' t u u' routed e f g h k
 does_one laws p p' q q' moment (Page table after) request s new new' said said' t u u' routed settled sound e f g h k =
     let shapes = (schema_of s.app).tables in
     let same = page_alike (SilenceCause p p') (SilenceCause q q') shapes table after t u u' said said'

@@ -11,7 +11,7 @@ use Rattle.app_reports.specs.Graph.{graph_text}
 use Rattle.app_reports.specs.Plans.{plan_text}
 use Rattle.app_wire.specs.Framing.{Asked}
 use Rattle.app_wire.specs.declared.route.Route.{Route}
-use Rattle.app_wire.specs.declared.route.Route.TheVariants.{Begin, End, View, Named as Shown, Items, Event, Input, Rows, Edit, Page, Plan, Graph}
+use Rattle.app_wire.specs.declared.route.Route.TheVariants.{Begin, End, View, Named as Shown, Items, Event, Input, Rows, Edit, Replace, Page, Plan, Graph}
 use Rattle.app_wire.specs.declared.route.RouteEnd.{RouteEnd}
 use Rattle.app_wire.specs.declared.route.RouteEnd.TheVariants.{NoRoute, WrongMethod, Memory}
 use Rattle.numbered_requests.specs.Checks.{checks, session_of}
@@ -41,6 +41,7 @@ use Rattle.office.specs.Sessions.{BeginsChecked, begin_checks}
 use Rattle.office.specs.State.{OfficeState, schema_of}
 use Rattle.office.specs.Step.{AnswersRequest, RouteStep, RoutedStep, Left, office_parts}
 use Rattle.office.proofs.OneAnswer.{items_go, named_goes, view_goes}
+use Rattle.office.proofs.Replacements.{refused_left}
 use Rattle.office.proofs.StepLemmas.{left_all, still}
 
 -- the tables stay, and so do those of a name, who are sessions or desks
@@ -130,6 +131,7 @@ does_leave lost moment (Rows n) body s new said refused does =
     left_desks lost s new does.1 (posts lost (schema_of s.app).tables n body said s.tables new.tables s.desks new.desks (desk_checks s.desks n body) refused does.0)
 does_leave lost moment (Edit n) body s new said refused does =
     left_all lost s new (does.1 ∙ ap (λ (p : Parts). record s { app = p.app; sessions = p.sessions; desks = p.desks }) (edits n body said (office_parts s) (office_parts new) (edit_checks s.desks n body) refused does.0))
+does_leave lost moment (Replace n) body s new said refused does = refused_left lost n body s said new refused does
 does_leave lost moment (Page table after) body s new said refused does =
     record { tables = page_goes lost (schema_of s.app).tables after s.tables new.tables said (table_index table (schema_of s.app).tables) does.0; others = does.1 }
 does_leave lost moment Plan body s new said refused does = absurd (refused (plan_text s.app) does.0)

@@ -1,6 +1,7 @@
 -- Edits that come again, beside other desks, and with what outcomes.
 use Rattle.std.proofs.Common.{◌≡◌, ◌≢◌, ◌⊎◌, inl, inr, ℕ, Bool, false, if◌then◌else◌, unwrap_or, List, Option, Some, Result, Ok, Err, refl, ap, sym, ◌∙◌, subst}
 use Rattle.app_cells.specs.declared.app.App.{App}
+use Rattle.serde_json.specs.Data.{Data}
 use Rattle.app_loader.specs.Edits.{IsOneEdit, IsOneEdited, IsOneEditRefusal, JudgedEdit}
 use Rattle.app_loader.specs.Verdicts.{IsSameApp}
 use Rattle.fx_core.specs.declared.broken.Broken.{Broken}
@@ -24,9 +25,14 @@ known : (name : List ℕ) (k : LastRequest) (desks : List (Named LastRequest)) �
 known name k desks e =
     ap (λ (b : Bool). if b then Err 12 else Ok (kept_of name desks)) (has_room name k desks e) ∙ ap (λ (o : Option LastRequest). Ok (unwrap_or o nobody)) e
 
+-- its last request, when it comes again, gets the kept reply by the checks
+pub desk_again : (T : Type 0) (asked : Data → Option T) (number : T → ℕ) (desks : List (Named LastRequest)) (name : List ℕ) (k : LastRequest) → find name desks ≡ Some k → IsLastAsked T asked number k
+    → checks asked number (desk_of name desks) k.body ≡ Err k.reply
+desk_again T asked number desks name k found last =
+    ap (λ (c : Result LastRequest ℕ). checks asked number c k.body) (known name k desks found) ∙ comes_again T asked number k last
+
 checks_again : (desks : List (Named LastRequest)) (name : List ℕ) (k : LastRequest) → find name desks ≡ Some k → IsLastAsked Edit edit_in (λ (e : Edit). e.seq) k → edit_checks desks name k.body ≡ Err k.reply
-checks_again desks name k found last =
-    ap (λ (c : Result LastRequest ℕ). checks edit_in (λ (e : Edit). e.seq) c k.body) (known name k desks found) ∙ comes_again Edit edit_in (λ (e : Edit). e.seq) k last
+checks_again desks name k found last = desk_again Edit edit_in (λ (e : Edit). e.seq) desks name k found last
 
 pub acts_once : EditActsOnce
 acts_once name said k p p' found last h =
@@ -70,8 +76,8 @@ IsOne p said q said' q' = ((said ≡ said') × (q' ≡ record q { app = q'.app }
 itself : (a : App) → IsSameApp a a
 itself a = record { cells = refl; names = refl; functions = refl; limit = refl }
 
-moved : (a b c d : App) → a ≡ c → b ≡ d → IsSameApp a b → IsSameApp c d
-moved a b c d e k h = subst (λ (x : App). IsSameApp x d) e (subst (λ (x : App). IsSameApp a x) k h)
+pub same_app : (a b c d : App) → a ≡ c → b ≡ d → IsSameApp a b → IsSameApp c d
+same_app a b c d e k h = subst (λ (x : App). IsSameApp x d) e (subst (λ (x : App). IsSameApp a x) k h)
 
 -- sessions go over to two apps alike that mean the same
 same_parts : (name body : List ℕ) (seq : ℕ) (x y : App) (p q q' : Parts) → IsSameApp x y → q ≡ edited name body seq x p → q' ≡ edited name body seq y p → q' ≡ record q { app = q'.app }
@@ -92,7 +98,7 @@ edits_one law one alike name body said said' e p q q' h k = by h.verdict k.verdi
         → EditEnds name body e.seq v p said q → EditEnds name body e.seq w p said' q' → IsOne p said q said' q'
     by (Ok x) (Ok y) i j f g =
         let same = one p.app x y e.cell e.text i j in
-        inl (f.0 ∙ sym g.0, same_parts name body e.seq x y p q q' same f.1 g.1, moved x y q.app q'.app (sym (ap (λ (r : Parts). r.app) f.1)) (sym (ap (λ (r : Parts). r.app) g.1)) same)
+        inl (f.0 ∙ sym g.0, same_parts name body e.seq x y p q q' same f.1 g.1, same_app x y q.app q'.app (sym (ap (λ (r : Parts). r.app) f.1)) (sym (ap (λ (r : Parts). r.app) g.1)) same)
     by (Ok x) (Err ys) i j f g = absurd (law p.app x e.cell e.text ys i j)
     by (Err xs) (Ok y) i j f g = absurd (law p.app y e.cell e.text xs j i)
     by (Err xs) (Err ys) i j f g = inr (record { breaks = xs; breaks' = ys; same = alike p.app e.cell e.text xs ys i j; first = f; second = g })
@@ -100,7 +106,7 @@ edits_one law one alike name body said said' e p q q' h k = by h.verdict k.verdi
 posts_one : IsOneEdit → IsOneEdited → IsOneEditRefusal → (name body said said' : List ℕ) (r : Result Edit (List ℕ)) (p q q' : Parts)
     → EditsChecked name body r p said q → EditsChecked name body r p said' q' → IsOne p said q said' q'
 posts_one law one alike name body said said' (Err words) p q q' h k =
-    inl (h.0 ∙ sym k.0, alone p q q' h.1 k.1, moved p.app p.app q.app q'.app (sym (ap (λ (r : Parts). r.app) h.1)) (sym (ap (λ (r : Parts). r.app) k.1)) (itself p.app))
+    inl (h.0 ∙ sym k.0, alone p q q' h.1 k.1, same_app p.app p.app q.app q'.app (sym (ap (λ (r : Parts). r.app) h.1)) (sym (ap (λ (r : Parts). r.app) k.1)) (itself p.app))
 posts_one law one alike name body said said' (Ok e) p q q' h k = edits_one law one alike name body said said' e p q q' h k
 
 pub one_outcome : IsOneEdit → IsOneEdited → IsOneEditRefusal → IsOneEditOutcome

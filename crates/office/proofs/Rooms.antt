@@ -1,10 +1,11 @@
 -- Room beside sessions.
-use Rattle.std.proofs.Common.{◌≡◌, ℕ, zero, suc, List, [], ◌∷◌, ◌++◌, drop, map, get_or, set, take, refl, ap, sym, arith}
+use Rattle.std.proofs.Common.{◌≡◌, ℕ, zero, suc, List, [], ◌∷◌, ◌++◌, drop, map, get_or, set, take, refl, ap, sym, ◌∙◌, arith}
 use Rattle.fx_core.specs.declared.names.Names.{Names}
 use Rattle.session_state.specs.Sessions.{HasSessionRoom, SessionRoom, SessionState, room_with}
 use Rattle.numbered_requests.specs.declared.directory.Named.{Named}
 use Rattle.office.specs.DeskEdits.{all_carried, one_carried}
 use Rattle.session_views.specs.Shows.{LiveSessionsFit}
+use Rattle.office.specs.Replacing.{all_over, one_over}
 use Rattle.office.specs.Rooms.{HaveNoRoom, HaveRoom, with_room, without_room}
 
 -- there is none beside sessions that fit an app
@@ -27,6 +28,21 @@ have_room n (x ∷ xs) = (enough n x.it.room, have_room n xs)
 pub carried_same : (old new : Names) (xs : List (Named SessionState)) → all_carried old new (map (with_room new) xs) ≡ all_carried old new xs
 carried_same old new [] = refl
 carried_same old new (x ∷ xs) = ap (λ (l : List (Named SessionState)). one_carried old new x ∷ l) (carried_same old new xs)
+
+pub over_same : (old new : Names) (xs : List (Named SessionState)) → all_over old new (map (with_room new) xs) ≡ all_over old new xs
+over_same old new [] = refl
+over_same old new (x ∷ xs) = ap (λ (l : List (Named SessionState)). one_over old new x ∷ l) (over_same old new xs)
+
+-- it is given back
+room_back : (n : Names) (xs : List (Named SessionState)) → HaveNoRoom xs → map without_room (map (with_room n) xs) ≡ xs
+room_back n xs none = same xs ∙ none
+  where
+    same : (ys : List (Named SessionState)) → map without_room (map (with_room n) ys) ≡ map without_room ys
+    same [] = refl
+    same (y ∷ ys) = ap (λ (l : List (Named SessionState)). without_room y ∷ l) (same ys)
+
+pub sessions_back : (old new : Names) (xs ys zs : List (Named SessionState)) → LiveSessionsFit old xs → ys ≡ map (with_room new) xs → zs ≡ map without_room ys → zs ≡ xs
+sessions_back old new xs ys zs fit made back = back ∙ ap (map without_room) made ∙ room_back new xs (have_none old xs fit)
 
 -- where some have it and others don't, it is no matter beside that
 pub without_any : (n : Names) (xs : List (Named SessionState)) (k : ℕ) → map without_room (map (with_room n) (take k xs) ++ drop k xs) ≡ map without_room xs

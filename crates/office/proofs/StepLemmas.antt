@@ -11,7 +11,7 @@ use Rattle.app_wire.specs.ReplyBytes.{refusal}
 use Rattle.app_wire.specs.Routing.{Routing}
 use Rattle.app_wire.specs.declared.route.Route.{Route}
 use Rattle.session_views.specs.Shows.{ReachesItems, ReachesView}
-use Rattle.app_wire.specs.declared.route.Route.TheVariants.{Event, Input, Items, Named, Page, View}
+use Rattle.app_wire.specs.declared.route.Route.TheVariants.{Event, Input, Items, Named, Page, Replace, View}
 use Rattle.app_wire.specs.declared.route.RouteEnd.TheVariants.{NoRoute, WrongMethod}
 use Rattle.app_cells.specs.declared.app.App.{App}
 use Rattle.fx_core.specs.declared.schema.Schema.{Schema}
@@ -27,6 +27,7 @@ use Rattle.session_state.specs.Sessions.{SessionState}
 use Rattle.session_requests.specs.Posting.{PostsEvent, PostsInput, ReachesEvent, ReachesInput}
 use Rattle.office.specs.Caches.{AreKept}
 use Rattle.office.specs.Ready.{OfficeInvariant}
+use Rattle.office.specs.Replacing.{PostsApp, ReachesApp}
 use Rattle.office.specs.Sessions.{ReachesNamed}
 use Rattle.office.specs.State.{OfficeView, OfficeState, schema_of}
 use Rattle.office.specs.Step.{RouteStep, RoutedStep, Left, PassesChecks, Step}
@@ -102,6 +103,11 @@ unfolding PassesChecks
 reaches_input s xs body given route name is of same reaches =
     subst (λ r. PassesChecks r body s) (sym is) (subst (λ b. ReachesInput name b s.sessions) same (subst (λ (l : List (Caller SessionState)). ReachesInput name given l) (sym of) reaches))
 
+pub reaches_replacement : (s made : OfficeState) (body given : List ℕ) (route : Route) (name : List ℕ) → route ≡ Replace name → made ≡ s → given ≡ body → ReachesApp name given made → PassesChecks route body s
+unfolding PassesChecks
+reaches_replacement s made body given route name is same equal reaches =
+    subst (λ r. PassesChecks r body s) (sym is) (subst (λ b. ReachesApp name b s) equal (subst (λ (x : OfficeState). ReachesApp name given x) same reaches))
+
 -- of the route that was taken
 pub does_event : (route : Route) (name body given : List ℕ) (old made : OfficeView) (now : Marks) (tables : Option Tables) (sessions : List (Caller SessionState)) (said : List ℕ) → route ≡ Event name → made ≡ old → given ≡ body
     → PostsEvent (SilenceCause made.marks now) made.state.app made.moment name given made.state.tables made.state.sessions said tables sessions
@@ -122,6 +128,18 @@ does_input route name body given old made now tables sessions said is same equal
     subst (λ (r : Route). RouteStep (SilenceCause old.marks now) old.moment r body old.state said new) (sym is)
     (subst (λ (s : OfficeView). RouteStep (SilenceCause s.marks now) s.moment (Input name) body s.state said new) same
     (subst (λ (b : List ℕ). RouteStep (SilenceCause made.marks now) made.moment (Input name) b made.state said new) equal (posts, refl)))
+
+pub does_replacement : (route : Route) (name body given : List ℕ) (old made : OfficeView) (now : Marks) (new : OfficeState) (said : List ℕ) → route ≡ Replace name → made ≡ old → given ≡ body
+    → PostsApp (SilenceCause made.marks now) name given made.state said new → RouteStep (SilenceCause old.marks now) old.moment route body old.state said new
+unfolding RouteStep
+does_replacement route name body given old made now new said is same equal posts =
+    subst (λ (r : Route). RouteStep (SilenceCause old.marks now) old.moment r body old.state said new) (sym is)
+    (subst (λ (s : OfficeView). RouteStep (SilenceCause s.marks now) s.moment (Replace name) body s.state said new) same
+    (subst (λ (b : List ℕ). RouteStep (SilenceCause made.marks now) made.moment (Replace name) b made.state said new) equal posts))
+
+-- the office as it is seen is left
+pub left_seen : (old made : OfficeView) (now : Marks) (new : OfficeState) → made ≡ old → Left (SilenceCause made.marks now) made.state new → Left (SilenceCause old.marks now) old.state new
+left_seen old made now new same h = subst (λ (s : OfficeView). Left (SilenceCause s.marks now) s.state new) same h
 
 -- where no rows are read, a keeper stays as it is
 pub read_nothing : (a : Keeping) → HasRead a a

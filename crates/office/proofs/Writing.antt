@@ -6,7 +6,8 @@ use Rattle.fx_core.specs.declared.names.Names.{Names}
 use Rattle.numbered_requests.specs.declared.directory.Named.{Named}
 use Rattle.session_state.specs.Sessions.{SessionState}
 use Rattle.office.specs.DeskEdits.{all_carried, one_carried}
-use Rattle.office.specs.Rooms.{with_room}
+use Rattle.office.specs.Replacing.{all_over, one_over}
+use Rattle.office.specs.Rooms.{with_room, without_room}
 use Rattle.office.proofs.Rooms.{carried_same}
 
 -- a list that is written over one of the same length
@@ -26,6 +27,18 @@ pub unroomy : (n : ℕ) (items given left : List (Named SessionState)) → n ≡
 unroomy n items given left len is same =
     let all : left ≡ items = same ∙ is in
     written n left items (omega (arith, len, ap length all)) ∙ all
+
+-- room was given back
+pub unroomed : (n : ℕ) (items given left : List (Named SessionState)) → n ≡ length items → given ≡ items → left ≡ map without_room given → take n (left ++ drop (length left) items) ≡ map without_room items
+unroomed n items given left len is left_is =
+    let all : left ≡ map without_room items = left_is ∙ ap (map without_room) is in
+    written n left items (omega (arith, len, ap length all, length-map items without_room)) ∙ all
+
+-- they went over to the app that replaces the old one
+pub over_all : (n : ℕ) (old new : Names) (items given over : List (Named SessionState)) → n ≡ length items → given ≡ items → over ≡ all_over old new given → take n (over ++ drop (length over) items) ≡ all_over old new items
+over_all n old new items given over len is over_is =
+    let all : over ≡ all_over old new items = over_is ∙ ap (all_over old new) is in
+    written n over items (omega (arith, len, ap length all, length-map items (one_over old new))) ∙ all
 
 -- and they went over to the edited app
 pub carried_all : (n : ℕ) (old new : Names) (items read made over : List (Named SessionState)) → n ≡ length items → read ≡ map (with_room new) items → over ≡ all_carried old new read

@@ -11,7 +11,7 @@ use Rattle.app_wire.specs.Routing.{Routing}
 use Rattle.app_wire.specs.declared.route.Route.{Route}
 use Rattle.app_wire.specs.declared.route.Route.TheVariants.{Begin, End, View, Named as Formulas}
 use Rattle.app_wire.specs.declared.route.Route.TheVariants.{Items, Event, Input, Rows, Edit, Page}
-use Rattle.app_wire.specs.declared.route.Route.TheVariants.{Plan, Graph}
+use Rattle.app_wire.specs.declared.route.Route.TheVariants.{Plan, Graph, Replace}
 use Rattle.recalc.specs.Kept.{HasNumbersLeft, CacheState}
 use Rattle.recalc.specs.Steps.{KeepsClean, OncePerCell}
 use Rattle.recalc.specs.Visits.{VisitsPerCell, WhereTold}
@@ -96,6 +96,7 @@ CostsBy (Page table number) m s said t old new before after =
     before.visited after.visited
 CostsBy (Rows desk) m s said t old new before after = after.steps ≡ before.steps
 CostsBy (Edit desk) m s said t old new before after = IsFree before after
+CostsBy (Replace desk) m s said t old new before after = after.steps ≡ before.steps
 CostsBy (End name) m s said t old new before after = IsFree before after
 CostsBy Plan m s said t old new before after = IsFree before after
 CostsBy Graph m s said t old new before after = IsFree before after

@@ -1,12 +1,12 @@
--- An app that is edited while it is served.
-use Rattle.std.specs.Prelude.{◌≡◌, ℕ, List, Ok}
+-- An app that is edited or replaced while it is served.
+use Rattle.std.specs.Prelude.{◌≡◌, ◌⊎◌, ℕ, List, Ok}
 use Rattle.app_cells.specs.declared.app.App.{App}
 use Rattle.app_loader.specs.app_texts.Frames.{app_frame}
 use Rattle.app_loader.specs.Verdicts.{AreSameBreaks}
 use Rattle.app_loader.specs.app_semantics.Sound.{IsSoundApp}
 use Rattle.app_wire.specs.Framing.{Asked}
 use Rattle.app_wire.specs.Routing.{Routing}
-use Rattle.app_wire.specs.declared.route.Route.TheVariants.{Edit}
+use Rattle.app_wire.specs.declared.route.Route.TheVariants.{Edit, Replace}
 use Rattle.office.specs.DeskEdits.{refusal_of}
 use Rattle.fx_core.specs.declared.broken.Broken.{Broken}
 use Rattle.numbered_requests.specs.Replies.{refusal_reply}
@@ -22,6 +22,15 @@ pub record KeepsApp (a b : App) : Type 0 where
 -- the request is an edit, by its route
 abbrev pub IsEdit : Asked → Type 0
 IsEdit request = (name : List ℕ) × Routing request.method request.path (Ok (Edit name))
+
+-- and a replacement
+abbrev pub IsReplacement : Asked → Type 0
+IsReplacement request = (name : List ℕ)
+    × Routing request.method request.path (Ok (Replace name))
+
+-- a request that may change the app
+abbrev pub ChangesApp : Asked → Type 0
+ChangesApp request = IsEdit request ⊎ IsReplacement request
 
 -- two refusals of it (24), for the same breaks
 pub record AreSameRefusals (said said' : List ℕ) : Type 0 where

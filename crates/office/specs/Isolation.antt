@@ -10,13 +10,14 @@ use Rattle.app_wire.specs.Routing.{Routing}
 use Rattle.app_wire.specs.declared.head.Method.TheVariants.{Get, Post, Put}
 use Rattle.app_wire.specs.declared.route.Route.{Route}
 use Rattle.app_wire.specs.declared.route.Route.TheVariants.{Begin, End, View, Named, Items, Event}
-use Rattle.app_wire.specs.declared.route.Route.TheVariants.{Input, Rows, Edit}
+use Rattle.app_wire.specs.declared.route.Route.TheVariants.{Input, Rows, Edit, Replace}
 use Rattle.numbered_requests.specs.Directory.{find}
+use Rattle.session_state.specs.CarriedOver.{carried_over}
 use Rattle.session_state.specs.Carrying.{carried}
 use Rattle.session_state.specs.Once.{LastRequest}
 use Rattle.session_state.specs.Sessions.{SessionState}
 use Rattle.office.specs.Answers.{Exchange, Plays}
-use Rattle.office.specs.Editing.{IsEdit}
+use Rattle.office.specs.Editing.{IsEdit, IsReplacement}
 use Rattle.office.specs.Ready.{IsSettledOffice}
 use Rattle.office.specs.State.{OfficeState, schema_of}
 use Rattle.office.specs.Step.{AnswersRequest, Left, Step}
@@ -37,6 +38,7 @@ caller_of (Event name) = Some (session name)
 caller_of (Input name) = Some (session name)
 caller_of (Rows name) = Some (desk name)
 caller_of (Edit name) = Some (desk name)
+caller_of (Replace name) = Some (desk name)
 caller_of _ = None
 
 -- a request of this caller
@@ -50,14 +52,20 @@ abbrev pub SessionIsCarried : OfficeState → OfficeState → List ℕ → Type 
 SessionIsCarried old new name = find name new.sessions
     ≡ option_map (carried old.app.names new.app.names) (find name old.sessions)
 
+-- after a replacement: it goes over to the app that replaces the old one
+abbrev pub SessionIsCarriedOver : OfficeState → OfficeState → List ℕ → Type 0
+SessionIsCarriedOver old new name = find name new.sessions
+    ≡ option_map (carried_over old.app.names new.app.names) (find name old.sessions)
+
 -- Any request but those of a session leaves its record as it was, but that it goes over to an app
--- that a desk edits.
+-- that a desk edits or puts in the place of the old one.
 abbrev pub LeavesSession : Type 0
 LeavesSession =
     (old new : OfficeState) (before now : Marks) (moment : ℕ) (request : Asked) (said name : List ℕ)
     → AnswersRequest old before moment request said now new → (IsOf (session name) request → ⊥)
     → (find name new.sessions ≡ find name old.sessions)
     ⊎ (IsEdit request × SessionIsCarried old new name)
+    ⊎ (IsReplacement request × SessionIsCarriedOver old new name)
 
 -- the same of a desk
 abbrev pub LeavesDesk : Type 0

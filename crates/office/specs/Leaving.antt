@@ -8,13 +8,14 @@ use Rattle.app_wire.specs.Routing.{Routing}
 use Rattle.app_wire.specs.declared.route.Route.{Route}
 use Rattle.app_wire.specs.declared.route.Route.TheVariants.{Begin, End, View, Named as Formulas}
 use Rattle.app_wire.specs.declared.route.Route.TheVariants.{Items, Event as OfEvent}
-use Rattle.app_wire.specs.declared.route.Route.TheVariants.{Input as OfInput, Rows, Edit, Page}
+use Rattle.app_wire.specs.declared.route.Route.TheVariants.{Input as OfInput, Rows, Edit, Replace}
+use Rattle.app_wire.specs.declared.route.Route.TheVariants.{Page}
 use Rattle.app_wire.specs.declared.route.Route.TheVariants.{Plan, Graph}
 use Rattle.fx_core.specs.Reads.{IsAmong}
 use Rattle.fx_core.specs.declared.sources.Source.{Source}
 use Rattle.fx_core.specs.declared.sources.Source.TheVariants as source
 use Rattle.recalc.specs.Changes.{StaysCleanExcept}
-use Rattle.recalc.specs.Kept.{CacheState}
+use Rattle.recalc.specs.Kept.{CacheState, IsClean}
 use Rattle.numbered_requests.specs.Checks.{checks, session_of}
 use Rattle.numbered_requests.specs.Directory.{find}
 use Rattle.numbered_requests.specs.declared.directory.Named.{Named}
@@ -28,6 +29,7 @@ use Rattle.session_requests.specs.declared.event.Event.{Event}
 use Rattle.session_requests.specs.declared.input.Input.{Input}
 use Rattle.session_state.specs.Sessions.{SessionState}
 use Rattle.office.specs.Caches.{EachCacheBecame, WentOver, is_table}
+use Rattle.office.specs.Replacing.{IsReplaced}
 use Rattle.office.specs.Sessions.{OpensSessionWriting, begin_checks}
 use Rattle.office.specs.State.{OfficeState, schema_of}
 
@@ -71,17 +73,31 @@ any_table x = is_table x ≡ true
 abbrev pub day_turned : ℕ → ℕ → Writing
 day_turned before now x = (x ≡ source.Today) × (now / 86400 ≢ before / 86400)
 
+-- no cell of any session is clean
+abbrev pub HaveNoneClean : App → List (Named CacheState) → Type 0
+HaveNoneClean a new = (name : List ℕ) (d : CacheState) (k : ℕ) → find name new ≡ Some d
+    → IsClean a d k → ⊥
+
+-- of a replacement: where the office stays, all clean cells but those that reach what was written,
+-- and where the app of the body is served, none
+abbrev pub ReplacementLeaves : List ℕ → List ℕ → Writing → OfficeState → OfficeState
+    → List (Named CacheState) → List (Named CacheState) → Type 0
+ReplacementLeaves desk body V s t old new =
+    ((t ≡ record s { tables = t.tables }) × SessionsLeft s.app V old new)
+    ⊎ (IsReplaced desk body s t × HaveNoneClean t.app new)
+
 -- THE cells that a route leaves clean in all sessions, beside what was written before: of posted
 -- rows, those that reach no table that the changes name; of an edit, those that are carried over to
--- the edited app; and of what a session is shown, and what begins nothing, all. Where something
--- acts, all other sessions keep those that reach no table; of the one that acts nothing is said
--- here.
+-- the edited app; of a replacement, all where it is refused, and none where it is accepted; and of
+-- what a session is shown, and what begins nothing, all. Where something acts, all other sessions
+-- keep those that reach no table; of the one that acts nothing is said here.
 unfoldable pub LeavesBy : Route → Writing → List ℕ → OfficeState → OfficeState
     → List (Named CacheState) → List (Named CacheState) → Type 0
 LeavesBy (Rows desk) V body s t old new = SessionsLeft s.app
     (either V (IsNamedBy (schema_of s.app).tables s.desks desk body)) old new
 LeavesBy (Edit desk) V body s t old new = (cs : List (Named CacheState))
     × AreEachLeft s.app V old cs × EachCacheBecame (λ k. WentOver s.app t.app) cs new
+LeavesBy (Replace desk) V body s t old new = ReplacementLeaves desk body V s t old new
 LeavesBy (End name) V body s t old new = SessionsLeft s.app V old new
 LeavesBy (View name) V body s t old new = SessionsLeft s.app V old new
 LeavesBy (Formulas name) V body s t old new = SessionsLeft s.app V old new

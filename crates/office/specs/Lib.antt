@@ -17,3 +17,5 @@ pub mod DeskEditLaws
 pub use Rattle.app_loader.specs.app_semantics
 pub use Rattle.session_requests.specs as session_requests
 pub mod Rooms
+pub mod Replacing
+pub mod Served

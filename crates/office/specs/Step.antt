@@ -13,7 +13,8 @@ use Rattle.app_wire.specs.ReplyBytes.{refusal, reply}
 use Rattle.app_wire.specs.Routing.{Routing}
 use Rattle.app_wire.specs.declared.route.Route.{Route}
 use Rattle.app_wire.specs.declared.route.Route.TheVariants.{Begin, End, View, Named, Items, Event}
-use Rattle.app_wire.specs.declared.route.Route.TheVariants.{Input, Rows, Edit, Page, Plan, Graph}
+use Rattle.app_wire.specs.declared.route.Route.TheVariants.{Input, Rows, Edit, Replace, Page}
+use Rattle.app_wire.specs.declared.route.Route.TheVariants.{Plan, Graph}
 use Rattle.app_wire.specs.declared.route.RouteEnd.{RouteEnd}
 use Rattle.app_wire.specs.declared.route.RouteEnd.TheVariants.{NoRoute, WrongMethod, Memory}
 use Rattle.office.specs.DeskEdits.{Parts, PostsEdit}
@@ -22,8 +23,9 @@ use Rattle.row_requests.specs.DeskRows.{PostsRows, ReachesRows}
 use Rattle.row_requests.specs.Page.{ReachesPage, ShowsPage}
 use Rattle.row_requests.specs.Sound.{AreSound}
 use Rattle.session_requests.specs.Posting.{PostsEvent, PostsInput, ReachesEvent, ReachesInput}
-use Rattle.office.specs.Editing.{AreSameRefusals, IsEdit, KeepsApp}
+use Rattle.office.specs.Editing.{AreSameRefusals, ChangesApp, KeepsApp}
 use Rattle.office.specs.Ready.{IsSettledOffice}
+use Rattle.office.specs.Replacing.{PostsApp, ReachesApp}
 use Rattle.office.specs.Sessions.{BeginsSession, ReachesBegin, ReachesNamed, ShowsNamed}
 use Rattle.office.specs.Sessions.{sessions_without}
 use Rattle.office.specs.State.{OfficeState, schema_of}
@@ -62,6 +64,7 @@ RouteStep lost moment (Edit name) body s said new =
     PostsEdit name body (office_parts s) said (office_parts new)
     × (new ≡ record s { app = new.app; sessions = new.sessions; desks = new.desks })
     × KeepsApp s.app new.app
+RouteStep lost moment (Replace name) body s said new = PostsApp lost name body s said new
 RouteStep lost moment (Page table after) body s said new =
     ShowsPage lost (schema_of s.app).tables table after s.tables said new.tables
     × (new ≡ record s { tables = new.tables })
@@ -93,6 +96,7 @@ PassesChecks (Items name gallery from) body s = ReachesItems s.app name gallery 
 PassesChecks (Event name) body s = ReachesEvent name body s.sessions
 PassesChecks (Input name) body s = ReachesInput name body s.sessions
 PassesChecks (Rows name) body s = ReachesRows name body s.desks
+PassesChecks (Replace name) body s = ReachesApp name body s
 PassesChecks (Page table after) body s = ReachesPage (schema_of s.app).tables table
 PassesChecks _ body s = ⊥
 
@@ -116,13 +120,13 @@ AnswersRequest old before moment request said now new =
     ⊎ ((said ≡ refusal 25) × Rose before.faults now.faults × ReachesKeeper old request
     × Left (SilenceCause before now) old new)
 
--- Two answers to a request are one: the same state and reply. An edit makes an app that means the
--- same, or is refused for the same breaks.
+-- Two answers to a request are one: the same state and reply. An edit and a replacement make an app
+-- that means the same, or are refused for the same breaks.
 pub data AreOne (request : Asked) (old new new' : OfficeState) (said said' : List ℕ) : Type 0 where
   alike : new ≡ new' → said ≡ said' → AreOne request old new new' said said'
-  edited : IsEdit request → IsSameApp new.app new'.app → new' ≡ record new { app = new'.app }
+  edited : ChangesApp request → IsSameApp new.app new'.app → new' ≡ record new { app = new'.app }
       → said ≡ said' → AreOne request old new new' said said'
-  refused : IsEdit request → AreSameRefusals said said' → new ≡ old → new' ≡ old
+  refused : ChangesApp request → AreSameRefusals said said' → new ≡ old → new' ≡ old
       → AreOne request old new new' said said'
 
 -- a request has one answer where the tables are told, and fit the schema

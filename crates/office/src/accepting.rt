@@ -1,4 +1,4 @@
-//! What is said of an edit, and what an accepted one leaves of its desk.
+//! What is said of an edit or a replacement, and what an accepted one leaves of its desk.
 ghost use Rattle.std.specs.Prelude.{◌≡◌, ◌<◌, IfOk, OnErr, vec_capacity, vec_len};
 ghost use Rattle.office.specs.DeskEdits as editing;
 ghost use Rattle.numbered_requests.specs.Directory.{put_named as put_into};
@@ -14,10 +14,10 @@ use session_state::Desk;
 use std::alloc::Global;
 use view_text::{Detail, Lines, Refusal};
 
-/// The number of a refused edit.
-const EDIT_REFUSED: u8 = 24;
+/// The number of a refused app.
+const APP_REFUSED: u8 = 24;
 
-/// An accepted edit: its reply, with a copy of it, of the body and of the desk's name to keep.
+/// What is accepted: its reply, with a copy of it, of the body and of the desk's name to keep.
 #[derive(Drop)]
 pub(crate) struct Accepted {
     pub(crate) reply: Reply,
@@ -33,7 +33,7 @@ fn seq_json(alloc: Global, seq: u32) -> Result<Json, Memory>
     Ok(json!(in alloc; {"seq": seq})?)
 }
 
-/// The reply to an accepted edit.
+/// The reply to what is accepted.
 fn accepted_reply(alloc: Global, seq: u32) -> Result<Reply, Memory>
     ensures said { IfOk result (λ r. said r ≡ editing.accepted_edit_reply seq) }
     ensures whole { IfOk result IsReply }
@@ -43,7 +43,7 @@ fn accepted_reply(alloc: Global, seq: u32) -> Result<Reply, Memory>
     Reply::accept(alloc, &body)
 }
 
-/// Takes all memory that an accepted edit needs beside the app, before anything changes.
+/// Takes all memory that what is accepted needs beside the app, before anything changes.
 pub(crate) fn accept(alloc: Global, name: &Words, seq: u32, body: &[u8]) -> Result<Accepted, Memory>
     ensures reply { IfOk result (λ a. said a.reply ≡ editing.accepted_edit_reply seq) }
     ensures whole { IfOk result (λ a. IsReply a.reply) }
@@ -63,7 +63,7 @@ pub(crate) fn accept(alloc: Global, name: &Words, seq: u32, body: &[u8]) -> Resu
     })
 }
 
-/// Keeps what an accepted edit leaves of its desk, and gives the reply. It takes no memory.
+/// Keeps what is left of its desk, and gives the reply. It takes no memory.
 pub(crate) fn keep(
     alloc: Global,
     desks: &mut Vec<Named<Desk>>,
@@ -100,7 +100,7 @@ fn lines_of(alloc: Global, breaks: &[Broken]) -> Result<Lines, Memory>
     Ok(lines)
 }
 
-/// The refusal of an edit for what is broken.
+/// The refusal of an app for what is broken.
 pub(crate) fn refuse(alloc: Global, breaks: &[Broken]) -> Result<Reply, Memory>
     ensures said { IfOk result (λ r. said r ≡ refusal_reply (editing.refusal_of breaks.now)) }
     ensures whole { IfOk result IsReply }
@@ -109,7 +109,7 @@ pub(crate) fn refuse(alloc: Global, breaks: &[Broken]) -> Result<Reply, Memory>
     Reply::refuse(
         alloc,
         &Refusal {
-            code: EDIT_REFUSED,
+            code: APP_REFUSED,
             detail,
         },
     )

@@ -1,6 +1,7 @@
-//! Sessions go over to an app that is edited.
-ghost use Rattle.std.specs.Prelude.{◌≡◌, IfOk, OnErr, map};
+//! Sessions go over to an app that is edited, or that replaces theirs.
+ghost use Rattle.std.specs.Prelude.{◌≡◌, ◌<◌, ◌^◌, IfOk, OnErr, length, map};
 ghost use Rattle.office.specs.DeskEdits.{all_carried};
+ghost use Rattle.office.specs.Replacing.{all_over};
 ghost use Rattle.office.specs.Rooms.{HaveNoRoom, HaveRoom, with_room, without_room};
 
 use fx_base::Memory;
@@ -20,7 +21,7 @@ fn add_room(sessions: &mut [Named<Session>], names: &Names) -> Result<(), Memory
 }
 
 /// Gives the room beside each session back.
-fn drop_room(sessions: &mut [Named<Session>])
+pub(crate) fn drop_room(sessions: &mut [Named<Session>])
     ensures { sessions.new ≡ map without_room sessions.old }
 {
     for session in sessions.iter_mut() {
@@ -51,5 +52,16 @@ pub(crate) fn carry(sessions: &mut [Named<Session>], old: &Names, new: &Names)
 {
     for session in sessions.iter_mut() {
         session.it.carry(old, new);
+    }
+}
+
+/// Each session goes over to an app that replaces the old one. It takes no memory.
+pub(crate) fn carry_over(sessions: &mut [Named<Session>], old: &Names, new: &Names)
+    requires room { HaveRoom new.now sessions.old }
+    requires screens { length new.now.screens < 2 ^ 32 }
+    ensures { sessions.new ≡ all_over old.now new.now sessions.old }
+{
+    for session in sessions.iter_mut() {
+        session.it.carry_over(old, new);
     }
 }

@@ -6,7 +6,7 @@ ghost use Rattle.app_loader.specs.app_semantics.Sound.{IsSoundApp};
 ghost use Rattle.fx_types.specs.ValueView.{view};
 ghost use Rattle.fx_scalar.specs.ScalarFunctions.{IsToday};
 ghost use Rattle.fx_core.specs.declared.sources.Source.TheVariants.{Today};
-ghost use Rattle.recalc.specs.Carrying.{AreOldCells, IsCarried, IsEditOf};
+ghost use Rattle.recalc.specs.Carrying.{AreOldCells, IsBegunAnew, IsCarried, IsEditOf};
 ghost use Rattle.recalc.specs.Kept.{IsInOrder, CacheState, source_index};
 ghost use Rattle.numbered_requests.specs.declared.directory.Named.{Named as Under};
 ghost use Rattle.session_requests.specs.Caching.{AreSources};
@@ -65,6 +65,17 @@ pub(crate) fn carry_all(
 {
     for at in 0..caches.len() {
         caches[at].it.carry(old, new, cells);
+    }
+}
+
+/// Each cache begins anew for an app that replaces the old one, in the room that was made. It takes
+/// no memory.
+pub(crate) fn begin_all_anew(caches: &mut Vec<Named<Cache>>, app: &App)
+    requires { HaveRoomFor app.now caches.old.items }
+    ensures { EachCacheBecame (λ k. IsBegunAnew app.now) caches.old.items caches.new.items }
+{
+    for at in 0..caches.len() {
+        caches[at].it.begin_anew(app);
     }
 }
 

@@ -14,8 +14,8 @@ use session_views::{one_items_reply, one_view_reply};
 
 /// A request has one answer where the tables are told: the state before it, its moment and its
 /// bytes determine the state after it and the reply, want of memory and faults of the keeper aside.
-/// An edit determines the app up to what has no meaning, as the order in which its formulas are
-/// evaluated, and a refusal up to places and circles of which there are several.
+/// An edit or a replacement determines the app up to what has no meaning, as the order in which its
+/// formulas are evaluated, and a refusal up to places, circles and parts where there are several.
 pub fn one_answer()
     ensures { IsOneAnswer }
 {
@@ -41,7 +41,7 @@ pub fn silent()
 {}
 
 /// Any request but those of a session leaves its record as it was, but that it goes over to an app
-/// that a desk edits.
+/// that a desk edits, or puts in the place of the old one.
 pub fn leaves_session()
     ensures { LeavesSession }
 {
@@ -103,8 +103,8 @@ pub fn starts_settled()
     ensures { StartsSettled }
 {}
 
-/// Any requests leave an office settled, and its app as it is beside formulas that are edited. So
-/// what laws say of settled offices holds of each that is served.
+/// Any requests leave an office settled, and its app as it is beside formulas that are edited, as
+/// long as none replaces it. So what laws say of settled offices holds of each that is served.
 pub fn stays_settled()
     ensures { StaysSettled }
 {}

@@ -13,6 +13,7 @@ pub mod named;
 pub mod parts;
 mod plans;
 pub mod posting;
+mod replacing;
 mod sending;
 pub mod sessions;
 

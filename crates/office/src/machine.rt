@@ -24,6 +24,7 @@ ghost use Rattle.office.specs.Step.{Step};
 use crate::keeping::{DAY, turn_all};
 use crate::plans::{show_graph, show_plan};
 use crate::posting::post_edit;
+use crate::replacing::post_app;
 use crate::sending::{change_rows, post_event, post_input};
 use crate::sessions::{begin, end, show_items_to, show_named, show_view_to};
 use app_cells::App;
@@ -350,6 +351,16 @@ impl<K: Keeper + Drop> Office<K> {
                 Ok(reply) => Ok(reply),
                 Err(Memory) => Err(KeeperEnd::Memory),
             },
+            Route::Replace(name) => post_app(
+                self.alloc,
+                &mut self.app,
+                &mut self.keeper,
+                &mut self.sessions,
+                &mut self.caches,
+                &mut self.desks,
+                name,
+                &request.body,
+            ),
             Route::Page(table, after) => show_page(
                 self.alloc,
                 &mut self.keeper,

@@ -7,20 +7,21 @@ use Rattle.numbered_requests.specs.declared.directory.Named.{Named}
 use Rattle.row_requests.specs.Sound.{AreSound}
 use Rattle.session_state.specs.Sessions.{SessionState}
 use Rattle.app_wire.specs.declared.route.Route.{Route}
-use Rattle.app_wire.specs.declared.route.Route.TheVariants.{Begin, End, View, Named as Formulas, Items, Event, Input, Rows, Edit, Page, Plan, Graph}
+use Rattle.app_wire.specs.declared.route.Route.TheVariants.{Begin, End, View, Named as Formulas, Items, Event, Input, Rows, Edit, Replace, Page, Plan, Graph}
 use Rattle.session_views.specs.Galleries.{gallery_named}
 use Rattle.numbered_requests.specs.Directory.{find}
 use Rattle.row_requests.specs.Page.{VisitsPage}
 use Rattle.row_requests.specs.Written.{IsNamedBy}
-use Rattle.office.specs.Leaving.{AreEachLeft}
-use Rattle.office.proofs.Leaving.{acts_begin, acts_event, acts_input, acts_quiet, each_same, err_always, leaves_begin, leaves_by, leaves_edit, leaves_end, leaves_event, leaves_graph, leaves_input, leaves_items, leaves_named, leaves_page, leaves_plan, leaves_rows, leaves_view, left_still, left_unchanged, ok_always, stops_begin, stops_event, stops_input, stops_quiet}
-use Rattle.office.proofs.Costs.{costs_acting, costs_by, costs_items, costs_named, costs_page, costs_rows, costs_still, costs_view}
+use Rattle.office.specs.Leaving.{AreEachLeft, ReplacementLeaves, nothing}
+use Rattle.office.proofs.Leaving.{acts_begin, acts_event, acts_input, acts_quiet, each_same, err_always, leaves_begin, leaves_by, leaves_edit, leaves_end, leaves_event, leaves_graph, leaves_input, leaves_items, leaves_named, leaves_page, leaves_plan, leaves_replacement, leaves_rows, leaves_view, left_still, left_unchanged, ok_always, stops_begin, stops_event, stops_input, stops_quiet}
+use Rattle.office.proofs.Costs.{costs_acting, costs_by, costs_items, costs_named, costs_page, costs_replacement, costs_rows, costs_still, costs_view}
 use Rattle.office.proofs.Edits.{ready_edited}
 use Rattle.office.proofs.Sent.{kept_order, kept_still}
 use Rattle.office.specs.Caches.{AreKept}
 use Rattle.office.specs.Costs.{CostOfItems, CostOfNamed, CostOfView, CostsTo, counts}
+use Rattle.office.specs.Served.{office_of}
 use Rattle.office.specs.State.{OfficeView}
-use Rattle.office.proofs.StepLemmas.{does_event, does_input, left_read, reaches_event, reaches_input, reaches_items, reaches_named, reaches_page, reaches_view, still_ready, stopped}
+use Rattle.office.proofs.StepLemmas.{does_event, does_input, does_replacement, left_read, left_seen, reaches_event, reaches_input, reaches_items, reaches_named, reaches_page, reaches_replacement, reaches_view, still_ready, stopped}
 use Rattle.office.proofs.machine.Office.take.Goals as goal
 
 pub returns-in-Page-clause-reached : goal.returns-in-Page-clause-reached
@@ -360,3 +361,50 @@ returns-in-Input-clause-step g c =
     IfOk-weaker c.post_input.result _ _ (λ r posts.
     does_input c.args.route.now c.in-Input.name c.args.request.now.body.items c.deref-in-Input.result.now c.args.self.now _ (g.K.Keeper.marks c.post_input.new.keeper) (g.K.Keeper.told c.post_input.new.keeper) c.post_input.new.sessions.items (said r)
     c.in-Input.is c.self.view_is c.deref-in-Input.ensures.value posts) c.post_input.ensures.done
+
+-- a replacement
+
+pub post_app-requires : goal.post_app-requires
+post_app-requires g c = (c.self.inside.moment, c.self.invariant)
+
+pub invariant_of-self-in-Replace : goal.invariant_of-self-in-Replace
+invariant_of-self-in-Replace g c = c.post_app.ensures.ready c.self.inside.moment c.self.invariant
+
+pub returns-in-Replace-clause-step : goal.returns-in-Replace-clause-step
+returns-in-Replace-clause-step g c =
+    IfOk-weaker c.post_app.result _ _ (λ r posts.
+    does_replacement c.args.route.now c.in-Replace.name c.args.request.now.body.items c.deref-in-Replace.result.now c.args.self.now _ (g.K.Keeper.marks c.post_app.new.keeper) _ (said r)
+    c.in-Replace.is c.self.view_is c.deref-in-Replace.ensures.value posts) c.post_app.ensures.done
+
+pub returns-in-Replace-clause-stopped : goal.returns-in-Replace-clause-stopped
+returns-in-Replace-clause-stopped g c =
+    on_err_weaker c.post_app.result (λ left. left_seen c.args.self.now _ (g.K.Keeper.marks c.post_app.new.keeper) _ c.self.view_is left) c.post_app.ensures.stopped
+
+pub returns-in-Replace-clause-reached : goal.returns-in-Replace-clause-reached
+returns-in-Replace-clause-reached g c failed =
+    reaches_replacement c.args.self.now.state _ c.args.request.now.body.items c.deref-in-Replace.result.now c.args.route.now c.in-Replace.name c.in-Replace.is
+    (ap (λ (s : OfficeView). s.state) c.self.view_is) c.deref-in-Replace.ensures.value (c.post_app.ensures.reached failed)
+
+pub returns-in-Replace-clause-clean : goal.returns-in-Replace-clause-clean
+returns-in-Replace-clause-clean g c =
+    let name = c.in-Replace.name in
+    let body = c.args.request.now.body.items in
+    let old = office_of g.K.Keeper c.self.inside.app c.self.inside.keeper c.self.inside.sessions.items c.self.inside.desks.items in
+    let new = office_of g.K.Keeper c.post_app.new.app c.post_app.new.keeper c.post_app.new.sessions.items c.post_app.new.desks.items in
+    let cs = c.self.inside.caches.items in
+    let ds = c.post_app.new.caches.items in
+    let leaves = subst (λ (l : List ℕ). ReplacementLeaves name l nothing old new cs ds) c.deref-in-Replace.ensures.value c.post_app.ensures.clean in
+    leaves_by c.args.route.now (Replace name) body c.args.self.now _ _ ds c.in-Replace.is c.self.view_is (leaves_replacement name body old new cs ds leaves)
+
+pub returns-in-Replace-clause-acted : goal.returns-in-Replace-clause-acted
+returns-in-Replace-clause-acted g c = ok_always c.post_app.result _ (λ r. acts_quiet c.args.route.now (Replace c.in-Replace.name) _ _ c.args.request.now.body.items _ (said r) _ _ _ c.in-Replace.is tt)
+
+pub returns-in-Replace-clause-costs : goal.returns-in-Replace-clause-costs
+returns-in-Replace-clause-costs g c =
+    let visited = g.K.Keeper.visited in
+    ok_always c.post_app.result _ (λ r.
+    costs_by c.args.route.now (Replace c.in-Replace.name) c.args.self.now _ (said r) _ c.post_app.new.caches.items c.args.steps.now (counts c.args.steps.now (visited c.post_app.new.keeper)) c.in-Replace.is c.self.view_is
+    (costs_replacement c.in-Replace.name (said r) c.self.inside.moment _ _ c.self.inside.caches.items c.post_app.new.caches.items c.args.steps.now (visited c.self.inside.keeper) (visited c.post_app.new.keeper)))
+
+pub returns-in-Replace-clause-cut : goal.returns-in-Replace-clause-cut
+returns-in-Replace-clause-cut g c = err_always c.post_app.result _ (stops_quiet _ c.args.route.now (Replace c.in-Replace.name) c.args.request.now.body.items _ _ _ _ c.in-Replace.is tt)
