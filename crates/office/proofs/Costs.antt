@@ -21,7 +21,7 @@ use Rattle.office.proofs.Places.{cases_of, item_at, one_at, set_here, set_there}
 use Rattle.office.proofs.Sent.{found_here, place_within}
 use Rattle.office.specs.Caches.{AreKept}
 use Rattle.office.specs.Costs.{Cost, CostOfItems, CostOfNamed, CostOfView, CostsAnswered, CostsBy, CostsTo, Counts, counts}
-use Rattle.office.specs.Leaving.{AreEachLeft, day_turned}
+use Rattle.office.specs.Leaving.{HaveTurned}
 use Rattle.office.specs.State.{OfficeView, OfficeState, schema_of}
 
 -- what holds of what a call gives, by three of its clauses
@@ -145,7 +145,7 @@ costs_by route kind old made said t ds x after is same h =
 
 -- over an office that went over to the moment
 pub costs_then : (s t u : OfficeState) (before m moment : ℕ) (request : Asked) (route : Route) (said : List ℕ) (cs ds es : List (Named CacheState)) (x v w : ℕ) (after : Counts) → Routing request.method request.path (Ok route) → t ≡ s → m ≡ moment → w ≡ v
-    → AreEachLeft s.app (day_turned before moment) cs ds → CostsBy route m t said u ds es (counts x w) after → CostsAnswered s before cs moment request said u es (counts x v) after
+    → HaveTurned before moment cs ds → CostsBy route m t said u ds es (counts x w) after → CostsAnswered s before cs moment request said u es (counts x v) after
 costs_then s t u before m moment request route said cs ds es x v w after is state at visited day h =
     inl (
       route,

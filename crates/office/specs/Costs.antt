@@ -20,7 +20,7 @@ use Rattle.numbered_requests.specs.declared.directory.Named.{Named}
 use Rattle.row_keeper.specs.Tables.{Tables}
 use Rattle.row_requests.specs.Page.{VisitsPage}
 use Rattle.session_state.specs.Sessions.{SessionState}
-use Rattle.office.specs.Leaving.{AreEachLeft, day_turned}
+use Rattle.office.specs.Leaving.{HaveTurned}
 use Rattle.office.specs.NamedReply.{AreNamedMade, named_cells}
 use Rattle.office.specs.State.{OfficeState, schema_of}
 
@@ -111,6 +111,6 @@ abbrev pub CostsAnswered : OfficeState → ℕ → List (Named CacheState) → �
 CostsAnswered s then old moment request said t new before after =
     ((route : Route) × (between : List (Named CacheState))
     × Routing request.method request.path (Ok route)
-    × AreEachLeft s.app (day_turned then moment) old between
+    × HaveTurned then moment old between
     × CostsBy route moment s said t between new before after)
     ⊎ (((said ≡ refusal 7) ⊎ (said ≡ refusal 8)) × IsFree before after)

@@ -28,7 +28,7 @@ use Rattle.session_requests.specs.Writable.{EventMayWrite, InputMayWrite}
 use Rattle.session_requests.specs.declared.event.Event.{Event}
 use Rattle.session_requests.specs.declared.input.Input.{Input}
 use Rattle.session_state.specs.Sessions.{SessionState}
-use Rattle.office.specs.Caches.{EachCacheBecame, WentOver, is_table}
+use Rattle.office.specs.Caches.{EachCacheBecame, IsTurned, WentOver, is_table}
 use Rattle.office.specs.Replacing.{IsReplaced}
 use Rattle.office.specs.Sessions.{OpensSessionWriting, begin_checks}
 use Rattle.office.specs.State.{OfficeState, schema_of}
@@ -72,6 +72,12 @@ any_table x = is_table x ≡ true
 -- the day is another than at the moment before
 abbrev pub day_turned : ℕ → ℕ → Writing
 day_turned before now x = (x ≡ source.Today) × (now / 86400 ≢ before / 86400)
+
+-- WHAT A MOMENT LEAVES OF CACHES: on the same day they are as they were, and on another one each is
+-- told so
+abbrev pub HaveTurned : ℕ → ℕ → List (Named CacheState) → List (Named CacheState) → Type 0
+HaveTurned before now old new = ((now / 86400 ≡ before / 86400) × (new ≡ old))
+    ⊎ ((now / 86400 ≢ before / 86400) × EachCacheBecame (λ k. IsTurned now) old new)
 
 -- no cell of any session is clean
 abbrev pub HaveNoneClean : App → List (Named CacheState) → Type 0

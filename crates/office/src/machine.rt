@@ -14,8 +14,8 @@ ghost use Rattle.row_requests.specs.Sound.{AreSound};
 ghost use Rattle.session_requests.specs.Opening.{CanOpen};
 ghost use Rattle.app_wire.specs.ReplyBytes.{refusal};
 ghost use Rattle.office.specs.Costs.{CostsAnswered, CostsBy, counts};
-ghost use Rattle.office.specs.Leaving.{ActsClean, AreEachLeft, LeavesActed, LeavesBy, LeavesClean};
-ghost use Rattle.office.specs.Leaving.{LeavesStopped, StopsClean, nothing, day_turned};
+ghost use Rattle.office.specs.Leaving.{ActsClean, AreEachLeft, HaveTurned, LeavesActed, LeavesBy};
+ghost use Rattle.office.specs.Leaving.{LeavesClean, LeavesStopped, StopsClean, nothing, day_turned};
 ghost use Rattle.office.specs.Refused.{IsRefused};
 ghost use Rattle.office.specs.State.{schema_of, started};
 ghost use Rattle.office.specs.Step.{AnswersRequest, RouteStep, Left, PassesChecks, ReachesKeeper};
@@ -220,6 +220,8 @@ impl<K: Keeper + Drop> Office<K> {
         ensures visited { self.new.visited ≡ self.old.visited }
         ensures loan { self.new.loan ≡ self.old.loan }
         ensures moment { IfOk result (λ _. self.new.moment ≡ moment) }
+        ensures turned { IfOk result (λ _. HaveTurned self.old.moment moment self.old.caches
+            self.new.caches) }
         ensures clean { AreEachLeft self.old.state.app (day_turned self.old.moment moment)
             self.old.caches self.new.caches }
     {

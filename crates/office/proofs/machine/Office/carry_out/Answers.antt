@@ -57,7 +57,7 @@ pub returns-in-Ok-turn-clause-costs : goal.returns-in-Ok-turn-clause-costs
 returns-in-Ok-turn-clause-costs g c =
     IfOk-weaker c.take.result _ _ (λ r costs.
     costs_then c.args.self.now.state c.turn.new.self.state c.take.new.self.state c.args.self.now.moment _ c.args.moment (asked c.args.request.now) c.in-Ok.route (said r) c.args.self.now.caches c.turn.new.self.caches c.take.new.self.caches c.args.steps.now _ _ _
-    c.in-Ok.ensures c.turn.ensures.state c.in-Ok-turn.ensures.moment c.turn.ensures.visited c.turn.ensures.clean costs) c.take.ensures.costs
+    c.in-Ok.ensures c.turn.ensures.state c.in-Ok-turn.ensures.moment c.turn.ensures.visited c.in-Ok-turn.ensures.turned costs) c.take.ensures.costs
 
 pub returns-in-Err-NoRoute-clause-costs : goal.returns-in-Err-NoRoute-clause-costs
 returns-in-Err-NoRoute-clause-costs g c = inr (inl c.fixed_refusal.ensures.said, (refl, refl))

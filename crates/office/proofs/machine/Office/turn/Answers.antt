@@ -1,10 +1,10 @@
-use Rattle.std.proofs.Common.{[], List, subst, sym}
+use Rattle.std.proofs.Common.{[], List, inl, inr, refl, subst, sym}
 use Rattle.fx_core.specs.declared.sources.Source.TheVariants.{Today}
 use Rattle.recalc.specs.Changes.{StaysCleanExcept}
 use Rattle.recalc.specs.Kept.{CacheState}
 use Rattle.numbered_requests.specs.declared.directory.Named.{Named}
 use Rattle.office.specs.Caches.{EachCacheBecame}
-use Rattle.office.specs.Leaving.{AreEachLeft, day_turned}
+use Rattle.office.specs.Leaving.{AreEachLeft, HaveTurned, day_turned}
 use Rattle.office.specs.State.{OfficeView}
 use Rattle.office.proofs.Leaving.{each_same, each_turned, left_none}
 use Rattle.office.proofs.Sent.{kept_order}
@@ -51,4 +51,16 @@ returns-clause-clean g c =
       | else-moment-self w ↦
           rw w.self-inside-is (subst (λ (s : OfficeView). AreEachLeft s.state.app (day_turned s.moment c.args.moment) s.caches caches) c.self.view_is
           (left_none app (day_turned c.self.inside.moment c.args.moment) caches caches (each_same app [] caches)))
+    ]
+
+pub returns-clause-turned : goal.returns-clause-turned
+returns-clause-turned g c =
+    let caches = c.self.inside.caches.items in
+    elim c.if-moment-self.branch [
+      | then-moment-self+in_ok-turn_all w ↦
+          rw w.self-inside-is (subst (λ (s : OfficeView). HaveTurned s.moment c.args.moment s.caches w.turn_all.new.caches.items) c.self.view_is
+          (inr (w.if-moment-self.true, w.in_ok-turn_all.ensures.turned)))
+      | else-moment-self w ↦
+          rw w.self-inside-is (subst (λ (s : OfficeView). HaveTurned s.moment c.args.moment s.caches caches) c.self.view_is
+          (inl (w.if-moment-self.false, refl)))
     ]
