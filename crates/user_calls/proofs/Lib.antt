@@ -1,0 +1,4 @@
+pub mod Places
+pub mod Carrying
+pub mod Arranging
+pub mod Law

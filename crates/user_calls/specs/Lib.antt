@@ -1,0 +1,2 @@
+pub mod UserCalls
+pub mod Laws
