@@ -1,8 +1,8 @@
 // A database that is taken over: its tables are made, or known to be in order.
-ghost use Rattle.std.specs.Prelude.{◌≡◌, false, IfErr, IfOk, IsTrue, OnErr, OnOk};
+ghost use Rattle.std.specs.Prelude.{◌≡◌, ◌≤◌, false, IfErr, IfOk, IsTrue, OnErr, OnOk};
 ghost use Rattle.sqlite.specs.Held.{state};
 ghost use Rattle.sqlite.specs.State.{HasCleanDisk, Survives};
-ghost use Rattle.sqlite_trees.specs.View.{IsQuiet};
+ghost use Rattle.sqlite_trees.specs.View.{IsQuiet, doubt};
 ghost use Rattle.sql_meanings.specs.Schema.{kept_schema, no_schema};
 ghost use Rattle.sql_meanings.specs.UnderWay.{AreEmpty, IsNew, IsReady};
 
@@ -45,6 +45,8 @@ pub fn seated<S: Alter + Drop>(
         → (state S.Store c).now.schema ≡ kept_schema → IsReady (state S.Store c)) }
     ensures same { IfOk result (λ c. HasCleanDisk (state S.Store c)
         → (state S.Store c).now.trees ≡ (state S.Store conn).committed.trees) }
+    ensures later { IfOk result (λ c. doubt (state S.Store conn).is_clean
+        ≤ doubt (state S.Store c).is_clean) }
     ensures unharmed { IfErr result (λ e. IsQuiet S.Store.view S.Store.faults S.Store.recovers
         S.Store.is_shielded conn.store e.1) }
 {

@@ -28,3 +28,9 @@ returns-in-Ok-clause-same g c clean =
     let early : IsClean v = omega (arith, c.in-Ok.ensures.clean) in
     let unbroken : v.is_broken ≡ false = sym (c.is_broken.ensures early) ∙ c.if-is_broken.false in
     c.in-Ok.ensures.trees clean ∙ (c.into_store-store.ensures.undone.undone (open_if_unbroken v unbroken (g.met.S.Store.broken_if_shut store))).0
+
+pub returns-in-Ok-clause-later : goal.returns-in-Ok-clause-later
+returns-in-Ok-clause-later g c =
+    let before = c.into_store-store.ensures.quiet.clean in
+    let behind = c.in-Ok.ensures.clean in
+    omega (arith, before, behind)
