@@ -12,9 +12,10 @@ MOST = 2**63 - 1
 HEAVIEST = 4_194_304
 LONGEST = 65_536
 STATUS = {7: 404, 8: 405, 9: 400, 10: 400, 11: 404, 12: 429, 13: 409, 14: 409, 15: 404, 16: 409, 17: 409, 18: 409, 19: 409, 20: 422, 21: 404,
-          22: 404, 23: 422, 24: 422, 25: 503, 26: 507}
+          22: 404, 23: 422, 24: 422, 25: 503, 26: 507, 27: 422}
 NAMES = {9: "BadJson", 10: "BadShape", 11: "NoSession", 12: "TooManyCallers", 13: "OutOfStep", 14: "SeqReused", 15: "NoControl", 16: "NoEvent",
-         17: "NotShown", 18: "NoItem", 19: "ItemMoved", 20: "BadInput", 21: "NoTable", 22: "NoRow", 23: "RowRefused", 25: "KeeperFault"}
+         17: "NotShown", 18: "NoItem", 19: "ItemMoved", 20: "BadInput", 21: "NoTable", 22: "NoRow", 23: "RowRefused",
+         24: "EditRefused", 25: "KeeperFault", 27: "MoveRefused"}
 INPUTS = {"TextInput": ("Text", "Default", "Text"), "Slider": ("Value", "Default", "Number"),
           "Checkbox": ("Value", "Default", "Boolean"), "DatePicker": ("SelectedDate", "DefaultDate", "Date")}
 PROPERTIES = {"Label": [("Text", "Text")], "Button": [("Text", "Text")], "TextInput": [("Default", "Text")],
@@ -1192,10 +1193,80 @@ class Table:
         self.rows = [it for it in self.rows if it["ID"] != id]
         return len(self.rows) < before
 
+    def take_over(self, source, columns):
+        """Takes the rows, their numbers and the last one from another table, if there is one: `columns` are the sources of columns."""
+        if source:
+            self.last = source.last
+            self.rows = [{"ID": row["ID"], **{it["name"]: row.get(columns.get(it["name"])) for it in self.shape["columns"]}} for row in source.rows]
+
 
 def error_of(refused):
     rule, column = refused
     return Err({"required": "MissingRequired", "unique": "ConstraintViolated", "size": "QuotaExceeded"}[rule], column)
+
+
+# ---- moves of tables and columns to another app; a move with a column is one of that column
+
+def table_source(olds, moves, name):
+    """The name of the old table that a new one comes from, or None: the one that is moved to it, or that of its own name, which isn't moved."""
+    moves = [it for it in moves if "column" not in it and it["table"] in olds]
+    moved = [it["table"] for it in moves if it["to"] == name]
+    stays = name in olds and all(it["table"] != name for it in moves)
+    return moved[0] if moved else name if stays else None
+
+
+def source_of(olds, moves, name):
+    """The old table that a new one comes from, or None, and of its columns those that theirs come from."""
+    source = table_source(olds, moves, name)
+    if source is None:
+        return None, {}
+    moves = [it for it in moves if "column" in it and it["table"] == source]
+    columns = {it["name"]: it["name"] for it in olds[source].shape["columns"] if all(move["column"] != it["name"] for move in moves)}
+    return olds[source], {**columns, **{it["to"]: it["column"] for it in reversed(moves)}}
+
+
+def target_of(olds, news, moves, name):
+    """The new table that comes from an old one, or None; of two that are to, the one that is named first."""
+    named = [it["to"] for it in moves if "column" not in it and it["table"] == name]
+    return next((news[it] for it in named + [name] if it in news and table_source(olds, moves, it) == name), None)
+
+
+def columns_in(table):
+    return [it["name"] for it in table.shape["columns"]]
+
+
+def broken_move(olds, news, moves):
+    """The first move that names nothing in the old app or in the new one, or what an earlier one named: its column, the rule and its table."""
+    seen = []
+    for move in moves:
+        table, column = move["table"], move.get("column")
+        target = news.get(move["to"]) if column is None else target_of(olds, news, moves, table)
+        there = table in olds and target is not None and (column is None or column in columns_in(olds[table]) and move["to"] in columns_in(target))
+        names = [("old", table, column), ("new", target, column is None or move["to"])]
+        if not there or any(it in seen for it in names):
+            return column or "", "move", table
+        seen += names
+    return None
+
+
+def mistyped(olds, news, moves):
+    """The first column whose source has another type."""
+    for name, table in news.items():
+        source, columns = source_of(olds, moves, name)
+        for it in table.shape["columns"]:
+            if source and it["name"] in columns and source.columns()[columns[it["name"]]] != it["type"]:
+                return it["name"], "type", name
+    return None
+
+
+def broken_row(tables):
+    """The first rule that a row breaks beside the others of its table."""
+    for name, table in tables.items():
+        for row in table.rows:
+            broken = table.refusal(row, row["ID"])
+            if broken:
+                return broken[1], broken[0], name
+    return None
 
 
 # ---- apps
@@ -1223,6 +1294,10 @@ class App:
 
     def tree(self, text):
         return parse(text) if text else None
+
+    def kind(self, name):
+        """The kind of a control, or None."""
+        return self.controls[name]["kind"] if name in self.controls else None
 
     def order(self):
         """The formulas in the order of apps, with their places."""
@@ -1637,14 +1712,37 @@ class Office:
         return code, reply
 
     def desk_edit(self, asked):
-        old, new = self.app, self.app.edited(asked["cell"], asked["text"])
+        new = self.app.edited(asked["cell"], asked["text"])
         new.tables = self.tables
+        self.go_over(new)
+        return None, {"seq": asked["seq"]}
+
+    def go_over(self, new):
+        """The app takes the place of the present one. Each session keeps, by names, what both have with the same type or of the same kind."""
+        old = self.app
         for session in self.sessions.values():
             for what in ("globals", "context"):
                 held, before, after = getattr(session, what), getattr(old, what), getattr(new, what)
                 setattr(session, what, {it: value for it, value in held.items() if it in after and before.get(it) == after[it]})
             session.gathered = {it: rows for it, rows in session.gathered.items() if it in new.gathered and old.gathered.get(it) == new.gathered[it]}
-        self.app = new
+            session.inputs = {it: value for it, value in session.inputs.items() if new.kind(it) == old.kind(it)}
+            session.chosen = {it: row for it, row in session.chosen.items() if new.kind(it) == "Gallery"}
+            if session.screen not in new.screens:
+                session.screen = next(iter(new.screens))
+        self.app, self.tables = new, new.tables
+
+    def desk_app(self, asked):
+        """Replaces the whole app, and moves the tables to it. What is wrong with the app isn't judged."""
+        new, moves, olds = App(asked["app"]), asked["moves"], self.tables
+        refusal = broken_move(olds, new.tables, moves) or mistyped(olds, new.tables, moves)
+        if refusal is None:
+            for name, table in new.tables.items():
+                table.take_over(*source_of(olds, moves, name))
+            refusal = broken_row(new.tables)
+        if refusal:
+            column, rule, table = refusal
+            return refused(27, {"column": column, "rule": rule, "table": table})
+        self.go_over(new)
         return None, {"seq": asked["seq"]}
 
     def desk_rows(self, asked):
@@ -1674,7 +1772,7 @@ class Office:
                 return refused(23, {"at": at, "column": name, "rule": "column"})
             value = change["row"][name]
             given[name] = units_in(value) if columns[name] == "Number" and value is not None else value
-            if value is not None and given[name] is None:
+            if value is not None and not is_of(value, columns[name]):
                 return refused(23, {"at": at, "column": name, "rule": "type"})
         cells = {it: given.get(it) if row is None else given.get(it, row[it]) for it in columns if it != "ID"}
         if row is not None:
@@ -1690,6 +1788,13 @@ class Office:
             return refused(21)
         rows = [it for it in self.tables[name].rows if it["ID"] > after * ONE]
         return None, {"more": len(rows) > 100, "rows": [row_json(it) for it in rows[:100]]}
+
+
+def is_of(value, ty):
+    """Whether JSON is a value of a column's type."""
+    if ty == "Number":
+        return units_in(value) is not None
+    return isinstance(value, {"Text": str, "Boolean": bool}.get(ty, dict))
 
 
 def units_in(value):
