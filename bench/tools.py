@@ -18,7 +18,7 @@ from serve import free_port, listen
 
 TOP = os.path.dirname(os.path.dirname(os.path.abspath(__file__)))
 PROGRAM = os.path.abspath(sys.argv[1]) if len(sys.argv) > 1 else f"{TOP}/pfx"
-APPS = ["order", "shop", "stock", "thirds", "booking"]
+APPS = ["order", "shop", "stock", "parts", "thirds", "booking"]
 
 
 def tool(name, *words):
