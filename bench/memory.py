@@ -4,10 +4,10 @@
     bench/memory.py [PFX [EACH]]
 
 PFX is the built program, out/pfx where none is given; each EACH-th allocation is refused, every one where none is said. A session is opened, a desk's changes of rows are sent, then events and
-inputs of the session whose formulas act, and an edit, each request twice; after each the rows are shown, and to the session its
-view and the named formulas. The run is made once for each such allocation, which alone gets no memory (by a library that stands
+inputs of the session whose formulas act, an edit and replacements of the app, each request twice; after each the rows are shown,
+and to the session its view and the named formulas. The run is made once for each such allocation, which alone gets no memory (by a library that stands
 before the C library's, so a C compiler is needed). The replies must be those of a model in which a request that wants for memory
-changes nothing: no change of rows, variables, inputs or formulas without its reply, and the same request again acts once. Where
+changes nothing: no change of rows, variables, inputs, formulas or apps without its reply, and the same request again acts once. Where
 memory is refused before a request is whole, the conversation ends behind that reply; where the app isn't loaded yet, there is
 none.
 """
@@ -43,7 +43,11 @@ APP = {"format": "pfx-1", "tables": [{"name": "Stock", "columns": COLUMNS}], "fo
 ADD = {"op": "add", "table": "Stock", "row": {"Name": "Nut", "Qty": {"n": "2.5"}}}
 CHANGES = [(1, [ADD]), (3, [ADD]), (2, [{"op": "remove", "table": "Stock", "id": 9}]), (2, [ADD]), (2, [{"op": "remove", "table": "Stock", "id": 1}, ADD])]
 OPEN, VIEW, NAMED, PAGE = (("PUT", "/s/a", None), ("GET", "/s/a/view", None), ("GET", "/s/a/named", None), ("GET", "/rows/Stock/0", None))
-SHOWN = [PAGE, VIEW, NAMED]
+SHOWN = [PAGE, ("GET", "/rows/Parts/0", None), VIEW, NAMED]
+# The app under other names, and one to which its rows can't move.
+MOVES = [{"table": "Stock", "to": "Parts"}, {"table": "Stock", "column": "Qty", "to": "Amount"}]
+GROWN = json.loads(json.dumps(APP).replace("Stock", "Parts").replace("Qty", "Amount"))
+STRICT = {**GROWN, "tables": [{"name": "Parts", "columns": [*GROWN["tables"][0]["columns"], {"name": "Shelf", "type": "Text", "required": True}]}]}
 
 
 def compact(value):
@@ -67,7 +71,11 @@ def edit(seq, cell, text):
     return "POST", "/desk/e/edit", compact({"seq": seq, "cell": cell, "text": text})
 
 
-ACTS = [event(1, "Add"), event(2, "Add"), event(3, "Many"), event(4, "Back"), given(5, "Size", 4), event(6, "List", 1), event(7, "Out", 2), event(8, "Add"), edit(1, "Add.OnSelect", 'Set(held_, [n]); Set(n, n - 1)'), event(9, "Add")]
+def replacement(seq, app):
+    return "POST", "/desk/e/app", compact({"seq": seq, "app": app, "moves": MOVES})
+
+
+ACTS = [event(1, "Add"), event(2, "Add"), event(3, "Many"), event(4, "Back"), given(5, "Size", 4), event(6, "List", 1), event(7, "Out", 2), event(8, "Add"), edit(1, "Add.OnSelect", 'Set(held_, [n]); Set(n, n - 1)'), event(9, "Add"), replacement(2, STRICT), replacement(2, GROWN), event(10, "Many")]
 REQUESTS = [OPEN, *SHOWN, *(it for change in CHANGES for it in (rows_of(*change), *SHOWN, rows_of(*change), *SHOWN)), *(it for act in ACTS for it in (act, *SHOWN, act, *SHOWN)), OPEN]
 WANTS = b'{"refused":{"code":26,"detail":null,"name":"WantOfMemory"}}'
 
