@@ -1,8 +1,8 @@
 -- What queries answer of the rows that they ask.
 use Rattle.std.proofs.Common.{◌≡◌, ◌⊎◌, inl, inr, ⊎_elim, ◌≤◌, ◌<◌, drop, List, [], ◌∷◌, map, length, take, refl, sym, ap, ap₂, ◌∙◌, arith, Bool, true, false, ℕ, Option, None, Some, subst}
-use Rattle.std.specs.Prelude.{IsSomeAnd, MatchOption, slice_get, unwrap_or}
+use Rattle.std.specs.Prelude.{IsSomeAnd, MatchOption, min, slice_get, unwrap_or}
 use Rattle.std.specs.List.{All, AllByRecursion, filter}
-use Rattle.std.proofs.lemmas.List.{length-take, take-append-drop, take-append-le, take_all}
+use Rattle.std.proofs.lemmas.List.{length-take, take-append-drop, take-append-le, take_all, take_min}
 use Rattle.std.proofs.lemmas.List.Sorted.{length_permutation}
 use Rattle.std.proofs.lemmas.List.Elements.{All-filter, All-from_recursion, All-take, filter-append}
 use Rattle.fx_types.specs.Values.{Data, blank, boolean, fault}
@@ -14,9 +14,10 @@ use Rattle.row_queries.specs.Conditions.{Condition, ConditionList, all_of, also,
 use Rattle.row_queries.specs.Queries.{AreAsked, IsQuery, IsScanned, IsTotalled, lies, first_outcome_fault, first_of, given_of, outcome_on, rows_or_fault}
 use Rattle.row_queries.specs.RowTests.{CanAsk, CanAskAll, HasNoFaults, HaveNoFaults, IsFaultOr, IsNoFault, IsTruth, Outcome, all_outcome, and_outcome, any_outcome, decided, decided_by, failed, outcome_fault, is_met, met, or_outcome, outcome, reversed, unless_fault, unmet}
 use Rattle.row_queries.specs.TableRows.{IsRowOf, value_at, values_of}
+use Rattle.row_queries.specs.Visits.{VisitsAtLeast}
 use Rattle.row_queries.specs.declared.queries.Query.{Query}
 use Rattle.row_queries.specs.declared.rows.Row.{Row}
-use Rattle.row_keeper.specs.Pages.{AreFirstRows, QueryGives, IsPage}
+use Rattle.row_keeper.specs.Pages.{AreFirstRows, CountsAsked, QueryGives, IsPage}
 use Rattle.row_keeper.proofs.StoreLemmas.{shorter}
 
 -- ---- a test without errors as constants is no error on a row that it can be asked of
@@ -144,6 +145,22 @@ enough_met p asked most size (inr h) =
     let e = length-take size asked in
     ap (λ l. take most (filter p l)) (take_all size asked (omega (arith, e, h)))
 
+-- the first so many are as many as were counted, or all
+enough_asked : (p : Row → Bool) (o : Option ℕ) (asked first judged : List Row) (most size count found : ℕ) → o ≡ Some most → first ≡ take size asked → judged ≡ filter p first → count ≡ length first → found ≡ length judged → (most ≤ found) ⊎ (count < size)
+    → (length asked ≤ count) ⊎ IsSomeAnd o (λ n. n ≤ length (filter p (take count asked)))
+enough_asked p o asked first judged most size count found t e j c m (inl h) =
+    let n = ap (λ (l : List Row). length l) e in
+    let l = length-take size asked in
+    let at : count ≡ min size (length asked) = omega (arith, n, l, c) in
+    let same : take count asked ≡ first = ap (λ k. take k asked) at ∙ take_min size asked ∙ sym e in
+    let k = ap (λ (l : List Row). length l) j in
+    let f = ap (λ (l : List Row). length (filter p l)) same in
+    inr (subst (λ x. IsSomeAnd x (λ n. n ≤ length (filter p (take count asked)))) (sym t) (omega (arith, h, m, k, f)))
+enough_asked p o asked first judged most size count found t e j c m (inr h) =
+    let n = ap (λ (l : List Row). length l) e in
+    let l = length-take size asked in
+    inl (omega (arith, n, l, c, h))
+
 pub page_is : (q : Query) (rows first judged : List Row) (most size count found : ℕ) → IsPage q most → AreFirstRows q rows size first → ((asked : List Row) → AreAsked q rows asked → AllByRecursion (λ (r : Row). CanAsk (values_of r) q.test) asked)
     → judged ≡ filter (λ r. is_met (outcome_on q r)) first → count ≡ length first → found ≡ length judged → (most ≤ found) ⊎ (count < size) → QueryGives q rows (first_of q.take judged) count
 page_is q rows first judged most size count found is (asked, are, e) able j c m enough = record {
@@ -165,6 +182,7 @@ page_is q rows first judged most size count found is (asked, are, e) able j c m 
       let l = length-take size asked in
       let p = length_permutation (filter (lies q) rows) asked are.rearranged in
       omega (arith, n, l, p, c);
+  enough = enough_asked passes q.take asked first judged most size count found is.take e j c m enough;
 }
   where
     passes : Row → Bool
@@ -178,6 +196,7 @@ all_given q rows asked given most count is are able e c = record {
   are_given = e;
   least = let n = ap (λ (l : List Row). length l) e in let s = given_short q asked in omega (arith, n, s, c);
   most = let p = length_permutation (filter (lies q) rows) asked are.rearranged in omega (arith, p, c);
+  enough = inl (omega (arith, c));
 }
 
 pub scanned_is : (q : Query) (rows given : List Row) (count : ℕ) → QueryGives q rows given count → IsScanned q rows (record { rows = given; fault = None })
@@ -191,3 +210,16 @@ first_fits (Some t) q first judged h e = subst (λ (l : List Row). All (IsRowOf 
 pub all_fits : (o : Option TableShape) (q : Query) (asked given : List Row) → IsSomeAnd o (λ (t : TableShape). AllByRecursion (IsRowOf t) asked) → given ≡ given_of q asked → IsSomeAnd o (λ (t : TableShape). All (IsRowOf t) given)
 all_fits None q asked given h e = absurd h
 all_fits (Some t) q asked given h e = subst (All (IsRowOf t)) (sym e) (given_fits (IsRowOf t) q asked (All-from_recursion (IsRowOf t) asked h))
+
+-- ---- all that is asked is counted
+pub asked_counted : (q : Query) (rows asked : List Row) (given before now : ℕ) → AreAsked q rows asked → given ≤ length asked → VisitsAtLeast (length asked) before now → CountsAsked q rows given before now
+asked_counted q rows asked given before now are less h = record { asked = asked; are = are; count = length asked; enough = inl (omega arith); least = less; counted = h }
+
+pub page_counted : (q : Query) (rows given : List Row) (count before now : ℕ) → QueryGives q rows given count → VisitsAtLeast count before now → CountsAsked q rows (length given) before now
+page_counted q rows given count before now is h = record { asked = is.asked; are = is.are; count = count; enough = is.enough; least = is.least; counted = h }
+
+pub given_counted : (q : Query) (rows : List Row) (given before now : ℕ) → CountsAsked q rows given before now → VisitsAtLeast given before now
+given_counted q rows given before now is = let l = is.least in let h = is.counted in omega (arith, l, h)
+
+pub all_counted : (q : Query) (rows asked : List Row) (before now : ℕ) → AreAsked q rows asked → VisitsAtLeast (length asked) before now → VisitsAtLeast (length (filter (lies q) rows)) before now
+all_counted q rows asked before now are h = let p = length_permutation (filter (lies q) rows) asked are.rearranged in omega (arith, p, h)

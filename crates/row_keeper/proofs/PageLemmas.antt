@@ -24,7 +24,7 @@ use Rattle.fx_core.specs.declared.schema.Column.{Column}
 use Rattle.fx_number.specs.Decimal.{IsInRange}
 use Rattle.fx_value.specs.Keys.{KeysOrder, key_bytes}
 use Rattle.fx_value.proofs.ByteOrder.{le_trans, lt_is}
-use Rattle.row_queries.specs.Ranges.{AreRangesRising, EndsBeforeAll, HoldEveryKey, in_range, in_ranges, is_before_end}
+use Rattle.row_queries.specs.Ranges.{AreRangesRising, EndsBeforeAll, HoldEveryKey, in_range, is_before_end}
 use Rattle.row_queries.specs.TableRows.{id_value}
 use Rattle.row_queries.specs.declared.ranges.KeyRange.{KeyRange}
 use Rattle.row_queries.specs.declared.rows.Row.{Row}
@@ -33,7 +33,7 @@ use Rattle.row_keeper.specs.declared.row_slots.Slot.{Slot}
 use Rattle.row_keeper.specs.Covered.{Agrees, NoneAbove, covered_of, covers, has_entry, lie_in}
 use Rattle.row_keeper.specs.Entries.{IndexEntry, Entries, among, entry_cmp, hits_in, ids_in, ids_of, lies_at, now_in}
 use Rattle.row_keeper.specs.Found.{row_under, rows_of_ids}
-use Rattle.row_keeper.specs.Pages.{GoesByNumber, HoldOneKey}
+use Rattle.row_keeper.specs.Pages.{GoesByNumber}
 use Rattle.row_keeper.specs.Rules.{only_key}
 use Rattle.row_keeper.specs.Slots.{now_at}
 use Rattle.row_keeper.proofs.FoundLemmas.{bytes_same, hits_are, less_not_at}

@@ -28,7 +28,7 @@ use Rattle.row_keeper.specs.OneTable.{ChangesAt, PutsNew, PutsOver, TakesOut, vi
 use Rattle.row_keeper.specs.Pages.{AreFirstRows}
 use Rattle.row_keeper.specs.RowRules.{rule_in}
 use Rattle.row_keeper.specs.Sameness.{HasColumnTypes}
-use Rattle.row_keeper.specs.Sound.{IsSoundTable, IsSoundRow, IsSoundState, lies_among}
+use Rattle.row_keeper.specs.Sound.{IsSoundTable, IsSoundRow, IsSoundState}
 use Rattle.row_keeper.specs.TableView.{TableView, states_now, states_then}
 use Rattle.row_keeper.specs.Tables.{AreStatesOf, IsStateOf, TableState, Tables, all_rows, columns_at, columns_in, filled_tables, has_id, no_rows, rows_of_tables, shapes_of, state_at, with_cells, with_row, with_state, without_row}
 use Rattle.row_keeper.specs.declared.rows.Put.{Put}

@@ -1,8 +1,10 @@
 -- What queries give that take the first rows by their numbers.
 use Rattle.std.specs.Prelude.{◌≡◌, ◌⊎◌, ℕ, ◌≤◌, List, [], ◌∷◌, length, map, take, None, Some}
+use Rattle.std.specs.Prelude.{IsSomeAnd}
 use Rattle.std.specs.List.{filter}
 use Rattle.row_queries.specs.Queries.{AreAsked, first_outcome_fault, given_of, lies, outcome_on}
-use Rattle.row_queries.specs.RowTests.{HasNoFaults}
+use Rattle.row_queries.specs.RowTests.{HasNoFaults, is_met}
+use Rattle.row_queries.specs.Visits.{VisitsAtLeast}
 use Rattle.row_queries.specs.declared.queries.Query.{Query}
 use Rattle.row_queries.specs.declared.ranges.KeyRange.{KeyRange}
 use Rattle.row_queries.specs.declared.rows.Row.{Row}
@@ -29,6 +31,12 @@ abbrev pub AreFirstRows : Query → List Row → ℕ → List Row → Type 0
 AreFirstRows q rows most first = (asked : List Row) × AreAsked q rows asked
     × (first ≡ take most asked)
 
+-- so many of the rows that a query asks tell what it gives: they are all, or as many of them meet
+-- its test as it takes
+abbrev pub AreEnough : Query → List Row → ℕ → Type 0
+AreEnough q asked count = (length asked ≤ count) ⊎ IsSomeAnd q.take (λ most.
+    most ≤ length (filter (λ r. is_met (outcome_on q r)) (take count asked)))
+
 -- what a query gives, whose test is no error on a row, and for which so many rows were asked
 pub record QueryGives (q : Query) (rows given : List Row) (count : ℕ) : Type 0 where
   pub asked : List Row
@@ -37,3 +45,13 @@ pub record QueryGives (q : Query) (rows given : List Row) (count : ℕ) : Type 0
   pub are_given : given ≡ given_of q asked
   pub least : length given ≤ count
   pub most : count ≤ length (filter (lies q) rows)
+  pub enough : AreEnough q asked count
+
+-- all rows are counted as visited that a query asks for what it answers, of which so many are given
+pub record CountsAsked (q : Query) (rows : List Row) (given before now : ℕ) : Type 0 where
+  pub asked : List Row
+  pub are : AreAsked q rows asked
+  pub count : ℕ
+  pub enough : AreEnough q asked count
+  pub least : given ≤ count
+  pub counted : VisitsAtLeast count before now

@@ -1,15 +1,17 @@
 //! Rows in memory.
 ghost use Rattle.std.specs.Prelude.{◌≡◌, ◌≢◌, ◌≤◌, ◌+◌, Some, true, false, length, map, slice_get};
-ghost use Rattle.std.specs.Prelude.{IfNone, IfOk, IfSome, IsSome, IsSomeAnd, OnErr, OnOk};
+ghost use Rattle.std.specs.Prelude.{filter, IfNone, IfOk, IfSome, IsSome, IsSomeAnd, OnErr, OnOk};
 ghost use Rattle.std.specs.List.{All, AllByRecursion};
 ghost use Rattle.fx_core.specs.Lawful.{IsLawfulSchema};
-ghost use Rattle.row_queries.specs.Queries.{AreAsked, IsQuery, IsScanned};
+ghost use Rattle.row_queries.specs.Answers.{IsCountAnswer, IsTotalAnswer};
+ghost use Rattle.row_queries.specs.Queries.{AreAsked, CanTotal, IsQuery, IsScanned, lies};
+ghost use Rattle.row_queries.specs.RowTests.{HasNoFaults};
 ghost use Rattle.row_queries.specs.TableRows.{IsRowOf, rows_at};
 ghost use Rattle.row_queries.specs.Visits.{VisitsAtLeast, VisitsItsRanges};
 ghost use Rattle.row_keeper.specs.Causes.{HasCause, end_of};
-ghost use Rattle.row_keeper.specs.Changes.{Shapes};
+ghost use Rattle.row_keeper.specs.Changes.{CountsQuery, Shapes, TotalsUp};
 ghost use Rattle.row_keeper.specs.InMemory.{EndsAsPlanned, EndsByPlan, memory_marks, unused};
-ghost use Rattle.row_keeper.specs.Pages.{IsPage};
+ghost use Rattle.row_keeper.specs.Pages.{CountsAsked, IsPage};
 ghost use Rattle.row_keeper.specs.Shaped.{by};
 ghost use Rattle.row_keeper.specs.Skips.{numbers_passed};
 ghost use Rattle.row_keeper.specs.StoreView.{shape_of, tables_now};
@@ -120,8 +122,9 @@ impl MemoryKeeper {
         ensures fit { IfOk result (λ a. IsSomeAnd
             (slice_get (shapes_of self.old.store.schema) query.now.table)
             (λ t. All (IsRowOf t) a.rows)) }
-        ensures least { IfOk result (λ a. VisitsAtLeast (length a.rows) self.old.visited
-            self.new.visited) }
+        ensures least { IfOk result (λ a. CountsAsked query.now
+            (rows_at (rows_of_tables self.old.store.now) query.now.table) (length a.rows)
+            self.old.visited self.new.visited) }
         ensures most { VisitsItsRanges query.now
             (rows_at (rows_of_tables self.old.store.now) query.now.table) self.old.visited
             self.new.visited }
@@ -144,8 +147,9 @@ impl MemoryKeeper {
         ensures fit { IfOk result (λ a. IsSomeAnd
             (slice_get (shapes_of self.old.store.schema) query.now.table)
             (λ t. All (IsRowOf t) a.rows)) }
-        ensures least { IfOk result (λ a. VisitsAtLeast (length a.rows) self.old.visited
-            self.new.visited) }
+        ensures least { IfOk result (λ a. CountsAsked query.now
+            (rows_at (rows_of_tables self.old.store.now) query.now.table) (length a.rows)
+            self.old.visited self.new.visited) }
         ensures most { VisitsItsRanges query.now
             (rows_at (rows_of_tables self.old.store.now) query.now.table) self.old.visited
             self.new.visited }
@@ -164,8 +168,9 @@ impl MemoryKeeper {
         ensures fit { IfOk result (λ a. IsSomeAnd
             (slice_get (shapes_of self.old.store.schema) query.now.table)
             (λ t. All (IsRowOf t) a.rows)) }
-        ensures least { IfOk result (λ a. VisitsAtLeast (length a.rows) self.old.visited
-            self.new.visited) }
+        ensures least { IfOk result (λ a. CountsAsked query.now
+            (rows_at (rows_of_tables self.old.store.now) query.now.table) (length a.rows)
+            self.old.visited self.new.visited) }
         ensures most { VisitsItsRanges query.now
             (rows_at (rows_of_tables self.old.store.now) query.now.table) self.old.visited
             self.new.visited }
@@ -337,17 +342,56 @@ impl Keeper for MemoryKeeper {
         Ok(self.answer(query)?)
     }
 
-    fn count(&mut self, query: &Query) -> Result<u32, KeeperEnd> {
+    fn count(&mut self, query: &Query) -> Result<u32, KeeperEnd>
+        requires query { IsQuery (shapes_of self.old.store.schema) query.now }
+        requires sound { HasNoFaults query.now.test }
+        ensures answer { IfOk result (λ n. IsCountAnswer (shapes_of self.old.store.schema)
+            (Some (rows_of_tables self.new.store.now)) query.now n) }
+        ensures number { IfOk result (λ n. CountsQuery query.now n (tables_now self.old.store)
+            (tables_now self.new.store)) }
+        ensures most { VisitsItsRanges query.now
+            (rows_at (rows_of_tables self.new.store.now) query.now.table) self.old.visited
+            self.new.visited }
+        ensures cause { HasCause (memory_marks self.old) (memory_marks self.new) result }
+        ensures ends { EndsByPlan EndsAsPlanned self.old.plan self.new.plan (end_of result) }
+        // Beside what each keeper ensures: what it keeps stays, and all rows that are asked are
+        // counted.
+        ensures store { self.new.store ≡ self.old.store }
+        ensures around { (self.new.name ≡ self.old.name) × (self.old.visited ≤ self.new.visited) }
+        ensures counted { IfOk result (λ _. VisitsAtLeast (length (filter (lies query.now)
+            (rows_at (rows_of_tables self.old.store.now) query.now.table))) self.old.visited
+            self.new.visited) }
+    {
         if self.plan.next_fails() {
             return Err(KeeperEnd::Failed);
         }
         self.store.are_held(query);
-        let asked = self.ask(query)?;
-        let rows = give_rows(self.alloc, asked, query)?;
-        Ok(rows.len() as u32)
+        let rows = self.ask(query)?;
+        let given = give_rows(self.alloc, rows, query)?;
+        Ok(given.len() as u32)
     }
 
-    fn total(&mut self, query: &Query, column: u16) -> Result<Totals, KeeperEnd> {
+    fn total(&mut self, query: &Query, column: u16) -> Result<Totals, KeeperEnd>
+        requires query { IsQuery (shapes_of self.old.store.schema) query.now }
+        requires sound { HasNoFaults query.now.test }
+        requires column { CanTotal (shapes_of self.old.store.schema) query.now column }
+        ensures answer { IfOk result (λ totals. IsTotalAnswer (shapes_of self.old.store.schema)
+            (Some (rows_of_tables self.new.store.now)) query.now column totals) }
+        ensures totals { IfOk result (λ totals. TotalsUp query.now column totals
+            (tables_now self.old.store) (tables_now self.new.store)) }
+        ensures most { VisitsItsRanges query.now
+            (rows_at (rows_of_tables self.new.store.now) query.now.table) self.old.visited
+            self.new.visited }
+        ensures cause { HasCause (memory_marks self.old) (memory_marks self.new) result }
+        ensures ends { EndsByPlan EndsAsPlanned self.old.plan self.new.plan (end_of result) }
+        // Beside what each keeper ensures: what it keeps stays, and all rows that are asked are
+        // counted.
+        ensures store { self.new.store ≡ self.old.store }
+        ensures around { (self.new.name ≡ self.old.name) × (self.old.visited ≤ self.new.visited) }
+        ensures counted { IfOk result (λ _. VisitsAtLeast (length (filter (lies query.now)
+            (rows_at (rows_of_tables self.old.store.now) query.now.table))) self.old.visited
+            self.new.visited) }
+    {
         if self.plan.next_fails() {
             return Err(KeeperEnd::Failed);
         }

@@ -1,11 +1,12 @@
 use Rattle.std.proofs.Common.{◌≤◌, ◌+◌, List, None, length, filter, ap, arith, subst, sym}
 use Rattle.row_queries.specs.Queries.{IsScanned, lies}
 use Rattle.row_queries.specs.TableRows.{rows_at}
-use Rattle.row_queries.specs.Visits.{VisitsItsRanges}
+use Rattle.row_queries.specs.Visits.{VisitsAtLeast, VisitsItsRanges}
 use Rattle.row_queries.specs.declared.rows.Row.{Row}
 use Rattle.row_keeper.specs.InMemory.{InMemory}
+use Rattle.row_keeper.specs.Pages.{CountsAsked}
 use Rattle.row_keeper.specs.Tables.{rows_of_tables}
-use Rattle.row_keeper.proofs.AnswerLemmas.{scanned_is}
+use Rattle.row_keeper.proofs.AnswerLemmas.{page_counted, scanned_is}
 use Rattle.row_keeper.proofs.memory.MemoryKeeper.page.Goals as goal
 
 pub returns-in_err-list-clause-most : goal.returns-in_err-list-clause-most
@@ -35,3 +36,15 @@ returns-clause-rows c =
     subst (λ (w : InMemory). IsScanned q (rows_at (rows_of_tables w.store.now) q.table) (record { rows = c.in_ok-list.field-0; fault = None })) c.self.view_is
     (subst (λ (l : List Row). IsScanned q rows (record { rows = l; fault = None })) (sym c.in_ok-list.ensures)
     (scanned_is q rows c.in_ok-page.page.rows.items c.in_ok-page.page.asked c.in_ok-page.ensures.given))
+
+pub returns-clause-least : goal.returns-clause-least
+returns-clause-least c =
+    let q = c.args.query.now in
+    let rows = rows_at (rows_of_tables c.self.inside.store.now) q.table in
+    let page = c.in_ok-page.page in
+    let least = c.visit.ensures.least in
+    let before = ap (λ (w : InMemory). w.visited) c.self.view_is in
+    let here : VisitsAtLeast page.asked c.self.inside.visited c.visit.new.self.visited = omega (arith, least, before) in
+    subst (λ (w : InMemory). CountsAsked q (rows_at (rows_of_tables w.store.now) q.table) (length c.in_ok-list.field-0) w.visited c.visit.new.self.visited) c.self.view_is
+    (subst (λ (l : List Row). CountsAsked q rows (length l) c.self.inside.visited c.visit.new.self.visited) (sym c.in_ok-list.ensures)
+    (page_counted q rows page.rows.items page.asked c.self.inside.visited c.visit.new.self.visited c.in_ok-page.ensures.given here))
