@@ -1,0 +1,4 @@
+pub mod Names
+pub mod Pages
+pub mod Whole
+pub mod GoingIn
