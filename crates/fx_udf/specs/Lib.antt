@@ -1,3 +1,4 @@
 pub mod Calling
 pub mod Expanding
 pub mod Ends
+pub mod Laws

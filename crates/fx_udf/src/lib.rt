@@ -5,6 +5,8 @@
 
 mod calls;
 mod end;
+mod laws;
 
 pub use calls::check;
 pub use end::ExpandEnd;
+pub use laws::{all_have_expansions, expansions_are_one};
