@@ -1,15 +1,17 @@
 #!/usr/bin/env python3
 """Replaces random small apps by random ones against a plain model, and compares each reply byte for byte.
 
-    bench/replacements.py [PFX] [FIRST LAST]
+    bench/replacements.py [PFX] [FIRST LAST [served]]
 
-PFX is the built program, ./pfx where none is given. Each seed from FIRST up to but without LAST, 0 and 500 where none are given,
+PFX is the built program, ./pfx where none is given. With `served` the plays go over loopback to a server whose rows are in a
+database's file; behind each one the server is started again over it, with the last app and with the first one. Each seed from FIRST up to but without LAST, 0 and 500 where none are given,
 plays sixty requests of two sessions and a desk over apps of one to three tables, screens, inputs, galleries, variables and
 collections, whose names come from a few. A fourth of the requests replace the app by another one, most of them with moves of
 tables and columns, some with moves or apps that are refused; the others change rows, act, give inputs, choose items and look at
 what is shown. The first replies that differ are printed, and the status is then 1. At the end stands how many replacements were
 accepted, and how many were refused by which rule."""
 import collections
+import http.client
 import json
 import random
 import subprocess
@@ -18,6 +20,7 @@ import tempfile
 
 from behaviour import bytes_of, compact
 from behaviour_model import Office, body_of, refused, source_of
+from serve import free_port, listen
 
 TABLES = ("Ant", "Bee", "Cat", "Dog")
 COLUMNS = {"W": "Text", "X": "Number", "Y": "Number", "Z": "Boolean"}
@@ -249,32 +252,70 @@ class Play:
         self.ask(self.dice.choice(["PUT", "PUT", "DELETE"]), f"/s/{self.dice.choice('ab')}")
 
 
-def differs(program, seed, ends):
+def replay(program, folder, play):
+    """Returns the bodies that a replay answers, and its status."""
+    asked = b"".join(bytes_of(*it) for it, _ in play.told)
+    done = subprocess.run([program, "replay", app_in(folder, play.first)], input=asked, capture_output=True)
+    return [it.split(b"\r\n\r\n", 1)[1].decode() for it in done.stdout.split(b"HTTP/1.1 ")[1:]], done.returncode
+
+
+def app_in(folder, file):
+    with open(f"{folder}/app.json", "w", encoding="utf-8") as out:
+        json.dump(file, out, ensure_ascii=False)
+    return f"{folder}/app.json"
+
+
+def serve(program, folder, file, asked):
+    """Returns the bodies that a server over the folder's database answers, each on a connection of its own, and its status."""
+    port = free_port()
+    # One connection more is that of `listen`.
+    made = subprocess.Popen([program, "serve", app_in(folder, file), f"{folder}/rows.db", str(port), str(len(asked) + 1)], stderr=subprocess.DEVNULL)
+    listen(port)
+    told = []
+    for method, path, body in asked:
+        link = http.client.HTTPConnection("127.0.0.1", port)
+        link.request(method, path, body and body.encode())
+        told.append(link.getresponse().read().decode())
+        link.close()
+    return told, made.wait()
+
+
+def serve_on(program, folder, play):
+    """Returns what a server answers, and again what one that is started over the same database with the last app has in its tables."""
+    told, status = serve(program, folder, play.first, [it for it, _ in play.told])
+    last = {"format": "pfx-1", "tables": play.office.app.file["tables"], "screens": [{"name": "S", "controls": []}]}
+    pages = [("GET", f"/rows/{it}/0", None) for it in TABLES]
+    play.told += [(it, body_of(play.office.answer(*it)[1])) for it in pages]
+    more, again = serve(program, folder, last, pages)
+    old = [program, "serve", app_in(folder, play.first), f"{folder}/rows.db", str(free_port()), "1"]
+    moved = {it["name"]: it["columns"] for it in play.first["tables"]} != {it["name"]: it["columns"] for it in last["tables"]}
+    ended = subprocess.run(old, stderr=subprocess.DEVNULL).returncode if moved else 8
+    return told + more, status or again or (0 if ended == 8 else f"{ended} with the old app")
+
+
+def differs(program, seed, ends, answers):
     """Plays a seed, and prints the first reply that differs; returns the number of requests, or None."""
     play = Play(seed).play()
     ends.update(play.ends)
-    asked, wanted = zip(*play.told)
-    with tempfile.NamedTemporaryFile("w", suffix=".json", encoding="utf-8") as file:
-        json.dump(play.first, file, ensure_ascii=False)
-        file.flush()
-        done = subprocess.run([program, "replay", file.name], input=b"".join(bytes_of(*it) for it in asked), capture_output=True)
-    told = [it.split(b"\r\n\r\n", 1)[1].decode() for it in done.stdout.split(b"HTTP/1.1 ")[1:]]
-    for place, (it, got, want) in enumerate(zip(asked, told, wanted)):
+    with tempfile.TemporaryDirectory() as folder:
+        told, status = answers(program, folder, play)
+    for place, ((it, want), got) in enumerate(zip(play.told, told)):
         if got != want:
             print(f"seed {seed}, request {place + 1}: {it}\n got {got}\nwant {want}\n app {json.dumps(play.first, ensure_ascii=False)}")
             return None
-    if done.returncode or len(told) != len(wanted):
-        print(f"seed {seed}: status {done.returncode}, {len(told)} replies of {len(wanted)}: {done.stderr.decode()}\n app {json.dumps(play.first, ensure_ascii=False)}")
+    if status or len(told) != len(play.told):
+        print(f"seed {seed}: status {status}, {len(told)} replies of {len(play.told)}\n app {json.dumps(play.first, ensure_ascii=False)}")
         return None
-    return len(asked)
+    return len(told)
 
 
 def main():
     words = sys.argv[1:]
     program = words.pop(0) if words and not words[0].isdigit() else f"{sys.path[0]}/../pfx"
     first, last = (int(words[0]), int(words[1])) if words else (0, 500)
+    answers = serve_on if words[2:] == ["served"] else replay
     ends = collections.Counter()
-    counts = [differs(program, seed, ends) for seed in range(first, last)]
+    counts = [differs(program, seed, ends, answers) for seed in range(first, last)]
     told = ", ".join(f"{name} {count}" for name, count in ends.most_common())
     print(f"{sum(it or 0 for it in counts)} requests of {len(counts)} apps, {sum(ends.values())} of them replacements ({told}); {counts.count(None)} apps differ")
     sys.exit(1 if None in counts else 0)
