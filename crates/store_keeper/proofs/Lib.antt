@@ -1,2 +1,4 @@
 pub mod EndLemmas
 pub mod EndCalls
+pub mod ActCalls
+pub mod AskCalls

@@ -1,18 +1,23 @@
 //! The keeper.
-ghost use Rattle.std.specs.Prelude.{◌≡◌, [], false, true, List, None, Some, IsSome};
+ghost use Rattle.std.specs.Prelude.{◌≡◌, [], false, true, List, None, Some, IfOk, IsSome, IsSomeAnd};
+ghost use Rattle.std.specs.Prelude.{slice_get};
 ghost use Rattle.sqlite.specs.Held.{Held, state};
 ghost use Rattle.sqlite.specs.Tree.{Trees};
+ghost use Rattle.row_queries.specs.TableRows.{AreCellsOf};
+ghost use Rattle.row_keeper.specs.Changes.{Inserts, IsInserted, IsReplaced, Removes, Replaces};
 ghost use Rattle.row_keeper.specs.Crashes.{IsOneOf};
-ghost use Rattle.row_keeper.specs.Tables.{Tables};
+ghost use Rattle.row_keeper.specs.Tables.{Tables, columns_at, shapes_of};
 ghost use Rattle.store_model.specs.Decoded.{tables_kept};
 ghost use Rattle.store_model.specs.Model.{leaves_of, shape_of};
-ghost use Rattle.store_keeper.specs.Calls.{Begins, Commits, GoesBack};
+ghost use Rattle.store_keeper.specs.Calls.{Acts, Asks, Begins, Commits, GoesBack};
 ghost use Rattle.store_keeper.specs.Kept.{kept};
 
+use crate::acting::{ask_seat, count_visits, insert_seat, remove_seat, replace_seat};
 use crate::seats::{count_fault, has_answer, write_seat};
 use fx_core::Schema;
 use row_changes::TableChanges;
-use row_keeper::KeeperEnd;
+use row_keeper::{KeeperEnd, Put};
+use row_queries::{Cells, Query, Row};
 use sqlite::{Alter, Connection};
 use std::alloc::Global;
 use std::marker::Model;
@@ -143,5 +148,92 @@ impl<S: Alter> StoreKeeper<S> {
         end_all(&mut self.tables, false);
         end_counts(&mut self.counts, false);
         self.is_begun = false;
+    }
+
+    /// Puts a new row into a table in the transaction, or says which rule it breaks first.
+    pub fn insert_row(&mut self, table: u16, cells: &Cells) -> Result<Put, KeeperEnd>
+        requires begun { self.old.is_begun ≡ true }
+        requires fit { IsSomeAnd (slice_get (shapes_of (shape_of self.old).now) table)
+            (λ t. AreCellsOf t.columns cells.now) }
+        ensures acts { Acts (state S.Store)
+            (Inserts (columns_at (shapes_of (shape_of self.old).now) table) table cells.now)
+            self.old self.new result }
+        ensures sound { IfOk result
+            (IsInserted (columns_at (shapes_of (shape_of self.old).now) table)) }
+    {
+        let given = insert_seat(
+            self.alloc,
+            &mut self.seat,
+            &self.schema,
+            &mut self.tables,
+            &mut self.counts,
+            table,
+            cells,
+        );
+        count_fault(&mut self.knows, &mut self.faults, &given);
+        given
+    }
+
+    /// Puts other cells into a row of a table in the transaction, or says that there is none of this
+    /// number, or which rule it would break first.
+    pub fn replace_row(&mut self, table: u16, id: u32, cells: &Cells) -> Result<Put, KeeperEnd>
+        requires begun { self.old.is_begun ≡ true }
+        requires fit { IsSomeAnd (slice_get (shapes_of (shape_of self.old).now) table)
+            (λ t. AreCellsOf t.columns cells.now) }
+        ensures acts { Acts (state S.Store)
+            (Replaces (columns_at (shapes_of (shape_of self.old).now) table) table id cells.now)
+            self.old self.new result }
+        ensures sound { IfOk result
+            (IsReplaced (columns_at (shapes_of (shape_of self.old).now) table) id) }
+    {
+        let given = replace_seat(
+            self.alloc,
+            &mut self.seat,
+            &self.schema,
+            &mut self.tables,
+            &self.counts,
+            table,
+            id,
+            cells,
+        );
+        count_fault(&mut self.knows, &mut self.faults, &given);
+        given
+    }
+
+    /// Takes a row out of a table in the transaction, and says whether it was there.
+    pub fn remove_row(&mut self, table: u16, id: u32) -> Result<bool, KeeperEnd>
+        requires begun { self.old.is_begun ≡ true }
+        requires table { IsSome (slice_get (shapes_of (shape_of self.old).now) table) }
+        ensures { Acts (state S.Store) (Removes table id) self.old self.new result }
+    {
+        let given = remove_seat(
+            self.alloc,
+            &mut self.seat,
+            &self.schema,
+            &mut self.tables,
+            &mut self.counts,
+            table,
+            id,
+        );
+        count_fault(&mut self.knows, &mut self.faults, &given);
+        given
+    }
+
+    /// The rows that a query asks, in its order: of rows that its table can hold, even where none
+    /// are told. They are counted as visited.
+    pub fn ask_rows(&mut self, query: &Query) -> Result<Vec<Row>, KeeperEnd>
+        requires { IsSome (slice_get (shapes_of (shape_of self.old).now) query.now.table) }
+        ensures { Asks (state S.Store) query.now self.old self.new result }
+    {
+        let given = ask_seat(
+            self.alloc,
+            &mut self.seat,
+            &self.schema,
+            &self.tables,
+            query,
+        );
+        count_fault(&mut self.knows, &mut self.faults, &given);
+        count_visits(&mut self.visited, &given);
+        given
     }
 }
