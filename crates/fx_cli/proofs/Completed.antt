@@ -39,7 +39,7 @@ names_none (command ∷ number ∷ []) n e = by (is_word (codes "gen") command) 
     by false is some = absurd cc
 names_none (command ∷ number ∷ other ∷ words) n e = absurd cc
 
-asks_for_no_sample : (words : List (String Global)) (form : Form) (name : List ℕ) → wanted words ≡ Some (form, name) → sample words ≡ None
+pub asks_for_no_sample : (words : List (String Global)) (form : Form) (name : List ℕ) → wanted words ≡ Some (form, name) → sample words ≡ None
 asks_for_no_sample words form name is = by (sample words) refl
   where
     by : (o : Option ℕ) → sample words ≡ o → o ≡ None

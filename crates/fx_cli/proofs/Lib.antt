@@ -1,4 +1,5 @@
 pub mod Completed
+pub mod Left
 pub mod Opened
 pub mod Replays
 pub mod Reported

@@ -8,7 +8,7 @@ use Rattle.app_wire.proofs.Doorways.{last_at_end}
 use Rattle.office.specs.Answers.{Converses, moments_of, with_bytes}
 use Rattle.office.proofs.Plays.{two}
 use Rattle.office.specs.declared.converse.ConvEnd.{ConvEnd}
-use Rattle.fx_cli.specs.Conversations.{Conversation, ConversationEndsIn, GoesOnAfter, HeldInTurn, HoldsNext, IsHeld, LeavesNone, Replayed, Sends, SendsOne, OfficeAt, all_moments}
+use Rattle.fx_cli.specs.Conversations.{Conversation, ConversationEndsIn, GoesOnAfter, HeldInTurn, HoldsNext, IsHeld, LeavesNone, OfficeAt, Replayed, Sends, SendsOne, ServiceAt, all_moments}
 use Rattle.fx_cli.specs.declared.replay.ReplayEnd.{ReplayEnd}
 use Rattle.fx_cli.specs.declared.replay.ReplayEnd.TheVariants.{Done, Fault, Full}
 
@@ -60,32 +60,34 @@ leaves_any Fault one end is b = tt
 leaves_any Full one end is b = tt
 
 -- a conversation that ends a replay
-pub replay_stops : (most : ℕ) (at_most : ReplayEnd) (one : Bool) (old mid new : OfficeAt) (count between now : ℕ) (clock clock_mid clock_now : Option (List ℕ)) (doors doors_mid doors_now : Option Doorway)
-    (cs : List Conversation) (end : ConvEnd) (stop : ReplayEnd) → length cs < most → Ticks clock (all_moments cs) clock_mid → HeldInTurn one old count cs mid between
-    → Tells (Sends one cs) doors doors_mid → HoldsNext one end mid new between now clock_mid clock_now doors_mid doors_now → ConversationEndsIn stop one end
-    → Replayed most at_most one old new count now clock clock_now doors doors_now stop
-replay_stops most at_most one old mid new count between now clock clock_mid clock_now doors doors_mid doors_now cs end stop few ticks is_held sends h is = record {
+pub replay_stops : (most : ℕ) (at_most : ReplayEnd) (old mid new : ServiceAt) (cs : List Conversation) (end : ConvEnd) (stop : ReplayEnd) → mid.one ≡ old.one → length cs < most
+    → Ticks old.clock (all_moments cs) mid.clock → HeldInTurn old.one old.office old.faults cs mid.office mid.faults → Tells (Sends old.one cs) old.doors mid.doors
+    → HoldsNext end mid new → ConversationEndsIn stop old.one end → Replayed most at_most old new stop
+replay_stops most at_most old mid new cs end stop same few ticks is_held sends h is = record {
   held = cs;
   last = Some h.conversation;
-  mid = mid;
-  between = between;
+  mid = mid.office;
+  between = mid.faults;
   is_held = is_held;
-  ends = (few, h.held, subst (ConversationEndsIn stop one) (sym h.ended) is, sym h.counted, sym h.left);
-  ticks = ticks_more clock cs clock_mid h.conversation clock_now ticks h.ticks;
-  told = two (λ x y z s k. (sends_more one cs h.conversation x y z s k, λ _. leaves_any stop one end is z)) sends h.told;
+  ends = (few, subst (λ o. IsHeld o mid.office mid.faults h.conversation) same h.held, subst (ConversationEndsIn stop old.one) (sym h.ended) is, sym h.counted, sym h.left);
+  ticks = ticks_more old.clock cs mid.clock h.conversation new.clock ticks h.ticks;
+  told = two (λ x y z s k. (sends_more old.one cs h.conversation x y z s k, λ _. leaves_any stop old.one end is z)) sends
+      (subst (λ o. Tells (SendsOne o h.conversation) mid.doors new.doors) same h.told);
 }
 
 -- one after which it goes on
-pub held_on : (one : Bool) (old mid new : OfficeAt) (count between now : ℕ) (clock clock_mid clock_now : Option (List ℕ)) (doors doors_mid doors_now : Option Doorway)
-    (cs : List Conversation) (n : ℕ) (end : ConvEnd) → Ticks clock (all_moments cs) clock_mid → HeldInTurn one old count cs mid between → length cs ≡ n
-    → Tells (Sends one cs) doors doors_mid → HoldsNext one end mid new between now clock_mid clock_now doors_mid doors_now → GoesOnAfter one end
-    → (cs' : List Conversation) × Ticks clock (all_moments cs') clock_now × HeldInTurn one old count cs' new now × (length cs' ≡ n + 1) × Tells (Sends one cs') doors doors_now
-held_on one old mid new count between now clock clock_mid clock_now doors doors_mid doors_now cs n end ticks is_held e sends h on = (
+pub held_on : (old mid new : ServiceAt) (cs : List Conversation) (n : ℕ) (end : ConvEnd) → mid.one ≡ old.one
+    → Ticks old.clock (all_moments cs) mid.clock → HeldInTurn old.one old.office old.faults cs mid.office mid.faults → length cs ≡ n → Tells (Sends old.one cs) old.doors mid.doors
+    → HoldsNext end mid new → GoesOnAfter old.one end
+    → (cs' : List Conversation) × Ticks old.clock (all_moments cs') new.clock × HeldInTurn old.one old.office old.faults cs' new.office new.faults × (length cs' ≡ n + 1)
+    × Tells (Sends old.one cs') old.doors new.doors
+held_on old mid new cs n end same ticks is_held e sends h on = (
   cs ++ h.conversation ∷ [],
-  ticks_more clock cs clock_mid h.conversation clock_now ticks h.ticks,
-  subst (λ k. HeldInTurn one old count (cs ++ h.conversation ∷ []) new k) h.counted
-      (subst (λ s. HeldInTurn one old count (cs ++ h.conversation ∷ []) s h.conversation.after) h.left
-      (held_more one old count cs mid between is_held h.conversation h.held (subst (GoesOnAfter one) (sym h.ended) on))),
+  ticks_more old.clock cs mid.clock h.conversation new.clock ticks h.ticks,
+  subst (λ k. HeldInTurn old.one old.office old.faults (cs ++ h.conversation ∷ []) new.office k) h.counted
+      (subst (λ s. HeldInTurn old.one old.office old.faults (cs ++ h.conversation ∷ []) s h.conversation.after) h.left
+      (held_more old.one old.office old.faults cs mid.office mid.faults is_held h.conversation
+      (subst (λ o. IsHeld o mid.office mid.faults h.conversation) same h.held) (subst (GoesOnAfter old.one) (sym h.ended) on))),
   length-append cs (h.conversation ∷ []) ∙ ap (λ k. k + 1) e,
-  two (sends_more one cs h.conversation) sends h.told,
+  two (sends_more old.one cs h.conversation) sends (subst (λ o. Tells (SendsOne o h.conversation) mid.doors new.doors) same h.told),
 )

@@ -6,6 +6,7 @@ use Rattle.fx_base.specs.Faults.{Rose}
 use Rattle.fx_core.specs.declared.schema.Schema.{Schema}
 use Rattle.office.specs.State.{schema_of}
 use Rattle.office.specs.app_loader.Verdicts.{IsOneApp, IsOneVerdict}
+use Rattle.fx_cli.specs.Conversations.{service_at}
 use Rattle.fx_cli.specs.Opening.{IsAsked}
 use Rattle.fx_cli.specs.Outside.{Outside, Sight, Work, WorkSight}
 use Rattle.fx_cli.specs.Plain.{IsShownNow}
@@ -25,10 +26,10 @@ use Rattle.fx_cli.proofs.Samples.{is_generated, never_six, sample_fault}
 use Rattle.fx_cli.proofs.Served.{service_rose}
 
 -- what is said of the values of an app, and of its service
-abbrev shows : {D K F C : Type 0} → WorkSight D K F C → Work D K F C → Work D K F C → App → String Global → Type 0
+abbrev pub shows : {D K F C : Type 0} → WorkSight D K F C → Work D K F C → Work D K F C → App → String Global → Type 0
 shows see old new app text = IsShownNow (see.clock.told old.clock) (see.clock.told new.clock) app (string_bytes text)
 
-abbrev ends : {D K F C : Type 0} → WorkSight D K F C → List (String Global) → Work D K F C → Work D K F C → App → Report → Type 0
+abbrev pub ends : {D K F C : Type 0} → WorkSight D K F C → List (String Global) → Work D K F C → Work D K F C → App → Report → Type 0
 ends see words old new = EndsOver see.keeper (service words).store old.keeper new.keeper (ServesTo see words old new)
 
 no_number : (words : List (String Global)) (n : ℕ) → sample words ≡ None → sample words ≡ Some n → ⊥
@@ -101,8 +102,8 @@ module _ {D K F O C : Type 0} (see : Sight D K F O C) (words : List (String Glob
   pub six_is_a_fault : (number : Option ℕ) → sample words ≡ number → Run see words old new 6 → Rose (see.work.doors.faults old.work.doors) (see.work.doors.faults new.work.doors)
   six_is_a_fault None none run =
       let is = reported 6 (Replayed Fault) is_fault refl run none in
-      service_rose (service words).port (service words).most (see.work.doors.single old.work.doors) _ _ (see.work.doors.faults old.work.doors) (see.work.doors.faults new.work.doors)
-      (see.work.clock.told old.work.clock) (see.work.clock.told new.work.clock) (see.work.doors.told old.work.doors) (see.work.doors.told new.work.doors) is.ended.served
+      service_rose (service words).port (service words).most (service_at see.work.doors see.work.clock _ old.work.doors old.work.clock)
+      (service_at see.work.doors see.work.clock _ new.work.doors new.work.clock) is.ended.served.0
   six_is_a_fault (Some n) some run =
       let ended = run.sampled n some in
       absurd (never_six see.work.keeper see.out n old.work.keeper new.work.keeper ended.0 6 old.out new.out ended.1 ended.5 refl)

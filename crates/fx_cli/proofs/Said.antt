@@ -77,6 +77,20 @@ is_fault (Replayed replay.Done) e = absurd (other 0 6 refl e)
 is_fault (Replayed replay.Fault) e = refl
 is_fault (Replayed replay.Full) e = absurd (other 9 6 refl e)
 
+-- with 9 it ends at a limit
+pub is_full : (r : Report) → status_of r ≡ 9 → r ≡ Replayed replay.Full
+is_full (Shown text) e = absurd (other 0 9 refl e)
+is_full (Checked text) e = absurd (other 0 9 refl e)
+is_full (Broken text) e = absurd (other 1 9 refl e)
+is_full Usage e = absurd (other 2 9 refl e)
+is_full OutOfMemory e = absurd (other 3 9 refl e)
+is_full (Unread text) e = absurd (other 4 9 refl e)
+is_full KeeperFault e = absurd (other 5 9 refl e)
+is_full OtherSchema e = absurd (other 8 9 refl e)
+is_full (Replayed replay.Done) e = absurd (other 0 9 refl e)
+is_full (Replayed replay.Fault) e = absurd (other 6 9 refl e)
+is_full (Replayed replay.Full) e = refl
+
 -- what was replayed, up to this end
 pub replay_at : (end : ReplayEnd) → {F : Type 0} (f : files.Ghosts F) (old new : F) (shows : App → String Global → Type 0) (ends : App → Report → Type 0) (wanted : Wanted) (r : Report) → Reports f old new shows ends wanted r → r ≡ Replayed end → (o o' : Option (List ℕ)) → Tells (Grows (report_text r)) o o'
     → IsService f old new wanted (λ app. ends app (Replayed end)) × Tells (Grows (text_of_end end)) o o'

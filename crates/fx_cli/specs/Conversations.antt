@@ -6,6 +6,8 @@ use Rattle.fx_base.specs.Silence.{Marks}
 use Rattle.fx_base.specs.Telling.{Stays, Tells}
 use Rattle.app_wire.specs.Doorway.{Doorway, Listens}
 use Rattle.app_wire.specs.Moments.{Ticks}
+use Rattle.app_wire.specs.declared.clock.Clock as clock
+use Rattle.app_wire.specs.declared.doors.Doors as doors
 use Rattle.office.specs.Answers.{Exchange, IsAnswerCount, IsTalk, Plays, moments_of}
 use Rattle.office.specs.State.{OfficeView, OfficeState}
 use Rattle.office.specs.declared.converse.ConvEnd.{ConvEnd}
@@ -21,6 +23,26 @@ pub record OfficeAt : Type 0 where
 -- how an office that is seen so stands
 abbrev pub office_at : OfficeView → OfficeAt
 office_at office = record { state = office.state; marks = office.marks }
+
+-- How a service stands: its office; whether each of its conversations has one reply; the faults
+-- that its doors counted; and what clock and doors tell.
+pub record ServiceAt : Type 0 where
+  pub office : OfficeAt
+  pub one : Bool
+  pub faults : ℕ
+  pub clock : Option (List ℕ)
+  pub doors : Option Doorway
+
+-- how one stands with this office, these doors and this clock
+abbrev pub service_at : {D C : Type 0} → doors.Ghosts D → clock.Ghosts C → OfficeAt → D → C
+    → ServiceAt
+service_at d c office doors clock = record {
+  office = office;
+  one = d.single doors;
+  faults = d.faults doors;
+  clock = c.told clock;
+  doors = d.told doors;
+}
 
 -- What was answered in a conversation, how it ended, how the office stands after it, and the doors'
 -- count of faults as it came and as it was over.
@@ -114,32 +136,30 @@ LeavesNone Done b = b.coming ≡ []
 LeavesNone Fault b = Unit {0}
 LeavesNone Full b = Unit {0}
 
--- A replay of at most so many conversations began with this office and with this count and ended
--- so, which is said where it took the most: these conversations were held, with the moments that
--- the clock gave.
-pub record Replayed (most : ℕ) (at_most : ReplayEnd) (one : Bool) (old new : OfficeAt)
-    (count now : ℕ) (clock clock_now : Option (List ℕ)) (doors doors_now : Option Doorway)
-    (end : ReplayEnd) : Type 0 where
+-- A replay of at most so many conversations ended so, which is said where it took the most: these
+-- conversations were held, with the moments that the clock gave.
+pub record Replayed (most : ℕ) (at_most : ReplayEnd) (old new : ServiceAt) (end : ReplayEnd) :
+    Type 0 where
   pub held : List Conversation
   pub last : Option Conversation
   pub mid : OfficeAt
   pub between : ℕ
-  pub is_held : HeldInTurn one old count held mid between
-  pub ends : ReplayEnds most at_most end one mid between (length held) last new now
-  pub ticks : Ticks clock (all_moments (and_last held last)) clock_now
-  pub told : Tells (λ a b. Sends one (and_last held last) a b
-      × (length held < most → LeavesNone end b)) doors doors_now
+  pub is_held : HeldInTurn old.one old.office old.faults held mid between
+  pub ends : ReplayEnds most at_most end old.one mid between (length held) last new.office
+      new.faults
+  pub ticks : Ticks old.clock (all_moments (and_last held last)) new.clock
+  pub told : Tells (λ a b. Sends old.one (and_last held last) a b
+      × (length held < most → LeavesNone end b)) old.doors new.doors
 
 -- the next conversation was held, and ended so
-pub record HoldsNext (one : Bool) (end : ConvEnd) (old new : OfficeAt) (count now : ℕ)
-    (clock clock_now : Option (List ℕ)) (doors doors_now : Option Doorway) : Type 0 where
+pub record HoldsNext (end : ConvEnd) (old new : ServiceAt) : Type 0 where
   pub conversation : Conversation
   pub ended : conversation.end ≡ end
-  pub left : conversation.office ≡ new
-  pub counted : conversation.after ≡ now
-  pub held : IsHeld one old count conversation
-  pub ticks : Ticks clock (moments_of conversation.exchanges) clock_now
-  pub told : Tells (SendsOne one conversation) doors doors_now
+  pub left : conversation.office ≡ new.office
+  pub counted : conversation.after ≡ new.faults
+  pub held : IsHeld old.one old.office old.faults conversation
+  pub ticks : Ticks old.clock (moments_of conversation.exchanges) new.clock
+  pub told : Tells (SendsOne old.one conversation) old.doors new.doors
 
 -- how a conversation that ended so ends a replay, if it does
 abbrev pub StopsAt : ConvEnd → Bool → Option ReplayEnd → Type 0
@@ -153,36 +173,30 @@ end_at_most None = Full
 end_at_most (Some port) = Done
 
 -- The doors listened on the port, if there is one, and only then may a fault have been counted.
-abbrev pub ListensOn : Option ℕ → ℕ → ℕ → Option Doorway → Option Doorway → Type 0
-ListensOn None count now doors doors_now = (now ≡ count) × (doors_now ≡ doors)
-ListensOn (Some port) count now doors doors_now
-    = (count ≤ now) × Tells (Listens port) doors doors_now
+abbrev pub ListensOn : Option ℕ → ServiceAt → ServiceAt → Type 0
+ListensOn None old new = new ≡ old
+ListensOn (Some port) old new = (old.faults ≤ new.faults)
+    × Tells (Listens port) old.doors new.doors
+    × (new.office ≡ old.office) × (new.clock ≡ old.clock) × (new.one ≡ old.one)
 
 -- The doors listened on the port, if there is one, and then at most so many conversations were
 -- held.
-pub record ListensAndReplays (port : Option ℕ) (most : ℕ) (one : Bool) (old new : OfficeAt)
-    (count now : ℕ) (clock clock_now : Option (List ℕ)) (doors doors_now : Option Doorway)
-    (end : ReplayEnd) : Type 0 where
-  pub between : ℕ
-  pub mid : Option Doorway
-  pub listens : ListensOn port count between doors mid
-  pub replayed : Replayed most (end_at_most port) one old new between now clock clock_now mid
-      doors_now end
+pub record ListensAndReplays (port : Option ℕ) (most : ℕ) (old new : ServiceAt) (end : ReplayEnd) :
+    Type 0 where
+  pub between : ServiceAt
+  pub listens : ListensOn port old between
+  pub replayed : Replayed most (end_at_most port) between new end
 
 -- The doors couldn't listen on the port: a fault was counted, and nothing else happened.
-pub record IsDeaf (port : Option ℕ) (old new : OfficeAt) (count now : ℕ)
-    (clock clock_now : Option (List ℕ)) (doors doors_now : Option Doorway) (end : ReplayEnd) :
-    Type 0 where
+pub record IsDeaf (port : Option ℕ) (old new : ServiceAt) (end : ReplayEnd) : Type 0 where
   pub has_port : IsSome port
   pub ended : end ≡ Fault
-  pub rose : Rose count now
-  pub office_stays : new ≡ old
-  pub clock_stays : clock_now ≡ clock
-  pub doors_stay : Tells Stays doors doors_now
+  pub rose : Rose old.faults new.faults
+  pub office_stays : new.office ≡ old.office
+  pub clock_stays : new.clock ≡ old.clock
+  pub doors_stay : Tells Stays old.doors new.doors
 
 -- An app was served on this port, or on none, for at most so many conversations, and that ended so.
-abbrev pub Serves : Option ℕ → ℕ → Bool → OfficeAt → OfficeAt → ℕ → ℕ → Option (List ℕ)
-    → Option (List ℕ) → Option Doorway → Option Doorway → ReplayEnd → Type 0
-Serves port most one old new count now clock clock_now doors doors_now end =
-    ListensAndReplays port most one old new count now clock clock_now doors doors_now end
-    ⊎ IsDeaf port old new count now clock clock_now doors doors_now end
+abbrev pub Serves : Option ℕ → ℕ → ServiceAt → ServiceAt → ReplayEnd → Type 0
+Serves port most old new end =
+    ListensAndReplays port most old new end ⊎ IsDeaf port old new end

@@ -22,16 +22,24 @@ Counted before now = Rose before.faults now.faults
 abbrev pub Unsaid : Marks → Marks → Type 0
 Unsaid before now = Unit {0}
 
+-- it is shaped by the tables of the app that this office serves
+abbrev pub IsShapedFor : {K : Type 0} → Ghosts K → K → OfficeAt → Type 0
+IsShapedFor g keeper office = g.shaped keeper ≡ by (schema_of office.state.app)
+
 module _ {K : Type 0} (g : Ghosts K) (name : List ℕ) where
+  -- the name that is attached is this one, where it is told
+  abbrev pub HasName : K → K → Type 0
+  HasName old new = MayFallSilent (SilenceCause (g.marks old) (g.marks new)) (λ _ n. n ≡ Some name)
+      (g.attached old) (g.attached new)
+
   -- It was attached to the store of the name.
   pub record IsAttached (old new : K) : Type 0 where
-    pub named : MayFallSilent (SilenceCause (g.marks old) (g.marks new)) (λ _ n. n ≡ Some name)
-        (g.attached old) (g.attached new)
+    pub named : HasName old new
     pub promised : g.attaches old name new
     pub later : IsLater (g.marks old) (g.marks new)
 
   -- Attached, it was asked to take the shape of a schema: it did, or it answered the other schema
-  -- that it keeps, and its shape is what it was.
+  -- that it keeps, and its shape is what it was. The name is attached still.
   pub record IsAsked (schema : Schema) (other : Option Schema) (old new : K) : Type 0 where
     pub between : K
     pub is_attached : IsAttached old between
@@ -39,6 +47,7 @@ module _ {K : Type 0} (g : Ghosts K) (name : List ℕ) where
     pub shaped : IfNone other (g.shaped new ≡ by schema)
     pub unshaped : IsSome other → g.shaped new ≡ g.shaped between
     pub differs : IfSome other (λ s. s ≢ schema)
+    pub named : HasName old new
     pub later : IsLater (g.marks between) (g.marks new)
 
   -- It gave no answer as it was attached, or as it was to take the shape of a schema then. The

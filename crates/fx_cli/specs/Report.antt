@@ -18,7 +18,7 @@ use Rattle.row_keeper.specs.declared.keeper.Keeper as keeper
 use Rattle.app_file.specs.Files.{most_file_bytes}
 use Rattle.office.specs.State.{schema_of}
 use Rattle.fx_cli.specs.Conversations.{OfficeAt}
-use Rattle.fx_cli.specs.Opening.{Counted, IsAsked, IsServed, IsStopped, Unsaid}
+use Rattle.fx_cli.specs.Opening.{Counted, IsAsked, IsServed, IsShapedFor, IsStopped, Unsaid}
 use Rattle.fx_cli.specs.declared.files.Files as files
 use Rattle.fx_cli.specs.declared.replay.ReplayEnd.{ReplayEnd}
 use Rattle.fx_cli.specs.declared.replay.ReplayEnd.TheVariants as replay
@@ -143,13 +143,15 @@ pub record IsMissed {F : Type 0} (f : files.Ghosts F) (old new : F) (wanted : Wa
   pub line : text ≡ unread_text name
 
 -- When serving an app comes to each report: a call failed that opens the keeper over the store of a
--- name, the keeper keeps another schema, or it was served up to an end, as `serves` says.
+-- name, the keeper keeps another schema, or it was served up to an end, as `serves` says, and the
+-- keeper is shaped then for the app that is served at the end.
 abbrev pub EndsOver : {K : Type 0} → keeper.Ghosts K → List ℕ → K → K
     → (ReplayEnd → OfficeAt → OfficeAt → Type 0) → App → Report → Type 0
 EndsOver g store old new serves app KeeperFault = IsStopped g store Counted old new
 EndsOver g store old new serves app OtherSchema
     = (other : Schema) × IsAsked g store (schema_of app) (Some other) old new
-EndsOver g store old new serves app (Replayed end) = IsServed g store old new app (serves end)
+EndsOver g store old new serves app (Replayed end)
+    = IsServed g store old new app (λ a b. serves end a b × IsShapedFor g new b)
 EndsOver g store old new serves app OutOfMemory = Unit {0}
 EndsOver g store old new serves app r = ⊥
 

@@ -8,8 +8,8 @@ use Rattle.app_cells.specs.declared.app.App.{App}
 use Rattle.fx_core.specs.declared.broken.Broken.{Broken as Break}
 use Rattle.office.specs.app_loader.Judged.{JudgedApp}
 use Rattle.sample_app.specs.Sample.{app_text}
-use Rattle.fx_cli.specs.Conversations.{Serves, OfficeAt}
-use Rattle.fx_cli.specs.Opening.{IsServed, IsStopped, Unsaid}
+use Rattle.fx_cli.specs.Conversations.{OfficeAt, Serves, service_at}
+use Rattle.fx_cli.specs.Opening.{IsServed, IsShapedFor, IsStopped, Unsaid}
 use Rattle.fx_cli.specs.Outside.{Outside, Sight, Work, WorkSight}
 use Rattle.fx_cli.specs.Plain.{IsShownNow}
 use Rattle.fx_cli.specs.Report as by_parts
@@ -32,11 +32,9 @@ module _ {D K F C : Type 0} (see : WorkSight D K F C) (words : List (String Glob
   -- an app was served as the words say, which brought its office from one standing to another and
   -- ended so
   abbrev pub ServesTo : ReplayEnd → OfficeAt → OfficeAt → Type 0
-  ServesTo end a b = Serves (service words).port (service words).most (see.doors.single old.doors) a
-      b
-      (see.doors.faults old.doors) (see.doors.faults new.doors) (see.clock.told old.clock)
-      (see.clock.told new.clock)
-      (see.doors.told old.doors) (see.doors.told new.doors) end
+  ServesTo end a b = Serves (service words).port (service words).most
+      (service_at see.doors see.clock a old.doors old.clock)
+      (service_at see.doors see.clock b new.doors new.clock) end
 
   -- when a run comes to each report
   abbrev pub Reports : Report → Type 0
@@ -77,11 +75,13 @@ module _ {D K F O C : Type 0} (see : Sight D K F O C) (words : List (String Glob
   -- The file was read and is an app, the keeper was opened for it over the store that the words
   -- name, the doors listened on their port, if they name one, and all conversations, or as many as
   -- the words ask for, were answered as the office that serves it answers them, from the tables
-  -- that were there then, no session and no desk. Nothing is said.
+  -- that were there then, no session and no desk. The keeper is shaped by the tables of the app
+  -- that is served in the end. Nothing is said.
   pub record ServesApp : Type 0 where
     pub served : IsService see.work.files old.work.files new.work.files (wanted words)
         (λ app. IsServed see.work.keeper (service words).store old.work.keeper new.work.keeper app
-        (ServesTo see.work words old.work new.work Done))
+        (λ a b. ServesTo see.work words old.work new.work Done a b
+        × IsShapedFor see.work.keeper new.work.keeper b))
     pub silent : Tells (Grows []) (see.out.told old.out) (see.out.told new.out)
 
   -- a fault was counted

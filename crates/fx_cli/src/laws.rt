@@ -1,7 +1,8 @@
 //! Laws of runs.
 ghost use Rattle.fx_cli.specs.Outside.{sight};
 ghost use Rattle.fx_cli.specs.Statuses.{EightIsAnotherSchema, FiveIsAKeeperFault};
-ghost use Rattle.fx_cli.specs.Statuses.{SixIsAFaultOfDoors, ZeroOfASampleIsGenerated};
+ghost use Rattle.fx_cli.specs.Statuses.{ServiceIsLeftServing, SixIsAFaultOfDoors};
+ghost use Rattle.fx_cli.specs.Statuses.{ZeroOfASampleIsGenerated};
 
 use crate::files::Files;
 use crate::sink::Sink;
@@ -29,4 +30,11 @@ pub fn six_is_a_fault_of_doors<D: Doors, K: Keeper, F: Files, O: Sink, C: Clock>
 /// another schema in it.
 pub fn eight_is_another_schema<D: Doors, K: Keeper, F: Files, O: Sink, C: Clock>()
     ensures { EightIsAnotherSchema (sight D.Doors K.Keeper F.Files O.Sink C.Clock) }
+{}
+
+/// A law, and no work: where the words serve an app, a run that ends with 0 or 9 opened its keeper
+/// over the store that they name, and leaves it shaped for the app that is served in the end and
+/// its doors listening on the port that they name.
+pub fn a_service_is_left_serving<D: Doors, K: Keeper, F: Files, O: Sink, C: Clock>()
+    ensures { ServiceIsLeftServing (sight D.Doors K.Keeper F.Files O.Sink C.Clock) }
 {}

@@ -5,6 +5,7 @@ ghost use Rattle.fx_base.specs.Silence.{IsLater};
 ghost use Rattle.fx_base.specs.Telling.{Stays, Tells};
 ghost use Rattle.app_wire.specs.Doorway.{NextComes};
 ghost use Rattle.fx_cli.specs.Conversations.{HoldsNext, Replayed, Serves, StopsAt, office_at};
+ghost use Rattle.fx_cli.specs.Conversations.{service_at};
 ghost use Rattle.fx_cli.specs.declared.replay.ReplayEnd.TheVariants.{Fault};
 
 use crate::words::Service;
@@ -35,9 +36,9 @@ pub fn hold_all<K: Keeper + Drop, D: Doors, C: Clock, L: Ledger>(
     clock: &mut C,
     steps: &mut Steps<L>,
 ) -> ReplayEnd
-    ensures served { Serves service.entry.port service.entry.most (D.single doors.old)
-        (office_at office.old) (office_at office.new) (D.faults doors.old) (D.faults doors.new)
-        (C.told clock.old) (C.told clock.new) (D.told doors.old) (D.told doors.new) result }
+    ensures served { Serves service.entry.port service.entry.most
+        (service_at D.Doors C.Clock (office_at office.old) doors.old clock.old)
+        (service_at D.Doors C.Clock (office_at office.new) doors.new clock.new) result }
     ensures cause { result ≡ ReplayEnd.Fault → Rose (D.faults doors.old) (D.faults doors.new) }
     ensures later { D.faults doors.old ≤ D.faults doors.new }
     ensures marks { IsLater office.old.marks office.new.marks }
@@ -58,9 +59,9 @@ fn hold_on_port<K: Keeper + Drop, D: Doors, C: Clock, L: Ledger>(
     clock: &mut C,
     steps: &mut Steps<L>,
 ) -> ReplayEnd
-    ensures served { Serves (Some port) most (D.single doors.old) (office_at office.old)
-        (office_at office.new) (D.faults doors.old) (D.faults doors.new) (C.told clock.old)
-        (C.told clock.new) (D.told doors.old) (D.told doors.new) result }
+    ensures served { Serves (Some port) most
+        (service_at D.Doors C.Clock (office_at office.old) doors.old clock.old)
+        (service_at D.Doors C.Clock (office_at office.new) doors.new clock.new) result }
     ensures cause { result ≡ ReplayEnd.Fault → Rose (D.faults doors.old) (D.faults doors.new) }
     ensures later { D.faults doors.old ≤ D.faults doors.new }
     ensures marks { IsLater office.old.marks office.new.marks }
@@ -83,9 +84,9 @@ pub fn replay<K: Keeper + Drop, D: Doors, C: Clock, L: Ledger>(
     at_most: ReplayEnd,
 ) -> ReplayEnd
     requires { at_most ≢ Fault }
-    ensures replayed { Replayed most at_most (D.single doors.old) (office_at office.old)
-        (office_at office.new) (D.faults doors.old) (D.faults doors.new) (C.told clock.old)
-        (C.told clock.new) (D.told doors.old) (D.told doors.new) result }
+    ensures replayed { Replayed most at_most
+        (service_at D.Doors C.Clock (office_at office.old) doors.old clock.old)
+        (service_at D.Doors C.Clock (office_at office.new) doors.new clock.new) result }
     ensures cause { result ≡ ReplayEnd.Fault → Rose (D.faults doors.old) (D.faults doors.new) }
     ensures later { D.faults doors.old ≤ D.faults doors.new }
     ensures marks { IsLater office.old.marks office.new.marks }
@@ -127,9 +128,9 @@ fn hold_next<K: Keeper + Drop, D: Doors, C: Clock, L: Ledger>(
     steps: &mut Steps<L>,
 ) -> Result<Option<ConvEnd>, Failed>
     ensures held { IfOk result (λ turn. IfSome turn
-        (λ end. HoldsNext (D.single doors.old) end (office_at office.old) (office_at office.new)
-        (D.faults doors.old) (D.faults doors.new) (C.told clock.old) (C.told clock.new)
-        (D.told doors.old) (D.told doors.new))) }
+        (λ end. HoldsNext end
+        (service_at D.Doors C.Clock (office_at office.old) doors.old clock.old)
+        (service_at D.Doors C.Clock (office_at office.new) doors.new clock.new))) }
     ensures none { result ≡ Ok None → Tells (NextComes false) (D.told doors.old) (D.told doors.new) }
     ensures same { result ≡ Ok None → (clock.new ≡ clock.old) × (office.new ≡ office.old) }
     ensures failed { OnErr result (Tells Stays (D.told doors.old) (D.told doors.new)

@@ -8,7 +8,7 @@ ghost use Rattle.office.specs.session_requests.Opening.{CanOpen};
 ghost use Rattle.office.specs.State.{OfficeState, schema_of, started};
 ghost use Rattle.row_requests.specs.Sound.{AreSound};
 ghost use Rattle.session_state.specs.Changes.{HoldsTables};
-ghost use Rattle.fx_cli.specs.Conversations.{Serves};
+ghost use Rattle.fx_cli.specs.Conversations.{Serves, service_at};
 ghost use Rattle.fx_cli.specs.Outside.{work_of, work_sight};
 ghost use Rattle.fx_cli.specs.Plain.{IsAppText, IsShownNow};
 ghost use Rattle.fx_cli.specs.Report as by_parts;
@@ -290,9 +290,9 @@ fn serve_file<D: Doors, K: Keeper, F: Files, C: Clock, L: Ledger>(
     requires idle { K.in_transaction keeper.old ≡ false }
     ensures reports { by_parts.Reports F.Files files.old files.new no_show
         (EndsOver K.Keeper service.entry.store.now keeper.old keeper.new
-        (λ end old new. Serves service.entry.port service.entry.most (D.single doors.old) old new
-        (D.faults doors.old) (D.faults doors.new) (C.told clock.old) (C.told clock.new)
-        (D.told doors.old) (D.told doors.new) end)) (Some (Serve, name.now)) result }
+        (λ end a b. Serves service.entry.port service.entry.most
+        (service_at D.Doors C.Clock a doors.old clock.old)
+        (service_at D.Doors C.Clock b doors.new clock.new) end)) (Some (Serve, name.now)) result }
     ensures cause { result ≡ Report.Replayed ReplayEnd.Fault
         → Rose (D.faults doors.old) (D.faults doors.new) }
     ensures unheld { NothingBegun result → (doors.new ≡ doors.old) × (clock.new ≡ clock.old) }
@@ -331,9 +331,9 @@ fn serve_app<D: Doors, K: Keeper, C: Clock, L: Ledger>(
     requires loaded { IsLoaded app }
     requires opens { CanOpen app.names }
     ensures ends { EndsOver K.Keeper service.entry.store.now keeper.old keeper.new
-        (λ end old new. Serves service.entry.port service.entry.most (D.single doors.old) old new
-        (D.faults doors.old) (D.faults doors.new) (C.told clock.old) (C.told clock.new)
-        (D.told doors.old) (D.told doors.new) end) app result }
+        (λ end a b. Serves service.entry.port service.entry.most
+        (service_at D.Doors C.Clock a doors.old clock.old)
+        (service_at D.Doors C.Clock b doors.new clock.new) end) app result }
     ensures cause { result ≡ Report.Replayed ReplayEnd.Fault
         → Rose (D.faults doors.old) (D.faults doors.new) }
     ensures unheld { NothingBegun result → (doors.new ≡ doors.old) × (clock.new ≡ clock.old) }
@@ -376,11 +376,13 @@ fn serve_over<D: Doors, K: Keeper, C: Clock, L: Ledger>(
     requires opens { CanOpen app.names }
     requires sound { AreSound (schema_of app) (K.told keeper.old) }
     ensures served { (state : OfficeState) × (state.tables ≡ K.told keeper.new)
-        × Serves service.entry.port service.entry.most (D.single doors.old)
+        × Serves service.entry.port service.entry.most
+        (service_at D.Doors C.Clock
         (record { state = started app (K.told keeper.old); marks = K.marks keeper.old })
-        (record { state = state; marks = K.marks keeper.new })
-        (D.faults doors.old) (D.faults doors.new) (C.told clock.old) (C.told clock.new)
-        (D.told doors.old) (D.told doors.new) result }
+        doors.old clock.old)
+        (service_at D.Doors C.Clock (record { state = state; marks = K.marks keeper.new })
+        doors.new clock.new) result
+        × (K.shaped keeper.new ≡ by (schema_of state.app)) }
     ensures cause { result ≡ ReplayEnd.Fault → Rose (D.faults doors.old) (D.faults doors.new) }
     ensures doors_later { D.faults doors.old ≤ D.faults doors.new }
     ensures keeper_later { IsLater (K.marks keeper.old) (K.marks keeper.new) }

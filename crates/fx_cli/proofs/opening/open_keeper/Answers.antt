@@ -6,7 +6,7 @@ use Rattle.row_keeper.specs.Changes.{StaysOrShapes}
 use Rattle.row_keeper.specs.declared.keeper.KeeperEnd.{KeeperEnd}
 use Rattle.row_keeper.specs.declared.keeper.KeeperEnd.TheVariants.{Failed}
 use Rattle.fx_cli.specs.Opening.{Unsaid}
-use Rattle.fx_cli.proofs.Opened.{failed_by, stopped_by}
+use Rattle.fx_cli.proofs.Opened.{asked_by, failed_by, stopped_by}
 use Rattle.fx_cli.proofs.opening.open_keeper.Goals as goal
 
 pub returns-in-Err-clause-stopped : goal.returns-in-Err-clause-stopped
@@ -35,6 +35,12 @@ returns-in-Err-clause-failed g c = λ e.
       later = c.attach.ensures.cause.later;
       rise = c.in-Err.ensures.cause.failed (ap (λ (k : KeeperEnd). Err k) is);
     }
+
+pub returns-in-Ok-clause-asked : goal.returns-in-Ok-clause-asked
+returns-in-Ok-clause-asked g c =
+    asked_by g.K.Keeper c.args.name.now c.shape.result c.args.schema.now c.args.keeper.now c.attach.new.self c.shape.new.self
+    (record { named = c.in-Ok.ensures.attached; promised = c.in-Ok.ensures.promised; later = c.attach.ensures.cause.later })
+    c.shape.ensures.tables c.shape.ensures.another c.shape.ensures.shaped c.shape.ensures.unshaped c.shape.ensures.attached c.shape.ensures.cause.later
 
 pub returns-in-Ok-clause-stopped : goal.returns-in-Ok-clause-stopped
 returns-in-Ok-clause-stopped g c =

@@ -1,22 +1,17 @@
-use Rattle.std.proofs.Common.{inl, inr, refl, subst}
+use Rattle.std.proofs.Common.{inl, inr, refl}
 use Rattle.fx_base.specs.Telling.{Stays}
 use Rattle.fx_base.proofs.Chains.{told}
 use Rattle.app_wire.specs.Doorway.{Listens}
-use Rattle.fx_cli.specs.Conversations.{Replayed, office_at}
-use Rattle.fx_cli.specs.declared.replay.ReplayEnd.TheVariants.{Done}
+use Rattle.fx_cli.specs.Conversations.{office_at, service_at}
 use Rattle.fx_cli.proofs.replay.hold_on_port.Goals as goal
 
 pub returns-in-Ok-clause-served : goal.returns-in-Ok-clause-served
 returns-in-Ok-clause-served g c =
     let tells = g.D.Doors.told in
-    let faults = g.D.Doors.faults in
-    let clock = g.C.Clock.told in
     inl (record {
-      between = faults c.listen.new.self;
-      mid = tells c.listen.new.self;
-      listens = (c.in-Ok.ensures.cause.later, told (Listens c.args.port) (tells c.args.doors.now) (tells c.listen.new.self) c.in-Ok.ensures.ok);
-      replayed = subst (λ one. Replayed c.args.most Done one (office_at c.args.office.now) (office_at c.replay.new.office) (faults c.listen.new.self) (faults c.replay.new.doors) (clock c.args.clock.now) (clock c.replay.new.clock) (tells c.listen.new.self) (tells c.replay.new.doors) c.replay.result)
-          c.in-Ok.ensures.single c.replay.ensures.replayed;
+      between = service_at g.D.Doors g.C.Clock (office_at c.args.office.now) c.listen.new.self c.args.clock.now;
+      listens = (c.in-Ok.ensures.cause.later, told (Listens c.args.port) (tells c.args.doors.now) (tells c.listen.new.self) c.in-Ok.ensures.ok, refl, refl, c.in-Ok.ensures.single);
+      replayed = c.replay.ensures.replayed;
     })
 
 pub returns-in-Err-clause-served : goal.returns-in-Err-clause-served

@@ -1,5 +1,5 @@
 use Rattle.std.proofs.Common.{inl, inr, None, Ok, ap, refl, sym, ◌≡◌, ◌<◌, length, subst, ◌∙◌, arith}
-use Rattle.fx_cli.specs.Conversations.{HoldsNext, Sends, all_moments, StopsAt, office_at}
+use Rattle.fx_cli.specs.Conversations.{Sends, StopsAt, all_moments, office_at, service_at}
 use Rattle.fx_base.proofs.Silences.{later_then}
 use Rattle.app_wire.specs.Doorway.{Doorway}
 use Rattle.app_wire.specs.Moments.{Ticks}
@@ -9,35 +9,29 @@ use Rattle.fx_cli.proofs.replay.replay.Goals as goal
 
 pub returns-in-Some-clause-replayed : goal.returns-in-Some-clause-replayed
 returns-in-Some-clause-replayed g c =
-    let tells = g.D.Doors.told in
-    let faults = g.D.Doors.faults in
-    let clock = g.C.Clock.told in
-    let one = g.D.Doors.single c.args.doors.now in
     let inv = c.loop-held.invariant.told in
     let few : length inv.0 < c.args.most = omega (arith, c.loop-held-test.true, inv.3) in
-    let next = subst (λ o. HoldsNext o c.in-Ok-Some.end (office_at c.loop-held.office) (office_at c.hold_next.new.office) (faults c.loop-held.doors) (faults c.hold_next.new.doors) (clock c.loop-held.clock) (clock c.hold_next.new.clock) (tells c.loop-held.doors) (tells c.hold_next.new.doors))
-    c.loop-held.invariant.single (rw c.in-Ok-Some.field-0-is at c.in-Ok-Some.ensures.held) in
-    let same : c.one.result ≡ one = c.one.ensures ∙ c.in-Ok-Some.ensures.single ∙ c.loop-held.invariant.single in
+    let same : c.one.result ≡ g.D.Doors.single c.args.doors.now = c.one.ensures ∙ c.in-Ok-Some.ensures.single ∙ c.loop-held.invariant.single in
     let stops = subst (λ o. StopsAt c.in-Ok-Some.end o c.stop_at.result) same c.stop_at.ensures in
-    replay_stops c.args.most c.args.at_most one (office_at c.args.office.now) (office_at c.loop-held.office) (office_at c.hold_next.new.office) (faults c.args.doors.now) (faults c.loop-held.doors) (faults c.hold_next.new.doors)
-    (clock c.args.clock.now) (clock c.loop-held.clock) (clock c.hold_next.new.clock) (tells c.args.doors.now) (tells c.loop-held.doors) (tells c.hold_next.new.doors)
-    inv.0 c.in-Ok-Some.end c.in-Some.stop few inv.1 inv.2 inv.4 next (rw c.in-Some.is at stops)
+    replay_stops c.args.most c.args.at_most
+    (service_at g.D.Doors g.C.Clock (office_at c.args.office.now) c.args.doors.now c.args.clock.now)
+    (service_at g.D.Doors g.C.Clock (office_at c.loop-held.office) c.loop-held.doors c.loop-held.clock)
+    (service_at g.D.Doors g.C.Clock (office_at c.hold_next.new.office) c.hold_next.new.doors c.hold_next.new.clock)
+    inv.0 c.in-Ok-Some.end c.in-Some.stop c.loop-held.invariant.single few inv.1 inv.2 inv.4
+    (rw c.in-Ok-Some.field-0-is at c.in-Ok-Some.ensures.held) (rw c.in-Some.is at stops)
 
 pub loop-held-preserved : goal.loop-held-preserved
 loop-held-preserved g c =
-    let tells = g.D.Doors.told in
-    let faults = g.D.Doors.faults in
-    let clock = g.C.Clock.told in
-    let one = g.D.Doors.single c.args.doors.now in
     let inv = c.loop-held.invariant.told in
-    let next = subst (λ o. HoldsNext o c.in-Ok-Some.end (office_at c.loop-held.office) (office_at c.hold_next.new.office) (faults c.loop-held.doors) (faults c.hold_next.new.doors) (clock c.loop-held.clock) (clock c.hold_next.new.clock) (tells c.loop-held.doors) (tells c.hold_next.new.doors))
-    c.loop-held.invariant.single (rw c.in-Ok-Some.field-0-is at c.in-Ok-Some.ensures.held) in
-    let same : c.one.result ≡ one = c.one.ensures ∙ c.in-Ok-Some.ensures.single ∙ c.loop-held.invariant.single in
+    let same : c.one.result ≡ g.D.Doors.single c.args.doors.now = c.one.ensures ∙ c.in-Ok-Some.ensures.single ∙ c.loop-held.invariant.single in
     let stops = subst (λ o. StopsAt c.in-Ok-Some.end o c.stop_at.result) same c.stop_at.ensures in
     record {
-      told = held_on one (office_at c.args.office.now) (office_at c.loop-held.office) (office_at c.hold_next.new.office) (faults c.args.doors.now) (faults c.loop-held.doors) (faults c.hold_next.new.doors)
-          (clock c.args.clock.now) (clock c.loop-held.clock) (clock c.hold_next.new.clock) (tells c.args.doors.now) (tells c.loop-held.doors) (tells c.hold_next.new.doors)
-          inv.0 c.loop-held.held c.in-Ok-Some.end inv.1 inv.2 inv.3 inv.4 next (rw c.in_default.is at stops);
+      told = held_on
+          (service_at g.D.Doors g.C.Clock (office_at c.args.office.now) c.args.doors.now c.args.clock.now)
+          (service_at g.D.Doors g.C.Clock (office_at c.loop-held.office) c.loop-held.doors c.loop-held.clock)
+          (service_at g.D.Doors g.C.Clock (office_at c.hold_next.new.office) c.hold_next.new.doors c.hold_next.new.clock)
+          inv.0 c.loop-held.held c.in-Ok-Some.end c.loop-held.invariant.single inv.1 inv.2 inv.3 inv.4
+          (rw c.in-Ok-Some.field-0-is at c.in-Ok-Some.ensures.held) (rw c.in_default.is at stops);
       single = c.in-Ok-Some.ensures.single ∙ c.loop-held.invariant.single;
       later = omega (arith, c.loop-held.invariant.later, c.in-Ok-Some.ensures.later);
       marks = later_then _ _ _ c.loop-held.invariant.marks c.in-Ok-Some.ensures.marks;

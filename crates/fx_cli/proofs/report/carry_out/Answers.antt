@@ -1,6 +1,6 @@
 use Rattle.std.proofs.Common.{Some, refl, string_bytes, subst, sym}
 use Rattle.app_cells.specs.declared.app.App.{App}
-use Rattle.fx_cli.specs.Conversations.{Serves}
+use Rattle.fx_cli.specs.Conversations.{Serves, service_at}
 use Rattle.fx_cli.specs.Outside.{work_of, work_sight}
 use Rattle.fx_cli.specs.Plain.{IsShownNow}
 use Rattle.fx_cli.specs.Report.{EndsOver, LeavesKeeper, Reports, no_show}
@@ -14,12 +14,12 @@ use Rattle.fx_cli.proofs.report.carry_out.Goals as goal
 pub returns-in-Some-View-default-clause-reports : goal.returns-in-Some-View-default-clause-reports
 returns-in-Some-View-default-clause-reports g c =
     viewed g.F.Files c.args.files.now c.view_file.new.files (λ app text. IsShownNow (g.C.Clock.told c.args.clock.now) (g.C.Clock.told c.view_file.new.clock) app (string_bytes text))
-    (EndsOver g.K.Keeper (service c.args.words.now).store c.args.keeper.now c.args.keeper.now (λ end old new. Serves (service c.args.words.now).port (service c.args.words.now).most (g.D.Doors.single c.args.doors.now) old new (g.D.Doors.faults c.args.doors.now) (g.D.Doors.faults c.args.doors.now) (g.C.Clock.told c.args.clock.now) (g.C.Clock.told c.view_file.new.clock) (g.D.Doors.told c.args.doors.now) (g.D.Doors.told c.args.doors.now) end))
+    (EndsOver g.K.Keeper (service c.args.words.now).store c.args.keeper.now c.args.keeper.now (λ end a b. Serves (service c.args.words.now).port (service c.args.words.now).most (service_at g.D.Doors g.C.Clock a c.args.doors.now c.args.clock.now) (service_at g.D.Doors g.C.Clock b c.args.doors.now c.view_file.new.clock) end))
     (Some (View, c.in-Some-View-default.name.now)) (wanted c.args.words.now) c.view_file.result (rw c.in-Some-View-default.field-0-0-is at c.in-Some-View-default.ensures) c.view_file.ensures.reports
 
 pub returns-in-Some-Serve-default-clause-reports : goal.returns-in-Some-Serve-default-clause-reports
 returns-in-Some-Serve-default-clause-reports g c =
-    let ends : Service → App → Report → Type 0 = λ s. EndsOver g.K.Keeper s.store c.args.keeper.now c.serve_file.new.keeper (λ end old new. Serves s.port s.most (g.D.Doors.single c.args.doors.now) old new (g.D.Doors.faults c.args.doors.now) (g.D.Doors.faults c.serve_file.new.doors) (g.C.Clock.told c.args.clock.now) (g.C.Clock.told c.serve_file.new.clock) (g.D.Doors.told c.args.doors.now) (g.D.Doors.told c.serve_file.new.doors) end) in
+    let ends : Service → App → Report → Type 0 = λ s. EndsOver g.K.Keeper s.store c.args.keeper.now c.serve_file.new.keeper (λ end a b. Serves s.port s.most (service_at g.D.Doors g.C.Clock a c.args.doors.now c.args.clock.now) (service_at g.D.Doors g.C.Clock b c.serve_file.new.doors c.serve_file.new.clock) end) in
     let is = subst (λ (s : Service). Reports g.F.Files c.args.files.now c.serve_file.new.files no_show (ends s) (Some (Serve, c.in-Some-Serve-default.name.now)) c.serve_file.result)
     c.service_of.ensures c.serve_file.ensures.reports in
     replayed_so g.F.Files c.args.files.now c.serve_file.new.files (λ app text. IsShownNow (g.C.Clock.told c.args.clock.now) (g.C.Clock.told c.serve_file.new.clock) app (string_bytes text))
@@ -44,7 +44,7 @@ returns-in-Some-Serve-default-clause-leaves g c =
 pub returns-in-Some-Check-default-clause-reports : goal.returns-in-Some-Check-default-clause-reports
 returns-in-Some-Check-default-clause-reports g c =
     checked_so g.F.Files c.args.files.now c.check_file.new.files (λ app text. IsShownNow (g.C.Clock.told c.args.clock.now) (g.C.Clock.told c.args.clock.now) app (string_bytes text))
-    (EndsOver g.K.Keeper (service c.args.words.now).store c.args.keeper.now c.args.keeper.now (λ end old new. Serves (service c.args.words.now).port (service c.args.words.now).most (g.D.Doors.single c.args.doors.now) old new (g.D.Doors.faults c.args.doors.now) (g.D.Doors.faults c.args.doors.now) (g.C.Clock.told c.args.clock.now) (g.C.Clock.told c.args.clock.now) (g.D.Doors.told c.args.doors.now) (g.D.Doors.told c.args.doors.now) end))
+    (EndsOver g.K.Keeper (service c.args.words.now).store c.args.keeper.now c.args.keeper.now (λ end a b. Serves (service c.args.words.now).port (service c.args.words.now).most (service_at g.D.Doors g.C.Clock a c.args.doors.now c.args.clock.now) (service_at g.D.Doors g.C.Clock b c.args.doors.now c.args.clock.now) end))
     (Some (Check, c.in-Some-Check-default.name.now)) (wanted c.args.words.now) c.check_file.result (rw c.in-Some-Check-default.field-0-0-is at c.in-Some-Check-default.ensures) c.check_file.ensures.reports
 
 pub returns-in-Some-Check-default-clause-leaves : goal.returns-in-Some-Check-default-clause-leaves
