@@ -1,0 +1,11 @@
+mod After
+mod Answering
+mod Calling
+mod Changing
+mod Inside
+mod Keeping
+mod MoveLemmas
+mod Shapes
+mod Sorting
+mod Unvisited
+mod WholeLemmas
