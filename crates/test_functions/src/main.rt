@@ -5,6 +5,7 @@
 //! before an error, how requests of sessions and desks count, and whether the system's clock goes.
 #![tactic(auto)]
 
+mod batches;
 mod conditions;
 mod conversations;
 mod days;
@@ -57,5 +58,6 @@ fn write_libraries(page: &mut Page) -> Result<(), Memory> {
     signatures::write(page);
     orders::write(page);
     conditions::write(page);
-    sessions::write(page)
+    sessions::write(page)?;
+    batches::write(page)
 }
