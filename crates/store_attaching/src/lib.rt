@@ -1,0 +1,6 @@
+//! A database that a keeper takes over.
+#![tactic(auto)]
+
+mod attaching;
+
+pub use attaching::take_seat;
